@@ -1,0 +1,57 @@
+-- Pinning the numbers of a refusal pins the refusal: a left inverse reads it back from its number and details.
+use mathlib.Core.Path.{_≡_, refl, sym, ap, _∙_}
+use mathlib.Core.Bool.{true, cond}
+use Prim.Native.Nat.{ℕ}
+use native.Mathlib.Omega.{arith}
+use lib.Dec.{eqb, ltb}
+use borrow.Author.Tests.{ltb-true}
+use Rattle.answers.specs.Refusals.{refusalNumbers}
+use Rattle.answers.specs.declared.Numbers.{Numbers}
+use Rattle.answers.specs.declared.Refusal.{Refusal}
+use Rattle.answers.specs.declared.Refusal.the-variants.{Counts, Limits, Axis, Space, TooMany, Swizzle, Outside, Shared, Shape, Coordinate, TooShort, CellOutside, MaskSize, Fragment, Reserved, Shift}
+
+-- the refusal that has this number, then with these details
+abbrev refusalOf : ℕ → Numbers → Refusal
+refusalOf n r =
+    cond (eqb n 1) Counts
+    (cond (eqb n 2) Limits
+    (cond (eqb n 3) Axis
+    (cond (eqb n 4) Space
+    (cond (eqb n 5) TooMany
+    (cond (eqb n 6) Swizzle
+    (cond (eqb n 7) (Outside (record { 0 = r .a }) (r .b))
+    (cond (eqb n 8) (Shared (record { 0 = r .a }) (record { 0 = r .b }) (record { 0 = r .c }))
+    (cond (eqb n 9) Shape
+    (cond (eqb n 10) Coordinate
+    (cond (eqb n 11) (TooShort (r .a))
+    (cond (eqb n 12) (CellOutside (r .a))
+    (cond (eqb n 13) MaskSize
+    (cond (eqb n 14) Fragment
+    (cond (eqb n 15) Reserved
+    (Shift (r .a))))))))))))))))
+
+-- the left inverse reads each refusal back, and no refusal has number 0
+back : (p : Refusal) → (refusalOf (refusalNumbers p .number) (refusalNumbers p) ≡ p) × (ltb 0 (refusalNumbers p .number) ≡ true)
+back Counts = (refl, refl)
+back Limits = (refl, refl)
+back Axis = (refl, refl)
+back Space = (refl, refl)
+back TooMany = (refl, refl)
+back Swizzle = (refl, refl)
+back (Outside flat axis) = (refl, refl)
+back (Shared x y cell) = (refl, refl)
+back Shape = (refl, refl)
+back Coordinate = (refl, refl)
+back (TooShort needed) = (refl, refl)
+back (CellOutside axis) = (refl, refl)
+back MaskSize = (refl, refl)
+back Fragment = (refl, refl)
+back Reserved = (refl, refl)
+back (Shift limit) = (refl, refl)
+
+pub refusal-one-to-one : (p q : Refusal) → refusalNumbers p ≡ refusalNumbers q → p ≡ q
+refusal-one-to-one p q e = sym (back p .0) ∙ ap (λ (r : Numbers). refusalOf (r .number) r) e ∙ back q .0
+
+-- an answer at number 0 is no refusal
+pub refusal-not-zero : (p : Refusal) → refusalNumbers p .number ≡ 0 → ⊥
+refusal-not-zero p e = omega (arith, ltb-true 0 (refusalNumbers p .number) (back p .1))

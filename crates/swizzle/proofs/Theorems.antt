@@ -1,0 +1,127 @@
+-- What the definitions of the swizzle and of the modes mean, in plain for-alls, each from the laws with the widths as parameters.
+use mathlib.Core.Path.{_≡_, refl, sym, ap, _∙_}
+use mathlib.Core.Bool.{Bool, true, false, cond}
+use mathlib.Core.Logic.{_⊎_, ⊎-elim}
+use Prim.Native.Nat.{ℕ, _+_, _-_, _*_, _/_, _%_, _^_, _≤_, _<_}
+use native.Mathlib.Nat.{add-sub-of-le, sub-add-cancel}
+use native.Mathlib.Omega.{arith}
+use borrow.Author.Tests.{le-leb}
+use lib.Pow.{shr-shr, field, mod-mod-pow}
+use lib.Count.{leading-length}
+use Rattle.answers.specs.Refusals.{refusalNumbers}
+use Rattle.answers.specs.declared.Numbers.{Numbers}
+use Rattle.answers.specs.declared.Refusal.the-variants.{Swizzle as NotPermitted}
+use Rattle.answers.proofs.OneToOne.{refusal-one-to-one, refusal-not-zero}
+use Rattle.swizzle.specs.Swizzle.{permitted, swizzled, swizzleAnswer, swizzleNumbers}
+use Rattle.swizzle.specs.Mode.{known, bitLength, modeAnswer, modeNumbers}
+use Rattle.swizzle.specs.declared.Swizzled.{Swizzled}
+use Rattle.swizzle.specs.declared.Swizzled.the-variants.{Address, Refused}
+use Rattle.swizzle.specs.declared.Swizzle.{Swizzle}
+use Rattle.swizzle.specs.declared.Chosen.{Chosen}
+use Rattle.swizzle.specs.declared.Chosen.the-variants.{Parameters, Refused as NotChosen}
+use Rattle.swizzle.proofs.Laws.{permitted-numbers, swizzled-low, swizzled-block, swizzle-twice}
+use Rattle.swizzle.proofs.Widths.{known-parts, zeros-known}
+
+-- bit i of a number
+abbrev pub bit : ℕ → ℕ → ℕ
+bit i n = n / 2 ^ i % 2
+
+-- a bit below M is one of the low M bits
+low-bit : (M i n : ℕ) → i < M → bit i n ≡ bit i (n % 2 ^ M)
+low-bit M i n h =
+    sym
+    (ap (λ (k : ℕ). bit i (n % 2 ^ k)) (sym (sub-add-cancel (omega arith)))
+    ∙ ap (λ (x : ℕ). x % 2) (field n (M - i) i)
+    ∙ ap (λ (k : ℕ). n / 2 ^ i % 2 ^ k % 2) (sym (sub-add-cancel (omega arith)))
+    ∙ mod-mod-pow (n / 2 ^ i) (M - i - 1) 1)
+
+-- a bit from k on is one of those that a shift by k leaves
+high-bit : (k i n : ℕ) → k ≤ i → bit i n ≡ bit (i - k) (n / 2 ^ k)
+high-bit k i n h =
+    sym (ap (λ (x : ℕ). x % 2) (shr-shr n k (i - k) ∙ ap (λ (j : ℕ). n / 2 ^ j) (add-sub-of-le h)))
+
+-- only bits M to M+B-1 can change: those below M stay, and those from M+B on
+pub outer-bits-stay : (M B S m i : ℕ) → (i < M) ⊎ (M + B ≤ i) → bit i (swizzled M B S m) ≡ bit i m
+outer-bits-stay M B S m i =
+    ⊎-elim
+    (λ (h : i < M). low-bit M i (swizzled M B S m) h ∙ ap (bit i) (swizzled-low M B S m) ∙ sym (low-bit M i m h))
+    (λ (h : M + B ≤ i).
+    high-bit (M + B) i (swizzled M B S m) h
+    ∙ ap (bit (i - (M + B))) (swizzled-block M B S m)
+    ∙ sym (high-bit (M + B) i m h))
+
+-- address m lies in the aligned block of 2^(M+B) addresses that has the number m / 2^(M+B)
+abbrev pub block : ℕ → ℕ → ℕ → ℕ
+block M B m = m / 2 ^ (M + B)
+
+pub record OntoItself (M B S : ℕ) : Type 0 where
+  -- a block is mapped into itself
+  pub into : (m : ℕ) → block M B (swizzled M B S m) ≡ block M B m
+  -- each address is hit, from its own block
+  pub hit : (n : ℕ) → (m : ℕ) × (block M B m ≡ block M B n) × (swizzled M B S m ≡ n)
+  -- and hit once
+  pub once : (m n : ℕ) → swizzled M B S m ≡ swizzled M B S n → m ≡ n
+  -- twice gives the address back
+  pub twice : (m : ℕ) → swizzled M B S (swizzled M B S m) ≡ m
+
+-- Demand 3, its last sentence: every permitted swizzle maps each aligned block of 2^(M+B) addresses onto itself, each address hit
+-- once, and twice gives the address back
+pub demand-3-swizzle : (M B S : ℕ) → permitted M B S ≡ true → OntoItself M B S
+demand-3-swizzle M B S p =
+    let back : (m : ℕ) → swizzled M B S (swizzled M B S m) ≡ m =
+    λ m. swizzle-twice M B S m (permitted-numbers M B S p .not-below) in
+    record {
+      into = swizzled-block M B S;
+      hit = λ n. (swizzled M B S n, swizzled-block M B S n, back n);
+      once = λ m n e. sym (back m) ∙ ap (swizzled M B S) e ∙ back n;
+      twice = back;
+    }
+
+-- the bit length of a 64-bit number is the length of the shortest power of two above it
+pub bit-length : (n : ℕ) → n < 2 ^ 64 → (n < 2 ^ bitLength n) × (2 ^ bitLength n ≤ 2 * n + 1)
+unfolding bitLength
+bit-length n h =
+    let l = leading-length 64 n h in
+    let e : l .0 ≡ bitLength n = omega (arith, l .1) in
+    rw (sym e) (l .2, l .3)
+
+known-permitted : (bits mode : ℕ) → known bits mode ≡ true → permitted (bitLength (128 / bits) - 1) mode 3 ≡ true
+unfolding bitLength
+known-permitted bits mode k =
+    let parts = known-parts bits mode k in
+    let zeros = zeros-known bits (parts .0) in
+    rw (le-leb (bitLength (128 / bits) - 1) 8 (omega arith), le-leb mode 4 (omega arith), le-leb mode 3 (omega arith))
+
+-- for every bits and mode the numbers that come out are permitted
+pub mode-permitted : (bits mode : ℕ) (w : Swizzle) → modeAnswer bits mode ≡ Parameters w → permitted (w .m) (w .b) (w .s) ≡ true
+mode-permitted bits mode w = split (known bits mode) refl
+  where
+    chosen : Swizzle
+    chosen = record { m = bitLength (128 / bits) - 1; b = mode; s = 3 }
+
+    split : (k : Bool) → known bits mode ≡ k → cond k (Parameters chosen) (NotChosen NotPermitted) ≡ Parameters w → permitted (w .m) (w .b) (w .s) ≡ true
+    split true k e =
+        let same : chosen ≡ w = cc in
+        rw (sym same) (known-permitted bits mode k)
+    split false k e = let z : _≡_ {A = ℕ} 0 1 = cc in absurd (omega arith)
+
+-- two outcomes that the promise of the swizzle of an address allows are equal
+pub swizzle-settled : (M B S m : ℕ) (p q : Swizzled) → p ≡ swizzleAnswer M B S m → q ≡ swizzleAnswer M B S m → p ≡ q
+swizzle-settled M B S m p q e f = e ∙ sym f
+
+-- and so are two that the promise of bits and mode allows
+pub mode-settled : (bits mode : ℕ) (p q : Chosen) → p ≡ modeAnswer bits mode → q ≡ modeAnswer bits mode → p ≡ q
+mode-settled bits mode p q e f = e ∙ sym f
+
+-- pinning the numbers pins the answer
+pub swizzle-one-to-one : (p q : Swizzled) → swizzleNumbers p ≡ swizzleNumbers q → p ≡ q
+swizzle-one-to-one (Address m) (Address n) e = ap (λ (r : Numbers). Address (r .a)) e
+swizzle-one-to-one (Address m) (Refused r) e = absurd (refusal-not-zero r (sym (ap (λ (n : Numbers). n .number) e)))
+swizzle-one-to-one (Refused r) (Address m) e = absurd (refusal-not-zero r (ap (λ (n : Numbers). n .number) e))
+swizzle-one-to-one (Refused r) (Refused s) e = ap Refused (refusal-one-to-one r s e)
+
+pub mode-one-to-one : (p q : Chosen) → modeNumbers p ≡ modeNumbers q → p ≡ q
+mode-one-to-one (Parameters m) (Parameters n) e = ap (λ (r : Numbers). Parameters (record { m = r .a; b = r .b; s = r .c })) e
+mode-one-to-one (Parameters m) (NotChosen r) e = absurd (refusal-not-zero r (sym (ap (λ (n : Numbers). n .number) e)))
+mode-one-to-one (NotChosen r) (Parameters m) e = absurd (refusal-not-zero r (ap (λ (n : Numbers). n .number) e))
+mode-one-to-one (NotChosen r) (NotChosen s) e = ap NotChosen (refusal-one-to-one r s e)

@@ -1,0 +1,2 @@
+pub mod Swizzle
+pub mod Mode
