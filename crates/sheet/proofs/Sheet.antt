@@ -1,0 +1,76 @@
+-- Every load of the sheet has its stated answer: one test that the checker computes over the whole table, and the law that turns it
+-- into each load.
+use mathlib.Core.Path.{_≡_, refl, ap₂}
+use mathlib.Core.Bool.{Bool, true, false, _&&_, and-eq-true-iff}
+use mathlib.Core.List.{List, [], _∷_}
+use Prim.Native.Nat.{ℕ, _<_}
+use native.Mathlib.Omega.{arith}
+use borrow.Author.Tests.{eqb-true}
+use lib.Dec.{eqb}
+use lib.Count.{leadingZeros}
+use lib.ListN.{length, getD}
+use Rattle.laws.proofs.Table.{every, every-at}
+use Rattle.answers.specs.declared.Numbers.{Numbers}
+use Rattle.swizzle.specs.Swizzle.{swizzled}
+use Rattle.swizzle.specs.Mode.{bitLength}
+use Rattle.sheet.specs.Questions.{Question, Reply, asked}
+use Rattle.sheet.specs.Loads.{Load, loads}
+
+-- two replies are the same, tested
+abbrev same-list : List ℕ → List ℕ → Bool
+same-list [] [] = true
+same-list [] (y ∷ ys) = false
+same-list (x ∷ xs) [] = false
+same-list (x ∷ xs) (y ∷ ys) = eqb x y && same-list xs ys
+
+abbrev same : Reply → Reply → Bool
+same p q =
+    (eqb (p .numbers .number) (q .numbers .number)
+    && eqb (p .numbers .a) (q .numbers .a)
+    && eqb (p .numbers .b) (q .numbers .b)
+    && eqb (p .numbers .c) (q .numbers .c))
+    && same-list (p .values) (q .values)
+
+both : (a b : Bool) → (a && b) ≡ true → (a ≡ true) × (b ≡ true)
+both a b e = and-eq-true-iff a b .0 e
+
+list-same : (xs ys : List ℕ) → same-list xs ys ≡ true → xs ≡ ys
+list-same [] [] e = refl
+list-same [] (y ∷ ys) e = let z : _≡_ {A = ℕ} 0 1 = cc in absurd (omega arith)
+list-same (x ∷ xs) [] e = let z : _≡_ {A = ℕ} 0 1 = cc in absurd (omega arith)
+list-same (x ∷ xs) (y ∷ ys) e =
+    let t = both (eqb x y) (same-list xs ys) e in
+    ap₂ (λ (a : ℕ) (l : List ℕ). a ∷ l) (eqb-true x y (t .0)) (list-same xs ys (t .1))
+
+reply-same : (p q : Reply) → same p q ≡ true → p ≡ q
+reply-same p q e =
+    let m = p .numbers in
+    let n = q .numbers in
+    let t = both (eqb (m .number) (n .number) && eqb (m .a) (n .a) && eqb (m .b) (n .b) && eqb (m .c) (n .c)) (same-list (p .values) (q .values)) e in
+    let c = both (eqb (m .number) (n .number) && eqb (m .a) (n .a) && eqb (m .b) (n .b)) (eqb (m .c) (n .c)) (t .0) in
+    let b = both (eqb (m .number) (n .number) && eqb (m .a) (n .a)) (eqb (m .b) (n .b)) (c .0) in
+    let a = both (eqb (m .number) (n .number)) (eqb (m .a) (n .a)) (b .0) in
+    λ i. record {
+      numbers = record {
+        number = eqb-true (m .number) (n .number) (a .0) i;
+        a = eqb-true (m .a) (n .a) (a .1) i;
+        b = eqb-true (m .b) (n .b) (b .1) i;
+        c = eqb-true (m .c) (n .c) (c .1) i;
+      };
+      values = list-same (p .values) (q .values) (t .1) i;
+    }
+
+meets : ℕ → Load → Bool
+meets k load = same (asked (load .question)) (load .stated)
+
+-- the computed test
+test : every meets 0 loads ≡ true
+unfolding meets asked loads swizzled bitLength leadingZeros
+test = refl
+
+-- every load of the sheet has its stated answer
+pub sheet-holds : (other : Load) (k : ℕ) → k < length loads → asked (getD loads k other .question) ≡ getD loads k other .stated
+unfolding meets
+sheet-holds other k h =
+    let load = getD loads k other in
+    reply-same (asked (load .question)) (load .stated) (every-at meets loads other test k h)
