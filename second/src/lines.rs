@@ -1,0 +1,190 @@
+//! The line protocol: splitting the input, the rule for numbers, and how an
+//! answer is printed.
+
+use crate::words::{Word, WORDS};
+use std::fmt::Write;
+
+/// A line of more bytes than this is no question.
+pub const LONGEST_LINE: usize = 4096;
+
+/// What is said to a line that is no question.
+pub const NO_QUESTION: &str = "?";
+
+/// A number and three details, and where the question lends memory or gives a
+/// record, the values that follow the bar.
+#[derive(Clone, Debug, PartialEq, Eq)]
+pub struct Answer {
+    pub number: u64,
+    pub details: [u64; 3],
+    pub after_bar: Option<Vec<u64>>,
+}
+
+impl Answer {
+    /// An answer of a question that lends nothing.
+    pub fn plain(number: u64, details: [u64; 3]) -> Answer {
+        Answer {
+            number,
+            details,
+            after_bar: None,
+        }
+    }
+
+    /// `N A B C`, and after a bar the values, each after a space.
+    pub fn print(&self) -> String {
+        let [a, b, c] = self.details;
+        let mut text = format!("{} {} {} {}", self.number, a, b, c);
+        if let Some(values) = &self.after_bar {
+            text.push_str(" |");
+            for value in values {
+                // Writing into a string cannot fail.
+                let _ = write!(text, " {value}");
+            }
+        }
+        text
+    }
+}
+
+/// 1 to 20 digits, no leading zero but `0` itself, below 2^64.
+pub fn number(text: &[u8]) -> Option<u64> {
+    let digits_only = text.iter().all(|byte| byte.is_ascii_digit());
+    let leading_zero = text.len() > 1 && text[0] == b'0';
+    if text.is_empty() || text.len() > 20 || !digits_only || leading_zero {
+        return None;
+    }
+    // Twenty digits stay below 10^20, far inside 128 bits.
+    let value = text
+        .iter()
+        .fold(0u128, |value, digit| value * 10 + u128::from(digit - b'0'));
+    u64::try_from(value).ok()
+}
+
+/// The word and the numbers of a line, if it is a question at all.
+fn question(line: &[u8]) -> Option<(&'static Word, Vec<u64>)> {
+    if line.len() > LONGEST_LINE {
+        return None;
+    }
+    // Splitting at every single space leaves an empty piece wherever there is
+    // one space too many, and an empty piece is no number.
+    let mut pieces = line.split(|byte| *byte == b' ');
+    let name = pieces.next()?;
+    let word = WORDS.iter().find(|word| word.name.as_bytes() == name)?;
+    let numbers = pieces.map(number).collect::<Option<Vec<u64>>>()?;
+    (numbers.len() == word.count).then_some((word, numbers))
+}
+
+/// The answer to one line without its line feed; an empty line gets none.
+pub fn answer_line(line: &[u8]) -> Option<String> {
+    if line.is_empty() {
+        return None;
+    }
+    let answer = question(line).and_then(|(word, numbers)| (word.answer)(&numbers));
+    Some(match answer {
+        Some(answer) => answer.print(),
+        None => NO_QUESTION.to_string(),
+    })
+}
+
+/// The answers to a whole input, each ending in a line feed.
+pub fn answers(input: &[u8]) -> impl Iterator<Item = String> + '_ {
+    // What follows the last line feed is a line if there is anything in it;
+    // if there is nothing it counts as an empty line, which gets no answer.
+    input
+        .split(|byte| *byte == b'\n')
+        .filter_map(answer_line)
+        .map(|mut text| {
+            text.push('\n');
+            text
+        })
+}
+
+#[cfg(test)]
+mod tests {
+    use super::*;
+    use crate::random::Random;
+
+    fn all(input: &[u8]) -> String {
+        answers(input).collect()
+    }
+
+    #[test]
+    fn numbers_follow_the_rule() {
+        assert_eq!(number(b"0"), Some(0));
+        assert_eq!(number(b"18446744073709551615"), Some(u64::MAX));
+        let refused: [&[u8]; 10] = [
+            b"",
+            b"00",
+            b"01",
+            b"18446744073709551616",
+            b"99999999999999999999",
+            b"100000000000000000000",
+            b"00000000000000000001",
+            b"+1",
+            b"0x1",
+            b"1.0",
+        ];
+        for text in refused {
+            assert_eq!(number(text), None, "{text:?}");
+        }
+    }
+
+    #[test]
+    fn lines_end_at_a_line_feed_and_a_last_one_counts() {
+        assert_eq!(all(b""), "");
+        assert_eq!(all(b"\n\n\n"), "");
+        assert_eq!(all(b"swizzle 3 3 3 64"), "0 72 0 0\n");
+        assert_eq!(all(b"swizzle 3 3 3 64\n"), "0 72 0 0\n");
+        assert_eq!(all(b"\nhello\n\nswizzle 3 3 3 64\n\nx"), "?\n0 72 0 0\n?\n");
+    }
+
+    #[test]
+    fn other_bytes_make_no_question() {
+        let lines: [&[u8]; 12] = [
+            b" swizzle 3 3 3 64",
+            b"swizzle 3 3 3 64 ",
+            b"swizzle 3  3 3 64",
+            b"swizzle\t3 3 3 64",
+            b"swizzle 3 3 3 64\r",
+            b"swizzle 3 3 3 64\0",
+            b"swizzle 3 3 3 6\xc3\xa4",
+            b"swizzle 3 3 3",
+            b"swizzle 3 3 3 64 0",
+            b"swizzle",
+            b" ",
+            b"Swizzle 3 3 3 64",
+        ];
+        for line in lines {
+            assert_eq!(answer_line(line).as_deref(), Some("?"), "{line:?}");
+        }
+    }
+
+    #[test]
+    fn long_lines_are_no_questions_and_do_not_disturb_the_next() {
+        for length in [4095, 4096, 4097, 5000, 8192, 100_000] {
+            let mut input = b"swizzle 3 3 3 64".to_vec();
+            input.resize(length, b' ');
+            input.extend(b"swizzle 3 3 3 64\nswizzle 3 3 3 72\n");
+            assert_eq!(all(&input), "?\n0 64 0 0\n");
+        }
+    }
+
+    #[test]
+    fn no_bytes_make_it_panic() {
+        let mut random = Random::new(0x6e6f_7061);
+        for _ in 0..20_000 {
+            let length = random.index(200);
+            let bytes: Vec<u8> = (0..length).map(|_| random.next() as u8).collect();
+            all(&bytes);
+        }
+    }
+
+    #[test]
+    fn no_numbers_make_it_panic() {
+        let mut random = Random::new(0x6e75_6d62);
+        for word in WORDS {
+            for _ in 0..2_000 {
+                let numbers: Vec<u64> = (0..word.count).map(|_| random.hostile()).collect();
+                (word.answer)(&numbers);
+            }
+        }
+    }
+}

@@ -1,0 +1,129 @@
+//! The loads: the committed blocks, one a word, and further random lines.
+
+use crate::malformed::{Question, LONG_KINDS, SHORT_KINDS};
+use crate::random::{seed_of, Random};
+use crate::words::{Word, WORDS};
+
+/// One line in so many is spoiled.
+const SPOILED_ONE_IN: u64 = 5;
+
+fn question<'a>(random: &mut Random, word: &'a Word) -> Question<'a> {
+    Question::new(word.name, &(word.numbers)(random))
+}
+
+/// The committed block of a word. It depends on the word and on its seed
+/// alone, so that the blocks of later words leave it as it is. The spoiled
+/// lines go through all the kinds in turn.
+pub fn block(word: &Word) -> Vec<u8> {
+    let mut random = Random::new(word.seed);
+    let mut long = random.index(LONG_KINDS.len());
+    let mut short = random.index(SHORT_KINDS.len());
+    let spacing = word.lines / word.long_lines.max(1);
+    let mut lines = Vec::new();
+    for at in 0..word.lines {
+        let question = question(&mut random, word);
+        let line = if word.long_lines > 0 && at % spacing == spacing / 2 {
+            long += 1;
+            LONG_KINDS[long % LONG_KINDS.len()](&mut random, &question)
+        } else if at as u64 % SPOILED_ONE_IN == SPOILED_ONE_IN - 1 {
+            short += 1;
+            SHORT_KINDS[short % SHORT_KINDS.len()](&mut random, &question)
+        } else {
+            question.bytes()
+        };
+        lines.extend(line);
+        lines.push(b'\n');
+    }
+    lines
+}
+
+/// All the committed blocks, in the order in which the words arrived.
+pub fn blocks() -> Vec<u8> {
+    WORDS.iter().flat_map(block).collect()
+}
+
+/// One random line over all the words, without its line feed.
+fn random_line(random: &mut Random) -> Vec<u8> {
+    let word = &WORDS[random.index(WORDS.len())];
+    let question = question(random, word);
+    if !random.once_in(SPOILED_ONE_IN) {
+        question.bytes()
+    } else if random.once_in(40) {
+        LONG_KINDS[random.index(LONG_KINDS.len())](random, &question)
+    } else {
+        SHORT_KINDS[random.index(SHORT_KINDS.len())](random, &question)
+    }
+}
+
+/// So many random lines; every one but the last ends in a line feed.
+pub fn random_lines(seed: &[u8], count: u64) -> impl Iterator<Item = Vec<u8>> {
+    let mut random = Random::new(seed_of(seed));
+    (0..count).map(move |at| {
+        let mut line = random_line(&mut random);
+        if at + 1 < count {
+            line.push(b'\n');
+        }
+        line
+    })
+}
+
+#[cfg(test)]
+mod tests {
+    use super::*;
+    use crate::lines::answers;
+
+    /// The checks of each block and of its answers: an earlier block that
+    /// changes when a word is added is noticed here.
+    const CHECKS: &[(&str, u64, u64)] = &[
+        ("swizzle", 16115276444528944364, 1648870786568805647),
+        ("mode", 12005292997051009661, 2429116219761518512),
+    ];
+
+    #[test]
+    fn blocks_are_as_committed() {
+        let found: Vec<(&str, u64, u64)> = WORDS
+            .iter()
+            .map(|word| {
+                let lines = block(word);
+                let said: String = answers(&lines).collect();
+                (word.name, seed_of(&lines), seed_of(said.as_bytes()))
+            })
+            .collect();
+        assert_eq!(found, CHECKS);
+    }
+
+    #[test]
+    fn blocks_end_in_a_line_feed_and_have_their_lines() {
+        for word in WORDS {
+            let lines = block(word);
+            assert_eq!(lines.last(), Some(&b'\n'));
+            assert_eq!(
+                lines.iter().filter(|byte| **byte == b'\n').count(),
+                word.lines
+            );
+        }
+    }
+
+    #[test]
+    fn random_lines_depend_on_the_seed_alone() {
+        let lines = |seed: &str, count| random_lines(seed.as_bytes(), count).collect::<Vec<_>>();
+        assert_eq!(lines("one", 500), lines("one", 500));
+        assert_ne!(lines("one", 500), lines("two", 500));
+        assert_eq!(lines("one", 400)[..399], lines("one", 500)[..399]);
+        assert!(lines("one", 0).is_empty());
+        assert_ne!(lines("one", 500)[499].last(), Some(&b'\n'));
+    }
+
+    #[test]
+    fn every_word_has_its_own_seed() {
+        for (at, word) in WORDS.iter().enumerate() {
+            assert!(WORDS[..at].iter().all(|other| other.seed != word.seed));
+        }
+    }
+
+    #[test]
+    fn random_lines_are_answered() {
+        let input: Vec<u8> = random_lines(b"answered", 5_000).flatten().collect();
+        assert!(answers(&input).count() > 4_000);
+    }
+}

@@ -1,0 +1,49 @@
+//! The words of the protocol, in the order in which they arrived.
+//!
+//! A new word is appended: the committed blocks of the earlier ones must stay
+//! as they are, so no entry is moved, and no seed, count or length changed.
+
+use crate::lines::Answer;
+use crate::random::Random;
+use crate::swizzle;
+
+pub struct Word {
+    pub name: &'static str,
+    /// How many numbers follow the word.
+    pub count: usize,
+    /// The answer to so many numbers; none where one breaks the program's
+    /// own limit.
+    pub answer: fn(&[u64]) -> Option<Answer>,
+    /// Random numbers for one question.
+    pub numbers: fn(&mut Random) -> Vec<u64>,
+    /// The seed of the word's committed block.
+    pub seed: u64,
+    /// How many lines the block has.
+    pub lines: usize,
+    /// How many of them are longer than the longest question.
+    pub long_lines: usize,
+}
+
+pub const SWIZZLE_SEED: u64 = 0x7377_697a_7a6c_6501;
+pub const MODE_SEED: u64 = 0x6d6f_6465_0000_0002;
+
+pub const WORDS: &[Word] = &[
+    Word {
+        name: "swizzle",
+        count: 4,
+        answer: swizzle::answer_swizzle,
+        numbers: swizzle::swizzle_numbers,
+        seed: SWIZZLE_SEED,
+        lines: 400,
+        long_lines: 8,
+    },
+    Word {
+        name: "mode",
+        count: 2,
+        answer: swizzle::answer_mode,
+        numbers: swizzle::mode_numbers,
+        seed: MODE_SEED,
+        lines: 400,
+        long_lines: 1,
+    },
+];
