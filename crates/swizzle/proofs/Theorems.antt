@@ -11,7 +11,7 @@ use lib.Count.{leading-length}
 use Rattle.answers.specs.Refusals.{refusalNumbers}
 use Rattle.answers.specs.declared.Numbers.{Numbers}
 use Rattle.answers.specs.declared.Refusal.the-variants.{Swizzle as NotPermitted}
-use Rattle.answers.proofs.OneToOne.{refusal-one-to-one, refusal-not-zero}
+use Rattle.answers.proofs.OneToOne.{readBack, refused-back, pinned}
 use Rattle.swizzle.specs.Swizzle.{permitted, swizzled, swizzleAnswer, swizzleNumbers}
 use Rattle.swizzle.specs.Mode.{known, bitLength, modeAnswer, modeNumbers}
 use Rattle.swizzle.specs.declared.Swizzled.{Swizzled}
@@ -114,14 +114,20 @@ pub mode-settled : (bits mode : ℕ) (p q : Chosen) → p ≡ modeAnswer bits mo
 mode-settled bits mode p q e f = e ∙ sym f
 
 -- pinning the numbers pins the answer
+swizzle-back : (p : Swizzled) → readBack (λ n. Address (n .a)) Refused (swizzleNumbers p) ≡ p
+swizzle-back (Address m) = refl
+swizzle-back (Refused r) = refused-back (λ n. Address (n .a)) Refused r
+
 pub swizzle-one-to-one : (p q : Swizzled) → swizzleNumbers p ≡ swizzleNumbers q → p ≡ q
-swizzle-one-to-one (Address m) (Address n) e = ap (λ (r : Numbers). Address (r .a)) e
-swizzle-one-to-one (Address m) (Refused r) e = absurd (refusal-not-zero r (sym (ap (λ (n : Numbers). n .number) e)))
-swizzle-one-to-one (Refused r) (Address m) e = absurd (refusal-not-zero r (ap (λ (n : Numbers). n .number) e))
-swizzle-one-to-one (Refused r) (Refused s) e = ap Refused (refusal-one-to-one r s e)
+swizzle-one-to-one = pinned (λ n. Address (n .a)) Refused swizzleNumbers swizzle-back
+
+chosen : Numbers → Chosen
+chosen n = Parameters (record { m = n .a; b = n .b; s = n .c })
+
+mode-back : (p : Chosen) → readBack chosen NotChosen (modeNumbers p) ≡ p
+unfolding chosen
+mode-back (Parameters w) = refl
+mode-back (NotChosen r) = refused-back chosen NotChosen r
 
 pub mode-one-to-one : (p q : Chosen) → modeNumbers p ≡ modeNumbers q → p ≡ q
-mode-one-to-one (Parameters m) (Parameters n) e = ap (λ (r : Numbers). Parameters (record { m = r .a; b = r .b; s = r .c })) e
-mode-one-to-one (Parameters m) (NotChosen r) e = absurd (refusal-not-zero r (sym (ap (λ (n : Numbers). n .number) e)))
-mode-one-to-one (NotChosen r) (Parameters m) e = absurd (refusal-not-zero r (ap (λ (n : Numbers). n .number) e))
-mode-one-to-one (NotChosen r) (NotChosen s) e = ap NotChosen (refusal-one-to-one r s e)
+mode-one-to-one = pinned chosen NotChosen modeNumbers mode-back
