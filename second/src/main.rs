@@ -2,6 +2,7 @@
 //! the same lines straight from the documents, and it makes the loads on
 //! which the two programs are compared.
 
+mod fragment;
 mod lines;
 mod loads;
 mod malformed;
@@ -16,6 +17,7 @@ use std::process::ExitCode;
 const USAGE: &str = "usage: second answer
        second blocks
        second random SEED COUNT
+       second exhaustive
 ";
 
 /// Answers standard input to its end.
@@ -40,6 +42,7 @@ fn run(arguments: &[&[u8]], out: &mut impl Write) -> Option<io::Result<()>> {
     Some(match *arguments {
         [b"answer"] => answer(out),
         [b"blocks"] => out.write_all(&loads::blocks()),
+        [b"exhaustive"] => out.write_all(&fragment::exhaustive()),
         [b"random", seed, count] => print_random(out, seed, lines::number(count)?),
         _ => return None,
     })

@@ -3,6 +3,7 @@
 //! A new word is appended: the committed blocks of the earlier ones must stay
 //! as they are, so no entry is moved, and no seed, count or length changed.
 
+use crate::fragment;
 use crate::lines::Answer;
 use crate::random::Random;
 use crate::swizzle;
@@ -26,6 +27,8 @@ pub struct Word {
 
 pub const SWIZZLE_SEED: u64 = 0x7377_697a_7a6c_6501;
 pub const MODE_SEED: u64 = 0x6d6f_6465_0000_0002;
+pub const FRAGMENT_SEED: u64 = 0x6672_6167_6d65_6e03;
+pub const HOLDER_SEED: u64 = 0x686f_6c64_6572_0004;
 
 pub const WORDS: &[Word] = &[
     Word {
@@ -43,6 +46,24 @@ pub const WORDS: &[Word] = &[
         answer: swizzle::answer_mode,
         numbers: swizzle::mode_numbers,
         seed: MODE_SEED,
+        lines: 400,
+        long_lines: 1,
+    },
+    Word {
+        name: "fragment",
+        count: 3,
+        answer: fragment::answer_fragment,
+        numbers: fragment::fragment_numbers,
+        seed: FRAGMENT_SEED,
+        lines: 400,
+        long_lines: 1,
+    },
+    Word {
+        name: "holder",
+        count: 4,
+        answer: fragment::answer_holder,
+        numbers: fragment::holder_numbers,
+        seed: HOLDER_SEED,
         lines: 400,
         long_lines: 1,
     },

@@ -1,5 +1,6 @@
 // The program desk: questions in lines on standard input, answers in lines on standard output. It
 // reads numbers, asks the library and prints what came back. Each subject has a module of its own.
+mod fragments;
 mod lines;
 mod print;
 mod swizzles;
@@ -15,6 +16,8 @@ const LONGEST_ANSWER: usize = 4096;
 enum Word {
     Swizzle,
     Mode,
+    Fragment,
+    Holder,
     Unknown,
 }
 
@@ -25,6 +28,12 @@ fn word_of(name: &[u8]) -> Word {
     if check::same(name, b"mode") {
         return Word::Mode;
     }
+    if check::same(name, b"fragment") {
+        return Word::Fragment;
+    }
+    if check::same(name, b"holder") {
+        return Word::Holder;
+    }
     Word::Unknown
 }
 
@@ -33,6 +42,8 @@ fn wanted(word: Word) -> usize {
     match word {
         Word::Swizzle => 4,
         Word::Mode => 2,
+        Word::Fragment => 3,
+        Word::Holder => 4,
         Word::Unknown => 0,
     }
 }
@@ -42,6 +53,8 @@ fn ask(word: Word, numbers: &[u64; 80], out: &mut [u8], at: usize) -> usize {
     match word {
         Word::Swizzle => swizzles::swizzle(numbers, out, at),
         Word::Mode => swizzles::mode(numbers, out, at),
+        Word::Fragment => fragments::fragment(numbers, out, at),
+        Word::Holder => fragments::holder(numbers, out, at),
         Word::Unknown => print::unknown(out, at),
     }
 }

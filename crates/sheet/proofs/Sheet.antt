@@ -13,6 +13,7 @@ use Rattle.laws.proofs.Table.{every, every-at}
 use Rattle.answers.specs.declared.Numbers.{Numbers}
 use Rattle.swizzle.specs.Swizzle.{swizzled}
 use Rattle.swizzle.specs.Mode.{bitLength}
+use Rattle.fragment.specs.Kinds.{computation, registers, place}
 use Rattle.sheet.specs.Questions.{Question, Reply, asked}
 use Rattle.sheet.specs.Loads.{Load, loads}
 
@@ -65,7 +66,7 @@ meets k load = same (asked (load .question)) (load .stated)
 
 -- the computed test
 test : every meets 0 loads ≡ true
-unfolding meets asked loads swizzled bitLength leadingZeros
+unfolding meets asked loads swizzled bitLength leadingZeros computation registers place
 test = refl
 
 -- every load of the sheet has its stated answer

@@ -1,7 +1,7 @@
 -- The test sheet: each load is a question and the answer that document 01, or the source document named beside it, states.
 use mathlib.Core.List.{List, [], _∷_}
 use Rattle.answers.specs.Refusals.{answer}
-use Rattle.sheet.specs.Questions.{Question, swizzle, mode, Reply, reply}
+use Rattle.sheet.specs.Questions.{Question, swizzle, mode, fragment, Reply, reply}
 
 pub record Load : Type 0 where
   pub question : Question
@@ -22,4 +22,7 @@ loads =
     ∷ (swizzle 3 4 3 64 is reply (answer 6 0 0 0) [])
     -- source document 004: float16 with the 128B swizzle
     ∷ (mode 16 3 is reply (answer 0 3 3 3) [])
+    -- fragments
+    ∷ (fragment 5 5 6 is reply (answer 0 1 3 4) [])
+    ∷ (fragment 5 18 3 is reply (answer 0 0 6 3) [])
     ∷ []

@@ -4,12 +4,15 @@ use Prim.Native.Nat.{ℕ}
 use Rattle.answers.specs.declared.Numbers.{Numbers}
 use Rattle.swizzle.specs.Swizzle.{swizzleAnswer, swizzleNumbers}
 use Rattle.swizzle.specs.Mode.{modeAnswer, modeNumbers}
+use Rattle.fragment.specs.Fragment.{heldAnswer, fragmentNumbers}
 
 pub data Question : Type 0 where
   -- M, B, S and the address
   swizzle : ℕ → ℕ → ℕ → ℕ → Question
   -- bits and mode
   mode : ℕ → ℕ → Question
+  -- kind, lane and register
+  fragment : ℕ → ℕ → ℕ → Question
 
 -- a number with its details, and the values in lent memory where a question lends some
 pub record Reply : Type 0 where
@@ -22,3 +25,4 @@ reply n v = record { numbers = n; values = v }
 unfoldable pub asked : Question → Reply
 asked (swizzle M B S m) = reply (swizzleNumbers (swizzleAnswer M B S m)) []
 asked (mode bits n) = reply (modeNumbers (modeAnswer bits n)) []
+asked (fragment kind lane i) = reply (fragmentNumbers (heldAnswer kind lane i)) []

@@ -1,0 +1,108 @@
+-- What the definitions of the kinds mean, in plain for-alls over what the first question answers, from the laws that lead forth and back.
+use mathlib.Core.Path.{_≡_, refl, sym, ap, _∙_}
+use mathlib.Core.Bool.{Bool, true, false, cond, true≢false}
+use Prim.Native.Nat.{ℕ}
+use native.Mathlib.Omega.{arith}
+use Rattle.answers.specs.declared.Numbers.{Numbers}
+use Rattle.answers.specs.declared.Refusal.the-variants.{Fragment}
+use Rattle.answers.proofs.OneToOne.{readBack, refused-back, pinned}
+use Rattle.fragment.specs.declared.Place.{Place}
+use Rattle.fragment.specs.declared.Slot.{Slot}
+use Rattle.fragment.specs.declared.Held.{Held}
+use Rattle.fragment.specs.declared.Held.the-variants.{Place as Holds, Refused as HoldsNot}
+use Rattle.fragment.specs.declared.Holder.{Holder}
+use Rattle.fragment.specs.declared.Holder.the-variants.{Slot as HeldBy, Refused as HeldByNone}
+use Rattle.fragment.specs.Kinds.{at, place}
+use Rattle.fragment.specs.Fragment.{isSlot, isPlace, heldAnswer, HolderAnswer, fragmentNumbers, holderNumbers}
+use Rattle.fragment.proofs.Back.{by, back, slot-back, place-back}
+
+-- the first question answers that a register holds a place
+abbrev pub Answers : ℕ → Slot → Place → Type 0
+Answers kind s p = heldAnswer kind (s .lane) (s .register) ≡ Holds p
+
+-- then there is such a register, and the place is its own
+answered : (kind : ℕ) (s : Slot) (p : Place) → Answers kind s p → (isSlot kind (s .lane) (s .register) ≡ true) × (place kind (s .lane) (s .register) ≡ p)
+answered kind s p = split (isSlot kind (s .lane) (s .register)) refl
+  where
+    own : Place
+    own = place kind (s .lane) (s .register)
+
+    split : (b : Bool) → isSlot kind (s .lane) (s .register) ≡ b → cond b (Holds own) (HoldsNot Fragment) ≡ Holds p → (isSlot kind (s .lane) (s .register) ≡ true) × (own ≡ p)
+    split true b e = (b, cc)
+    split false b e = let z : _≡_ {A = ℕ} 0 1 = cc in absurd (omega arith)
+
+-- so the place lies inside the kind and leads back to the register
+stays-inside : (kind : ℕ) (s : Slot) (p : Place) → Answers kind s p → isPlace kind p ≡ true
+stays-inside kind s p e =
+    let a = answered kind s p e in rw (sym (a .1)) (slot-back kind (s .lane) (s .register) (a .0) .0)
+
+leads-back : (kind : ℕ) (s : Slot) (p : Place) → Answers kind s p → back kind p ≡ s
+leads-back kind s p e =
+    let a = answered kind s p e in
+    sym (ap (back kind) (a .1)) ∙ slot-back kind (s .lane) (s .register) (a .0) .1
+
+-- and the register that a place leads to is answered to hold it
+pub back-answers : (kind : ℕ) (p : Place) → isPlace kind p ≡ true → Answers kind (back kind p) p
+back-answers kind p e = let b = place-back kind p e in rw (b .0) (ap Holds (b .1))
+
+held-once : (kind : ℕ) (s t : Slot) (p : Place) → Answers kind s p → Answers kind t p → s ≡ t
+held-once kind s t p e f = sym (leads-back kind s p e) ∙ leads-back kind t p f
+
+not-refused : (kind : ℕ) (s : Slot) (p : Place) → Answers kind s p → isPlace kind p ≡ false → ⊥
+not-refused kind s p e f = true≢false (sym (stays-inside kind s p e) ∙ f)
+
+-- two outcomes that the promise of the first question allows are equal
+pub held-settled : (kind lane i : ℕ) (g h : Held) → g ≡ heldAnswer kind lane i → h ≡ heldAnswer kind lane i → g ≡ h
+held-settled kind lane i g h e f = e ∙ sym f
+
+-- and so are two that the promise of the second allows
+pub holder-settled : (kind : ℕ) (p : Place) (g h : Holder) → HolderAnswer kind p g → HolderAnswer kind p h → g ≡ h
+holder-settled kind p (HeldBy s) (HeldBy t) e f = ap HeldBy (held-once kind s t p e f)
+holder-settled kind p (HeldBy s) (HeldByNone r) e f = absurd (not-refused kind s p e (f .0))
+holder-settled kind p (HeldByNone r) (HeldBy s) e f = absurd (not-refused kind s p f (e .0))
+holder-settled kind p (HeldByNone r) (HeldByNone t) e f = ap HeldByNone (e .1 ∙ sym (f .1))
+
+pub record OneToOne (kind : ℕ) : Type 0 where
+  -- what comes back from what went out is the same
+  pub there-and-back : (s : Slot) (p : Place) (h : Holder) → Answers kind s p → HolderAnswer kind p h → h ≡ HeldBy s
+  pub back-and-there : (s : Slot) (p : Place) (g : Held) → HolderAnswer kind p (HeldBy s) → g ≡ heldAnswer kind (s .lane) (s .register) → g ≡ Holds p
+  -- an answer stays inside one of the kind's computations, A 8 by 4, B 4 by 8, C 8 by 8
+  pub inside : (s : Slot) (p : Place) → Answers kind s p → isPlace kind p ≡ true
+  -- every place of every computation is held
+  pub held : (p : Place) → isPlace kind p ≡ true → (s : Slot) × Answers kind s p
+  -- and held once
+  pub once : (s t : Slot) (p : Place) → Answers kind s p → Answers kind t p → s ≡ t
+
+-- each kind is one-to-one onto its computations
+pub each-kind-one-to-one : (kind : ℕ) → OneToOne kind
+each-kind-one-to-one kind =
+    record {
+      there-and-back = λ s p h e f. holder-settled kind p h (HeldBy s) f e;
+      back-and-there = λ s p g e f. f ∙ e;
+      inside = stays-inside kind;
+      held = λ p e. (back kind p, back-answers kind p e);
+      once = held-once kind;
+    }
+
+-- pinning the numbers pins the answer
+holds : Numbers → Held
+holds n = Holds (record { computation = n .a; row = n .b; column = n .c })
+
+held-back : (g : Held) → readBack holds HoldsNot (fragmentNumbers g) ≡ g
+unfolding holds
+held-back (Holds p) = refl
+held-back (HoldsNot r) = refused-back holds HoldsNot r
+
+pub held-one-to-one : (g h : Held) → fragmentNumbers g ≡ fragmentNumbers h → g ≡ h
+held-one-to-one = pinned holds HoldsNot fragmentNumbers held-back
+
+held-by : Numbers → Holder
+held-by n = HeldBy (by (n .a) (n .b))
+
+holder-back : (g : Holder) → readBack held-by HeldByNone (holderNumbers g) ≡ g
+unfolding held-by
+holder-back (HeldBy s) = refl
+holder-back (HeldByNone r) = refused-back held-by HeldByNone r
+
+pub holder-one-to-one : (g h : Holder) → holderNumbers g ≡ holderNumbers h → g ≡ h
+holder-one-to-one = pinned held-by HeldByNone holderNumbers holder-back
