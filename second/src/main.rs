@@ -6,6 +6,7 @@ mod fragment;
 mod lines;
 mod loads;
 mod malformed;
+mod mask;
 mod random;
 mod swizzle;
 mod words;

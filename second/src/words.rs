@@ -5,6 +5,7 @@
 
 use crate::fragment;
 use crate::lines::Answer;
+use crate::mask;
 use crate::random::Random;
 use crate::swizzle;
 
@@ -29,6 +30,9 @@ pub const SWIZZLE_SEED: u64 = 0x7377_697a_7a6c_6501;
 pub const MODE_SEED: u64 = 0x6d6f_6465_0000_0002;
 pub const FRAGMENT_SEED: u64 = 0x6672_6167_6d65_6e03;
 pub const HOLDER_SEED: u64 = 0x686f_6c64_6572_0004;
+pub const FIELDS_SEED: u64 = 0x6669_656c_6473_0005;
+pub const DESCRIPTOR_SEED: u64 = 0x6465_7363_7269_7006;
+pub const MASK_SEED: u64 = 0x6d61_736b_0000_0007;
 
 pub const WORDS: &[Word] = &[
     Word {
@@ -64,6 +68,33 @@ pub const WORDS: &[Word] = &[
         answer: fragment::answer_holder,
         numbers: fragment::holder_numbers,
         seed: HOLDER_SEED,
+        lines: 400,
+        long_lines: 1,
+    },
+    Word {
+        name: "fields",
+        count: 1,
+        answer: mask::answer_fields,
+        numbers: mask::fields_numbers,
+        seed: FIELDS_SEED,
+        lines: 400,
+        long_lines: 1,
+    },
+    Word {
+        name: "descriptor",
+        count: 12,
+        answer: mask::answer_descriptor,
+        numbers: mask::descriptor_numbers,
+        seed: DESCRIPTOR_SEED,
+        lines: 400,
+        long_lines: 1,
+    },
+    Word {
+        name: "mask",
+        count: 4,
+        answer: mask::answer_mask,
+        numbers: mask::mask_numbers,
+        seed: MASK_SEED,
         lines: 400,
         long_lines: 1,
     },

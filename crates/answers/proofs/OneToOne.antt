@@ -52,6 +52,10 @@ back (Shift limit) = (refl, refl)
 pub refusal-one-to-one : (p q : Refusal) → refusalNumbers p ≡ refusalNumbers q → p ≡ q
 refusal-one-to-one p q e = sym (back p .0) ∙ ap (λ (r : Numbers). refusalOf (r .number) r) e ∙ back q .0
 
+-- an answer at number 0 is no refusal
+pub refusal-not-zero : (p : Refusal) → refusalNumbers p .number ≡ 0 → ⊥
+refusal-not-zero p e = omega (arith, ltb-true 0 (refusalNumbers p .number) (back p .1))
+
 -- An answer is a value, with number 0, or a refusal: it is read back from its numbers, by the question's way to read a value back
 module _ {A : Type 0} (value : Numbers → A) (refused : Refusal → A) where
   abbrev pub readBack : Numbers → A
@@ -59,8 +63,7 @@ module _ {A : Type 0} (value : Numbers → A) (refused : Refusal → A) where
 
   pub refused-back : (p : Refusal) → readBack (refusalNumbers p) ≡ refused p
   refused-back p =
-      rw (ne-eqb (refusalNumbers p .number) 0 (λ e. omega (arith, ltb-true 0 (refusalNumbers p .number) (back p .1))))
-      (ap refused (back p .0))
+      rw (ne-eqb (refusalNumbers p .number) 0 (refusal-not-zero p)) (ap refused (back p .0))
 
   -- what is read back from its numbers is pinned by them
   pub pinned : (numbers : A → Numbers) → ((p : A) → readBack (numbers p) ≡ p) → (p q : A) → numbers p ≡ numbers q → p ≡ q

@@ -2,6 +2,7 @@
 // reads numbers, asks the library and prints what came back. Each subject has a module of its own.
 mod fragments;
 mod lines;
+mod masks;
 mod print;
 mod swizzles;
 
@@ -18,6 +19,9 @@ enum Word {
     Mode,
     Fragment,
     Holder,
+    Fields,
+    Descriptor,
+    Mask,
     Unknown,
 }
 
@@ -34,6 +38,15 @@ fn word_of(name: &[u8]) -> Word {
     if check::same(name, b"holder") {
         return Word::Holder;
     }
+    if check::same(name, b"fields") {
+        return Word::Fields;
+    }
+    if check::same(name, b"descriptor") {
+        return Word::Descriptor;
+    }
+    if check::same(name, b"mask") {
+        return Word::Mask;
+    }
     Word::Unknown
 }
 
@@ -44,6 +57,9 @@ fn wanted(word: Word) -> usize {
         Word::Mode => 2,
         Word::Fragment => 3,
         Word::Holder => 4,
+        Word::Fields => 1,
+        Word::Descriptor => 12,
+        Word::Mask => 4,
         Word::Unknown => 0,
     }
 }
@@ -55,6 +71,9 @@ fn ask(word: Word, numbers: &[u64; 80], out: &mut [u8], at: usize) -> usize {
         Word::Mode => swizzles::mode(numbers, out, at),
         Word::Fragment => fragments::fragment(numbers, out, at),
         Word::Holder => fragments::holder(numbers, out, at),
+        Word::Fields => masks::fields(numbers, out, at),
+        Word::Descriptor => masks::descriptor(numbers, out, at),
+        Word::Mask => masks::mask(numbers, out, at),
         Word::Unknown => print::unknown(out, at),
     }
 }

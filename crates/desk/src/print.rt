@@ -43,6 +43,27 @@ pub fn numbers(out: &mut [u8], at: usize, answer: Numbers) -> usize {
     next(out, b, answer.c)
 }
 
+// The bar after which values follow.
+pub fn bar(out: &mut [u8], at: usize) -> usize {
+    let place = byte(out, at, b' ');
+    byte(out, place, b'|')
+}
+
+fn wide(b: u8) -> u64 {
+    b as u64
+}
+
+// Each byte as a number after a space.
+pub fn bytes(out: &mut [u8], at: usize, from: &[u8]) -> usize {
+    let mut place = at;
+    let mut i = 0;
+    while i < from.len() {
+        place = next(out, place, wide(from[i]));
+        i += 1;
+    }
+    place
+}
+
 // An answer with nothing after it.
 pub fn line(out: &mut [u8], at: usize, answer: Numbers) -> usize {
     let place = numbers(out, at, answer);

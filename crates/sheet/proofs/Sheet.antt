@@ -14,6 +14,8 @@ use Rattle.answers.specs.declared.Numbers.{Numbers}
 use Rattle.swizzle.specs.Swizzle.{swizzled}
 use Rattle.swizzle.specs.Mode.{bitLength}
 use Rattle.fragment.specs.Kinds.{computation, registers, place}
+use Rattle.mask.specs.Descriptor.{descriptorOf}
+use Rattle.mask.specs.Mask.{column, number, bytes, zeroed, firstUsed}
 use Rattle.sheet.specs.Questions.{Question, Reply, asked}
 use Rattle.sheet.specs.Loads.{Load, loads}
 
@@ -66,7 +68,7 @@ meets k load = same (asked (load .question)) (load .stated)
 
 -- the computed test
 test : every meets 0 loads ≡ true
-unfolding meets asked loads swizzled bitLength leadingZeros computation registers place
+unfolding meets asked loads swizzled bitLength leadingZeros computation registers place descriptorOf column number bytes zeroed firstUsed
 test = refl
 
 -- every load of the sheet has its stated answer

@@ -1,10 +1,14 @@
 -- The library's questions with their numbers, and what the definitions answer to each.
 use mathlib.Core.List.{List, []}
+use lib.ListN.{length}
 use Prim.Native.Nat.{ℕ}
 use Rattle.answers.specs.declared.Numbers.{Numbers}
 use Rattle.swizzle.specs.Swizzle.{swizzleAnswer, swizzleNumbers}
 use Rattle.swizzle.specs.Mode.{modeAnswer, modeNumbers}
 use Rattle.fragment.specs.Fragment.{heldAnswer, fragmentNumbers}
+use Rattle.mask.specs.Descriptor.{writeAnswer, shiftLimit, writeNumbers}
+use Rattle.mask.specs.Mask.{maskAnswer, maskMemory, maskNumbers}
+use Rattle.mask.specs.declared.Fields.{Fields}
 
 pub data Question : Type 0 where
   -- M, B, S and the address
@@ -13,6 +17,10 @@ pub data Question : Type 0 where
   mode : ℕ → ℕ → Question
   -- kind, lane and register
   fragment : ℕ → ℕ → ℕ → Question
+  -- the fields
+  descriptor : Fields → Question
+  -- M, N, the descriptor and the lent bytes
+  mask : ℕ → ℕ → ℕ → List ℕ → Question
 
 -- a number with its details, and the values in lent memory where a question lends some
 pub record Reply : Type 0 where
@@ -26,3 +34,7 @@ unfoldable pub asked : Question → Reply
 asked (swizzle M B S m) = reply (swizzleNumbers (swizzleAnswer M B S m)) []
 asked (mode bits n) = reply (modeNumbers (modeAnswer bits n)) []
 asked (fragment kind lane i) = reply (fragmentNumbers (heldAnswer kind lane i)) []
+asked (descriptor fields) = reply (writeNumbers (writeAnswer shiftLimit fields)) []
+asked (mask M N d lent) =
+    let generated = maskAnswer shiftLimit M N d (length lent) in
+    reply (maskNumbers generated) (maskMemory generated M N d lent)
