@@ -71,6 +71,7 @@ pub fn random_lines(seed: &[u8], count: u64) -> impl Iterator<Item = Vec<u8>> {
 mod tests {
     use super::*;
     use crate::lines::answers;
+    use std::collections::BTreeSet;
 
     /// The checks of each block and of its answers: an earlier block that
     /// changes when a word is added is noticed here.
@@ -82,6 +83,7 @@ mod tests {
         ("fields", 12573368625545520938, 9576116403132297621),
         ("descriptor", 15439258021269911782, 1660580043652836152),
         ("mask", 14927742428564712994, 11739171236557157785),
+        ("place", 10852455078651942345, 10380206115902585465),
     ];
 
     #[test]
@@ -95,6 +97,30 @@ mod tests {
             })
             .collect();
         assert_eq!(found, CHECKS);
+    }
+
+    /// The numbers that a word's answers can have; its block reaches all.
+    const NUMBERS: &[(&str, &[u64])] = &[
+        ("swizzle", &[0, 6]),
+        ("mode", &[0, 6]),
+        ("fragment", &[0, 14]),
+        ("holder", &[0, 14]),
+        ("fields", &[0, 15]),
+        ("descriptor", &[0, 16]),
+        ("mask", &[0, 11, 13, 15, 16]),
+        ("place", &[0, 1, 2, 3, 4, 5, 6, 7, 9, 10, 11]),
+    ];
+
+    #[test]
+    fn blocks_reach_every_number() {
+        assert_eq!(NUMBERS.len(), WORDS.len());
+        for (word, (name, wanted)) in WORDS.iter().zip(NUMBERS) {
+            let lines = block(word);
+            let number = |text: String| text.split(' ').next()?.parse().ok();
+            let reached: BTreeSet<u64> = answers(&lines).filter_map(number).collect();
+            assert_eq!(word.name, *name);
+            assert_eq!(Vec::from_iter(reached), *wanted, "{name}");
+        }
     }
 
     #[test]

@@ -2,7 +2,9 @@
 //! the same lines straight from the documents, and it makes the loads on
 //! which the two programs are compared.
 
+mod cards;
 mod fragment;
+mod layout;
 mod lines;
 mod loads;
 mod malformed;

@@ -3,7 +3,9 @@
 //! A new word is appended: the committed blocks of the earlier ones must stay
 //! as they are, so no entry is moved, and no seed, count or length changed.
 
+use crate::cards;
 use crate::fragment;
+use crate::layout;
 use crate::lines::Answer;
 use crate::mask;
 use crate::random::Random;
@@ -33,6 +35,7 @@ pub const HOLDER_SEED: u64 = 0x686f_6c64_6572_0004;
 pub const FIELDS_SEED: u64 = 0x6669_656c_6473_0005;
 pub const DESCRIPTOR_SEED: u64 = 0x6465_7363_7269_7006;
 pub const MASK_SEED: u64 = 0x6d61_736b_0000_0007;
+pub const PLACE_SEED: u64 = 0x706c_6163_6500_0008;
 
 pub const WORDS: &[Word] = &[
     Word {
@@ -96,6 +99,15 @@ pub const WORDS: &[Word] = &[
         numbers: mask::mask_numbers,
         seed: MASK_SEED,
         lines: 400,
+        long_lines: 1,
+    },
+    Word {
+        name: "place",
+        count: 76,
+        answer: layout::answer_place,
+        numbers: cards::place_numbers,
+        seed: PLACE_SEED,
+        lines: 300,
         long_lines: 1,
     },
 ];

@@ -53,7 +53,7 @@ pub refusal-one-to-one : (p q : Refusal) → refusalNumbers p ≡ refusalNumbers
 refusal-one-to-one p q e = sym (back p .0) ∙ ap (λ (r : Numbers). refusalOf (r .number) r) e ∙ back q .0
 
 -- an answer at number 0 is no refusal
-pub refusal-not-zero : (p : Refusal) → refusalNumbers p .number ≡ 0 → ⊥
+refusal-not-zero : (p : Refusal) → refusalNumbers p .number ≡ 0 → ⊥
 refusal-not-zero p e = omega (arith, ltb-true 0 (refusalNumbers p .number) (back p .1))
 
 -- An answer is a value, with number 0, or a refusal: it is read back from its numbers, by the question's way to read a value back

@@ -1,6 +1,7 @@
 // The program desk: questions in lines on standard input, answers in lines on standard output. It
 // reads numbers, asks the library and prints what came back. Each subject has a module of its own.
 mod fragments;
+mod layouts;
 mod lines;
 mod masks;
 mod print;
@@ -22,6 +23,7 @@ enum Word {
     Fields,
     Descriptor,
     Mask,
+    Place,
     Unknown,
 }
 
@@ -47,6 +49,9 @@ fn word_of(name: &[u8]) -> Word {
     if check::same(name, b"mask") {
         return Word::Mask;
     }
+    if check::same(name, b"place") {
+        return Word::Place;
+    }
     Word::Unknown
 }
 
@@ -60,6 +65,7 @@ fn wanted(word: Word) -> usize {
         Word::Fields => 1,
         Word::Descriptor => 12,
         Word::Mask => 4,
+        Word::Place => 76,
         Word::Unknown => 0,
     }
 }
@@ -74,6 +80,7 @@ fn ask(word: Word, numbers: &[u64; 80], out: &mut [u8], at: usize) -> usize {
         Word::Fields => masks::fields(numbers, out, at),
         Word::Descriptor => masks::descriptor(numbers, out, at),
         Word::Mask => masks::mask(numbers, out, at),
+        Word::Place => layouts::place(numbers, out, at),
         Word::Unknown => print::unknown(out, at),
     }
 }

@@ -64,6 +64,21 @@ pub fn bytes(out: &mut [u8], at: usize, from: &[u8]) -> usize {
     place
 }
 
+fn wide32(n: u32) -> u64 {
+    n as u64
+}
+
+// Each entry as a number after a space.
+pub fn entries(out: &mut [u8], at: usize, from: &[u32]) -> usize {
+    let mut place = at;
+    let mut i = 0;
+    while i < from.len() {
+        place = next(out, place, wide32(from[i]));
+        i += 1;
+    }
+    place
+}
+
 // An answer with nothing after it.
 pub fn line(out: &mut [u8], at: usize, answer: Numbers) -> usize {
     let place = numbers(out, at, answer);

@@ -1,3 +1,5 @@
 pub mod Table
 pub mod Below
 pub mod Order
+pub mod Lists
+pub mod Capped

@@ -16,6 +16,10 @@ use Rattle.swizzle.specs.Mode.{bitLength}
 use Rattle.fragment.specs.Kinds.{computation, registers, place}
 use Rattle.mask.specs.Descriptor.{descriptorOf}
 use Rattle.mask.specs.Mask.{column, number, bytes, zeroed, firstUsed}
+use Rattle.card.specs.Admission.{admission}
+use Rattle.placement.specs.RowMajor.{position}
+use Rattle.placement.specs.Rules.{coordinates, spot}
+use Rattle.placement.specs.Placement.{copyCells, outsideAxis, placementAnswer, placementMemory}
 use Rattle.sheet.specs.Questions.{Question, Reply, asked}
 use Rattle.sheet.specs.Loads.{Load, loads}
 
@@ -68,7 +72,7 @@ meets k load = same (asked (load .question)) (load .stated)
 
 -- the computed test
 test : every meets 0 loads ≡ true
-unfolding meets asked loads swizzled bitLength leadingZeros computation registers place descriptorOf column number bytes zeroed firstUsed
+unfolding meets asked loads swizzled bitLength leadingZeros computation registers place descriptorOf column number bytes zeroed firstUsed admission position coordinates spot copyCells outsideAxis placementAnswer placementMemory
 test = refl
 
 -- every load of the sheet has its stated answer

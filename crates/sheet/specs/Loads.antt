@@ -5,7 +5,9 @@ use mathlib.Core.List.{List, [], _∷_}
 use Rattle.answers.specs.Refusals.{answer}
 use Rattle.mask.specs.Descriptor.{descriptorOf}
 use Rattle.mask.specs.declared.Fields.{Fields}
-use Rattle.sheet.specs.Questions.{Question, swizzle, mode, fragment, descriptor, mask, Reply, reply}
+use Rattle.sheet.specs.Questions.{Question, swizzle, mode, fragment, descriptor, mask, place, Reply, reply}
+use Rattle.sheet.specs.Cards.{tuple, tileX, onM, _by_on_, m, wideTile}
+use Rattle.sheet.specs.Cards.{swizzle as swizzleBy}
 
 pub record Load : Type 0 where
   pub question : Question
@@ -38,6 +40,15 @@ two = 165 ∷ 165 ∷ []
 abbrev pub four : List ℕ
 four = 165 ∷ 165 ∷ 165 ∷ 165 ∷ []
 
+-- tile X's element (i, j) of its (8, 16) tile, in two lent entries
+abbrev pub elementX : ℕ → ℕ → Question
+elementX i j = place tileX (tuple (8 ∷ 16 ∷ [])) (tuple (i ∷ j ∷ [])) (1000000 ∷ 1000001 ∷ [])
+
+-- element (i, j) of source document 004's (8, 64) tile under the 128B swizzle
+abbrev pub element128 : ℕ → ℕ → Question
+element128 i j =
+    place (onM (8 by 64 on m ∷ 64 by 1 on m ∷ []) 512 (swizzleBy 3 3 3)) (tuple (8 ∷ 64 ∷ [])) (tuple (i ∷ j ∷ [])) (1000000 ∷ [])
+
 unfoldable pub loads : List Load
 loads =
     -- swizzles
@@ -64,4 +75,17 @@ loads =
     ∷ (descriptor (plain false true 2 3 33) is reply (answer 16 32 0 0) [])
     -- example 3
     ∷ (mask 64 32 (descriptorOf (plain true true 2 3 0)) four is reply (answer 0 14 3 0) (0x87 ∷ 0xc3 ∷ 0x70 ∷ 0x38 ∷ []))
+    -- placement: element 127 of tile X, then the table of source document 004
+    ∷ (elementX 7 15 is reply (answer 0 2 0 0) (447 ∷ 703 ∷ []))
+    ∷ (elementX 0 0 is reply (answer 0 2 0 0) (320 ∷ 576 ∷ []))
+    ∷ (elementX 0 1 is reply (answer 0 2 0 0) (321 ∷ 577 ∷ []))
+    ∷ (elementX 0 2 is reply (answer 0 2 0 0) (322 ∷ 578 ∷ []))
+    ∷ (elementX 1 0 is reply (answer 0 2 0 0) (328 ∷ 584 ∷ []))
+    ∷ (elementX 0 8 is reply (answer 0 2 0 0) (384 ∷ 640 ∷ []))
+    -- source document 004's worked swizzle: 64 i + 8 (j / 8 xor i) + j mod 8, so column 0 is 72 i
+    ∷ (element128 1 0 is reply (answer 0 1 0 0) (72 ∷ []))
+    ∷ (element128 7 0 is reply (answer 0 1 0 0) (504 ∷ []))
+    ∷ (element128 3 21 is reply (answer 0 1 0 0) (205 ∷ []))
+    -- source document 004's accumulator of 224 columns has too many cells
+    ∷ (place wideTile (tuple (2 ∷ 128 ∷ 112 ∷ [])) (tuple (1 ∷ 127 ∷ 111 ∷ [])) (1000000 ∷ []) is reply (answer 4 0 0 0) (1000000 ∷ []))
     ∷ []

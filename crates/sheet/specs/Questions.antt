@@ -9,6 +9,9 @@ use Rattle.fragment.specs.Fragment.{heldAnswer, fragmentNumbers}
 use Rattle.mask.specs.Descriptor.{writeAnswer, shiftLimit, writeNumbers}
 use Rattle.mask.specs.Mask.{maskAnswer, maskMemory, maskNumbers}
 use Rattle.mask.specs.declared.Fields.{Fields}
+use Rattle.card.specs.declared.Card.{Card}
+use Rattle.placement.specs.Placement.{placementAnswer, placementMemory, placementNumbers}
+use Rattle.placement.specs.declared.Tuple.{Tuple}
 
 pub data Question : Type 0 where
   -- M, B, S and the address
@@ -21,6 +24,8 @@ pub data Question : Type 0 where
   descriptor : Fields → Question
   -- M, N, the descriptor and the lent bytes
   mask : ℕ → ℕ → ℕ → List ℕ → Question
+  -- the card, the shape, the coordinates and the lent entries
+  place : Card → Tuple → Tuple → List ℕ → Question
 
 -- a number with its details, and the values in lent memory where a question lends some
 pub record Reply : Type 0 where
@@ -38,3 +43,5 @@ asked (descriptor fields) = reply (writeNumbers (writeAnswer shiftLimit fields))
 asked (mask M N d lent) =
     let generated = maskAnswer shiftLimit M N d (length lent) in
     reply (maskNumbers generated) (maskMemory generated M N d lent)
+asked (place card shape coordinates lent) =
+    reply (placementNumbers (placementAnswer card shape coordinates (length lent))) (placementMemory card shape coordinates lent)

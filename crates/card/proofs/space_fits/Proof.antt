@@ -1,0 +1,35 @@
+-- `card::space_fits` is check 4: all eight lengths are tested, and below the cap the capped product decides as the whole one does.
+use mathlib.Core.Path.{_≡_, ap, ap₂, _∙_}
+use mathlib.Core.Bool.{_&&_}
+use mathlib.Core.List.{List}
+use Prim.Native.Nat.{ℕ, min}
+use native.Mathlib.Nat.{le-of-eq}
+use native.Mathlib.Omega.{arith}
+use borrow.Author.Needs.{needs}
+use lib.Dec.{leb}
+use lib.ListN.{take}
+use lib.Seq.{take-all}
+use Rattle.laws.proofs.Capped.{capped-leb}
+use Rattle.card.specs.Lists.{all, within, product}
+use Rattle.card.specs.Limits.{beyond, mostLength, mostCells}
+use Rattle.card.proofs.space_fits.Statement.{statement}
+use Rattle.card.proofs.space_fits.Tie as tie
+
+whole : (s : tie.Start) → take 8 (s .args .lengths) ≡ s .args .lengths
+whole s = take-all 8 (s .args .lengths) (le-of-eq (search needs))
+
+all-within-requires : tie.Need-all-within-requires
+all-within-requires c κs = search needs
+
+product-requires : tie.Need-product-requires
+product-requires c κs = search needs
+
+returns : tie.Need-returns
+returns c =
+    let s = c .before .before in
+    ap₂ _&&_ (c .before .all-within .ensures ∙ ap (all (within 1 mostLength)) (whole s))
+    (ap (λ (n : ℕ). leb n mostCells) (c .product .ensures ∙ ap (λ (l : List ℕ). min (product l) beyond) (whole s))
+    ∙ capped-leb beyond (product (s .args .lengths)) mostCells (omega arith))
+
+pub space-fits-spec : {M : Type 1} → statement M
+space-fits-spec = tie.close (tie.spec all-within-requires product-requires returns)

@@ -1,0 +1,62 @@
+-- The admission of a card: document 01's checks 1 to 6, in this order.
+use Prim.Native.Nat.{ℕ}
+use mathlib.Core.Bool.{Bool, cond, not, _&&_}
+use mathlib.Core.List.{List, map}
+use lib.Dec.{leb}
+use Rattle.answers.specs.Refusals.{answer, refusalNumbers}
+use Rattle.answers.specs.declared.Numbers.{Numbers}
+use Rattle.answers.specs.declared.Refusal.the-variants.{Counts, Limits, Axis, Space, TooMany, Swizzle}
+use Rattle.swizzle.specs.Swizzle.{permitted}
+use Rattle.card.specs.Lists.{all, within, product}
+use Rattle.card.specs.Limits.{mostShard, mostReplica, mostExtent, mostStride, lastAxis, mostLength, mostCells, mostElements, mostCopies}
+use Rattle.card.specs.Card.{listed, extentOf, strideOf, axisOf, elements, copies}
+use Rattle.card.specs.declared.Iters.{Iters}
+use Rattle.card.specs.declared.Card.{Card}
+use Rattle.card.specs.declared.Admission.{Admission}
+use Rattle.card.specs.declared.Admission.the-variants.{Admitted, Refused}
+
+-- 1: shard and replica iter count within limits
+abbrev pub countsFit : Card → Bool
+countsFit card = within 1 mostShard (card .shard .count) && leb (card .replica .count) mostReplica
+
+-- 2: every extent, stride and offset within limits
+abbrev pub itersFit : Iters → Bool
+itersFit iters = all (within 1 mostExtent) (map extentOf (listed iters)) && all (within 0 mostStride) (map strideOf (listed iters))
+
+abbrev pub numbersFit : Card → Bool
+numbersFit card = itersFit (card .shard) && itersFit (card .replica) && all (within 0 mostStride) (card .offset)
+
+-- 3: no axis above 7
+abbrev pub itersOnAxes : Iters → Bool
+itersOnAxes iters = all (within 0 lastAxis) (map axisOf (listed iters))
+
+abbrev pub axesFit : Card → Bool
+axesFit card = itersOnAxes (card .shard) && itersOnAxes (card .replica)
+
+-- 4: every length within limits, and not too many cells
+abbrev pub spaceFits : List ℕ → Bool
+spaceFits lengths = all (within 1 mostLength) lengths && leb (product lengths) mostCells
+
+-- 5: not too many elements or copies
+abbrev pub fewEnough : Card → Bool
+fewEnough card = leb (elements card) mostElements && leb (copies card) mostCopies
+
+-- 6: the swizzle numbers are permitted
+abbrev pub swizzleFits : Card → Bool
+swizzleFits card = permitted (card .swizzle .m) (card .swizzle .b) (card .swizzle .s)
+
+-- the first check that a card fails refuses it
+unfoldable pub admission : Card → Admission
+admission card =
+    cond (not (countsFit card)) (Refused Counts)
+    (cond (not (numbersFit card)) (Refused Limits)
+    (cond (not (axesFit card)) (Refused Axis)
+    (cond (not (spaceFits (card .lengths))) (Refused Space)
+    (cond (not (fewEnough card)) (Refused TooMany)
+    (cond (not (swizzleFits card)) (Refused Swizzle)
+    Admitted)))))
+
+-- an admission has no details
+abbrev pub admissionNumbers : Admission → Numbers
+admissionNumbers Admitted = answer 0 0 0 0
+admissionNumbers (Refused refusal) = refusalNumbers refusal

@@ -1,0 +1,4 @@
+pub mod Lists
+pub mod Limits
+pub mod Card
+pub mod Admission

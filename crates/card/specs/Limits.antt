@@ -1,0 +1,39 @@
+-- Document 01's limits of a layout card, each named once.
+use Prim.Native.Nat.{ℕ, _^_}
+
+-- the shard has 1 to 8 iters, the replica 0 to 4
+abbrev pub mostShard : ℕ
+mostShard = 8
+
+abbrev pub mostReplica : ℕ
+mostReplica = 4
+
+-- extents 1 to 16,384
+abbrev pub mostExtent : ℕ
+mostExtent = 16384
+
+-- strides and offsets 0 to 65,535
+abbrev pub mostStride : ℕ
+mostStride = 65535
+
+-- axes, by number: 0 pid, 1 warpid, 2 laneid, 3 P, 4 F, 5 TLane, 6 TCol, 7 m
+abbrev pub lastAxis : ℕ
+lastAxis = 7
+
+-- one length per axis, 1 to 16,384; the product (the cells) at most 16,384
+abbrev pub mostLength : ℕ
+mostLength = 16384
+
+abbrev pub mostCells : ℕ
+mostCells = 16384
+
+-- the product of shard extents at most 16,384, of replica extents at most 64
+abbrev pub mostElements : ℕ
+mostElements = 16384
+
+abbrev pub mostCopies : ℕ
+mostCopies = 64
+
+-- no limit, but a number above every limit of a product: the code tells products apart below it
+abbrev pub beyond : ℕ
+beyond = 2 ^ 32

@@ -1,0 +1,16 @@
+-- Lists by parts: one more element of a part, and `map` of a part.
+use mathlib.Core.Path.{_≡_, refl, ap, _∙_}
+use mathlib.Core.List.{List, [], _∷_, map}
+use Prim.Native.Nat.{ℕ, zero, suc, _+_, _≤_, _<_}
+use native.Mathlib.Numerals.{add-one}
+use lib.ListN.{length, getD, take}
+use lib.Seq.{slice, slice-cons}
+
+-- the elements from k to n, the one at k apart
+pub slice-next : {A : Type 0} (l : List A) (k n : ℕ) (other : A) → k < n → n ≤ length l → slice k n l ≡ getD l k other ∷ slice (k + 1) n l
+slice-next l k n other h fits = slice-cons k n l other h fits ∙ rw add-one
+
+pub map-take : {A : Type 0} {B : Type 0} (f : A → B) (n : ℕ) (l : List A) → map f (take n l) ≡ take n (map f l)
+map-take f zero l = refl
+map-take f (suc n) [] = refl
+map-take f (suc n) (x ∷ l) = ap (λ t. f x ∷ t) (map-take f n l)

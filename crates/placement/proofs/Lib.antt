@@ -1,0 +1,12 @@
+pub mod RowMajor
+pub mod Joined
+pub mod Along
+pub mod Turn
+pub mod Located
+pub mod Spaces
+pub mod Filling
+pub mod Spots
+pub mod Cards
+pub mod Elements
+pub mod Placings
+pub mod Theorems

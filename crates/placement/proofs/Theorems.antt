@@ -1,0 +1,171 @@
+-- What rules 1 to 5 and the placement of one element mean, in plain for-alls.
+use mathlib.Core.Path.{_≡_, refl, sym, ap, _∙_}
+use mathlib.Core.Bool.{Bool, true, false, cond, not}
+use mathlib.Core.List.{List, _++_, map}
+use Prim.Native.Nat.{ℕ, _≤_, _<_}
+use native.Mathlib.Nat.{ne-of-lt}
+use native.Mathlib.Omega.{arith}
+use borrow.Author.Tests.{ltb-false}
+use lib.Dec.{leb, ltb}
+use lib.ListN.{length, getD, drop, List·getD-append}
+use lib.Seq.{getD-set-other, drop-at}
+use Rattle.answers.specs.declared.Refusal.{Refusal}
+use Rattle.answers.specs.declared.Refusal.the-variants.{Shape, Coordinate, TooShort}
+use Rattle.answers.proofs.OneToOne.{readBack, refused-back, pinned}
+use Rattle.swizzle.specs.Swizzle.{swizzled}
+use Rattle.card.specs.Lists.{product}
+use Rattle.card.specs.Limits.{lastAxis}
+use Rattle.card.specs.Card.{listed, extentOf, elements, copies, cells}
+use Rattle.card.specs.Admission.{admission}
+use Rattle.card.specs.declared.Card.{Card}
+use Rattle.card.specs.declared.Admission.{Admission}
+use Rattle.card.specs.declared.Admission.the-variants.{Admitted, Refused as NotAdmitted}
+use Rattle.placement.specs.RowMajor.{rowMajor, components, inside}
+use Rattle.placement.specs.Rules.{axes, sum, coordinates, spot}
+use Rattle.placement.specs.Placement.{cellOf, pastAxis, copyCells, outsideAxis, entries, shapeAdmitted, coordinatesFit, flatten, afterAdmission, placementAnswer, written, placementMemory, placementNumbers, Placing}
+use Rattle.placement.specs.declared.Tuple.{Tuple}
+use Rattle.placement.specs.declared.Spot.{Spot}
+use Rattle.placement.specs.declared.Spot.the-variants.{Inside, Outside}
+use Rattle.placement.specs.declared.Placement.{Placement}
+use Rattle.placement.specs.declared.Placement.the-variants.{Copies, Refused}
+use Rattle.placement.proofs.RowMajor.{row-major-below, row-major-one-to-one, components-inside, components-give-back}
+use Rattle.placement.proofs.Along.{axes-at}
+use Rattle.placement.proofs.Spots.{spot-inside, cell-below}
+use Rattle.placement.proofs.Filling.{cells-length, cells-at, outside-least, outside-found}
+
+-- row-major numbers are one-to-one from the coordinates inside the sizes onto the numbers below their product
+pub record OneToOne (sizes : List ℕ) : Type 0 where
+  pub below : (xs : List ℕ) → inside sizes xs ≡ true → rowMajor sizes xs < product sizes
+  -- each number below the product is hit, by its components
+  pub hit : (n : ℕ) → n < product sizes → (inside sizes (components sizes n) ≡ true) × (rowMajor sizes (components sizes n) ≡ n)
+  -- and hit once
+  pub once : (xs ys : List ℕ) → inside sizes xs ≡ true → inside sizes ys ≡ true → rowMajor sizes xs ≡ rowMajor sizes ys → xs ≡ ys
+
+one-to-one : (sizes : List ℕ) → OneToOne sizes
+one-to-one sizes = record {
+  below = row-major-below sizes;
+  hit = λ n h. (components-inside sizes n (omega arith), components-give-back sizes n h);
+  once = row-major-one-to-one sizes;
+}
+
+-- rule 1: flattening names each flat index below the product of a shape by one coordinate tuple inside it
+pub flatten-one-to-one : (shape : Tuple) → OneToOne (entries shape)
+flatten-one-to-one shape = one-to-one (entries shape)
+
+-- rule 2: the components of a flat index give it back
+pub components-of-flat : (card : Card) (flat : ℕ) → flat < elements card
+    → rowMajor (map extentOf (listed (card .shard))) (components (map extentOf (listed (card .shard))) flat) ≡ flat
+components-of-flat card flat h = components-give-back (map extentOf (listed (card .shard))) flat h
+
+-- rule 5: cell numbers name each cell below the cells by one coordinate tuple inside the space
+pub cell-one-to-one : (card : Card) → OneToOne (card .lengths)
+cell-one-to-one card = one-to-one (card .lengths)
+
+-- rules 3 and 4: on every axis but m the coordinate is the sum of its three parts, and on m the swizzle of that sum
+pub coordinate-at : (card : Card) (flat combination axis : ℕ) → axis < lastAxis → getD (coordinates card flat combination) axis 0 ≡ sum card flat combination axis
+unfolding coordinates
+coordinate-at card flat combination axis h =
+    getD-set-other (map (sum card flat combination) axes) lastAxis axis _ 0 (ne-of-lt h) ∙ axes-at (sum card flat combination) axis (omega arith)
+
+pub m-coordinate : (card : Card) (flat combination : ℕ)
+    → getD (coordinates card flat combination) lastAxis 0
+    ≡ swizzled (card .swizzle .m) (card .swizzle .b) (card .swizzle .s) (sum card flat combination lastAxis)
+unfolding coordinates
+m-coordinate card flat combination = refl
+
+-- two outcomes that the promise of a placement allows are equal, in the answer and in every entry of the lent memory
+pub placement-settled : (card : Card) (shape coordinates : Tuple) (before m n : List ℕ) (p q : Placement)
+    → Placing card shape coordinates before m p → Placing card shape coordinates before n q → (p ≡ q) × (m ≡ n)
+placement-settled card shape coordinates before m n p q a b =
+    (a .answer-is ∙ sym (b .answer-is), a .memory-is ∙ sym (b .memory-is))
+
+-- pinning the numbers pins the answer
+placement-back : (p : Placement) → readBack (λ n. Copies (n .a)) Refused (placementNumbers p) ≡ p
+placement-back (Copies n) = refl
+placement-back (Refused r) = refused-back (λ n. Copies (n .a)) Refused r
+
+pub placement-one-to-one : (p q : Placement) → placementNumbers p ≡ placementNumbers q → p ≡ q
+placement-one-to-one = pinned (λ n. Copies (n .a)) Refused placementNumbers placement-back
+
+-- a rung of the ladder that gave no refusal was passed
+past-admission : (a : Admission) (p : Placement) (n : ℕ) → Copies n ≡ afterAdmission a p → Copies n ≡ p
+past-admission Admitted p n e = e
+past-admission (NotAdmitted r) p n e = let z : _≡_ {A = ℕ} 0 1 = cc in absurd (omega arith)
+
+past-rung : (b : Bool) (r : Refusal) (p : Placement) (n : ℕ) → Copies n ≡ cond (not b) (Refused r) p → Copies n ≡ p
+past-rung true r p n e = e
+past-rung false r p n e = let z : _≡_ {A = ℕ} 0 1 = cc in absurd (omega arith)
+
+past-last : (b : Bool) (r : Refusal) (k n : ℕ) → Copies n ≡ cond b (Refused r) (Copies k) → (b ≡ false) × (n ≡ k)
+past-last true r k n e = let z : _≡_ {A = ℕ} 0 1 = cc in absurd (omega arith)
+past-last false r k n e = (refl, cc)
+
+-- the answer has copies only where all of them lie inside
+all-inside : (card : Card) (shape coordinates : Tuple) (room n : ℕ) → Copies n ≡ placementAnswer card shape coordinates room
+    → (length axes ≤ outsideAxis card (flatten shape coordinates)) × (n ≡ copies card)
+unfolding placementAnswer
+all-inside card shape coordinates room n e =
+    let flat = flatten shape coordinates in
+    let e1 = past-admission (admission card) _ n e in
+    let e2 = past-rung (shapeAdmitted shape (elements card)) Shape _ n e1 in
+    let e3 = past-rung (coordinatesFit shape coordinates) Coordinate _ n e2 in
+    let e4 = past-rung (leb (copies card) room) (TooShort (copies card)) _ n e3 in
+    let e5 = past-last (ltb (outsideAxis card flat) (length axes)) _ (copies card) n e4 in
+    (ltb-false (outsideAxis card flat) (length axes) (e5 .0), e5 .1)
+
+pub record Copied (card : Card) (flat : ℕ) (before after : List ℕ) (n : ℕ) : Type 0 where
+  pub one-each : n ≡ copies card
+  -- the entry of a combination is its cell by rules 1 to 5, inside the space
+  pub cell-there : (combination : ℕ) → combination < n → spot card flat combination ≡ Inside (record { 0 = getD after combination 0 })
+  -- entries past the last copy stay as they were
+  pub rest : drop n after ≡ drop n before
+
+-- every copy of a placement is what rules 1 to 5 say
+pub placement-copies : (card : Card) (shape coordinates : Tuple) (before after : List ℕ) (n : ℕ) → length (card .lengths) ≡ 8
+    → Placing card shape coordinates before after (Copies n) → Copied card (flatten shape coordinates) before after n
+unfolding placementMemory copyCells outsideAxis
+placement-copies card shape coordinates before after n eight p =
+    let flat = flatten shape coordinates in
+    let cells = copyCells card flat in
+    let all = all-inside card shape coordinates (length before) n (p .answer-is) in
+    let long : length cells ≡ n = cells-length (spot card flat) (copies card) ∙ sym (all .1) in
+    let filled : after ≡ cells ++ drop n before =
+    p .memory-is ∙ ap (λ (q : Placement). written q cells before) (sym (p .answer-is)) in
+    record {
+      one-each = all .1;
+      cell-there = λ r h.
+          let small : r < copies card = omega (arith, all .1) in
+          let entry : getD after r 0 ≡ cellOf (spot card flat r) =
+          ap (λ (l : List ℕ). getD l r 0) filled ∙ List·getD-append cells (drop n before) 0 r (omega (arith, long)) ∙ cells-at (spot card flat) (copies card) r small in
+          spot-inside card flat r eight (omega (arith, all .0, outside-least (spot card flat) (copies card) r small))
+          ∙ ap (λ (c : ℕ). Inside (record { 0 = c })) (sym entry);
+      rest = ap (drop n) filled ∙ drop-at cells (drop n before) n long;
+    }
+
+-- the axis that refusal 7 names: a copy lies outside on it, and none on a smaller one
+pub record SmallestOutside (card : Card) (flat axis : ℕ) : Type 0 where
+  pub somewhere : (combination : ℕ) × (combination < copies card) × (spot card flat combination ≡ Outside axis)
+  pub none-smaller : (combination other : ℕ) → combination < copies card → spot card flat combination ≡ Outside other → axis ≤ other
+
+past-is-outside : (p : Spot) → pastAxis p < length axes → p ≡ Outside (pastAxis p)
+past-is-outside (Inside cell) h = absurd (omega arith)
+past-is-outside (Outside axis) h = refl
+
+pub outside-axis-smallest : (card : Card) (flat : ℕ) → outsideAxis card flat < length axes → SmallestOutside card flat (outsideAxis card flat)
+unfolding outsideAxis
+outside-axis-smallest card flat h =
+    let at = spot card flat in
+    let f = outside-found at (copies card) h in
+    record {
+      somewhere = (f .0, f .1, past-is-outside (at (f .0)) (omega (arith, f .2)) ∙ ap Outside (f .2));
+      none-smaller = λ r other below e. omega (arith, outside-least at (copies card) r below, ap pastAxis e);
+    }
+
+-- and where it names none, every copy has its cell, below the cells
+pub outside-axis-none : (card : Card) (flat : ℕ) → length (card .lengths) ≡ 8 → length axes ≤ outsideAxis card flat
+    → (combination : ℕ) → combination < copies card
+    → (spot card flat combination ≡ Inside (record { 0 = cellOf (spot card flat combination) })) × (cellOf (spot card flat combination) < cells card)
+unfolding outsideAxis
+outside-axis-none card flat eight h r below =
+    let inside = spot-inside card flat r eight (omega (arith, outside-least (spot card flat) (copies card) r below)) in
+    (inside, cell-below card flat r (record { 0 = cellOf (spot card flat r) }) inside)

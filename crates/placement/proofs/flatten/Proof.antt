@@ -1,0 +1,37 @@
+-- `placement::flatten` is the element that the coordinates name: counted alike, they are numbered among the dimensions.
+use mathlib.Core.Path.{sym, _∙_}
+use borrow.Author.Needs.{needs}
+use Rattle.placement.proofs.Elements.{element-uncounted, element-found, element-past}
+use Rattle.placement.proofs.flatten.Statement.{statement}
+use Rattle.placement.proofs.flatten.Tie as tie
+
+returns : tie.Need-returns
+returns c = let a = c .before .before .before .before .before .args in element-uncounted (a .shape) (a .coordinates) (c .if1 .taken)
+
+locate-requires : tie.Need-locate-requires
+locate-requires c κs = search needs
+
+enum-known-number : tie.Need-enum-known-number
+enum-known-number c = search needs
+
+enum-told : tie.Need-enum-told
+enum-told c = search needs
+
+returns-2 : tie.Need-returns-2
+returns-2 c =
+    let l = c .before .before .before in
+    let i = l .before .before .before in
+    let a = i .before .before .before .before .before .args in
+    element-found (a .shape) (a .coordinates) (i .if1 .left) (c .before .number .given .0 .0) (sym (l .locate .ensures) ∙ c .before .number .given .1)
+
+returns-3 : tie.Need-returns-3
+returns-3 c =
+    let l = c .before .before in
+    let i = l .before .before .before in
+    let a = i .before .before .before .before .before .args in
+    element-past (a .shape) (a .coordinates) (i .if1 .left) (c .enum-told .given .0 .0) (sym (l .locate .ensures) ∙ c .enum-told .given .1)
+
+pub flatten-spec : {M : Type 1} → statement M
+flatten-spec =
+    tie.close
+    (tie.spec returns locate-requires enum-known-number enum-told returns-2 returns-3)

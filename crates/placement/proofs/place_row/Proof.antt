@@ -1,0 +1,40 @@
+-- `placement::place_row` places the copies of an element from its base, which the shard's walk leaves on the offset.
+use Prim.Native.Nat.{ℕ}
+use mathlib.Core.Path.{sym, subst}
+use mathlib.Core.List.{List}
+use borrow.Author.Needs.{needs}
+use Rattle.placement.specs.Placement.{Row}
+use Rattle.placement.specs.Inside.{spotFrom, cardOf, Ready}
+use Rattle.placement.proofs.Cards.{lent-shard, offset-sums, ready, row-of-card}
+use Rattle.placement.proofs.place_row.Statement.{statement}
+use Rattle.placement.proofs.place_row.Tie as tie
+
+walk-requires : tie.Need-walk-requires
+walk-requires c κs = let p = c .before .before .before .pre in (lent-shard p, offset-sums p)
+
+place-copies-requires : tie.Need-place-copies-requires
+place-copies-requires c κs =
+    let w = c .before .before in
+    let s = w .before .before .before .before in
+    let a = s .args in
+    subst
+    (λ (base : List ℕ). Ready base (a .replica-extents .now) (a .replica-strides .now) (a .replica-axes .now) (a .replica-count) (a .lengths .now) (a .swizzle))
+    (sym (w .walk .ensures)) (ready (s .pre) (a .flat .0))
+
+same-length : tie.Need-same-length
+same-length c = search needs
+
+returns : tie.Need-returns
+returns c =
+    let p = c .before .before in
+    let w = p .before .before .before in
+    let a = w .before .before .before .before .args in
+    let card =
+    cardOf (a .shard-extents .now) (a .shard-strides .now) (a .shard-axes .now) (a .shard-count) (a .replica-extents .now) (a .replica-strides .now)
+    (a .replica-axes .now) (a .replica-count) (a .offset .now) (a .lengths .now) (a .swizzle) in
+    row-of-card card (a .flat .0)
+    (subst (λ (base : List ℕ). Row (spotFrom (card .lengths) (card .swizzle) (card .replica) base) (a .row .now) (p .place-copies .last .1 .1 .1 .1 .1 .1 .1 .0) (p .place-copies .result))
+    (w .walk .ensures) (p .place-copies .ensures))
+
+pub place-row-spec : {M : Type 1} → statement M
+place-row-spec = tie.close (tie.spec walk-requires place-copies-requires same-length returns)

@@ -1,0 +1,31 @@
+-- `placement::spot_at` is the spot: all eight axes are numbered, and each arm's position is the definition's own.
+use mathlib.Core.Path.{_≡_, sym, ap₂, _∙_}
+use borrow.Author.Needs.{needs}
+use Rattle.placement.specs.RowMajor.{position}
+use Rattle.placement.proofs.Spaces.{whole, space-locatable}
+use Rattle.placement.proofs.spot_at.Statement.{statement}
+use Rattle.placement.proofs.spot_at.Tie as tie
+
+locate-requires : tie.Need-locate-requires
+locate-requires c κs = space-locatable (c .args .lengths .now) (c .args .coordinates .now) (c .pre .0) (c .pre .1)
+
+found : (c : tie.After-locate) → position (c .before .args .lengths .now) (c .before .args .coordinates .now) ≡ c .locate .result
+found c =
+    let s = c .before in
+    sym (c .locate .ensures ∙ ap₂ position (whole (s .args .lengths .now) (s .pre .0 .eight-lengths)) (whole (s .args .coordinates .now) (s .pre .1)))
+
+enum-known-number : tie.Need-enum-known-number
+enum-known-number c = search needs
+
+enum-known-axis : tie.Need-enum-known-axis
+enum-known-axis c = search needs
+
+returns : tie.Need-returns
+returns c = rw (found (c .before .before .before), c .before .number .given .1)
+
+returns-2 : tie.Need-returns-2
+returns-2 c = rw (found (c .before .before .before), c .before .axis .given .1)
+
+pub spot-at-spec : {M : Type 1} → statement M
+spot-at-spec =
+    tie.close (tie.spec locate-requires enum-known-number enum-known-axis returns returns-2)

@@ -1,0 +1,4 @@
+pub mod RowMajor
+pub mod Rules
+pub mod Placement
+pub mod Inside

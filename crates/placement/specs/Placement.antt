@@ -1,0 +1,118 @@
+-- The placement of one element: its copies, the order of checks, and what is left in the lent memory.
+use Prim.Native.Nat.{ℕ, zero, suc, _+_, min}
+use mathlib.Core.Path.{_≡_}
+use mathlib.Core.Bool.{Bool, cond, not, _&&_}
+use mathlib.Core.List.{List, [], _∷_, _++_, map}
+use lib.Dec.{leb, eqb, ltb}
+use lib.ListN.{length, take, drop}
+use Rattle.answers.specs.Refusals.{answer, refusalNumbers}
+use Rattle.answers.specs.declared.Numbers.{Numbers}
+use Rattle.answers.specs.declared.Refusal.the-variants.{Shape, Coordinate, TooShort, Outside as NotInside}
+use Rattle.card.specs.Lists.{within, product}
+use Rattle.card.specs.Card.{elements, copies}
+use Rattle.card.specs.Admission.{admission}
+use Rattle.card.specs.declared.Card.{Card}
+use Rattle.card.specs.declared.Admission.{Admission}
+use Rattle.card.specs.declared.Admission.the-variants.{Admitted, Refused as NotAdmitted}
+use Rattle.placement.specs.RowMajor.{rowMajor, inside}
+use Rattle.placement.specs.Rules.{axes, spot}
+use Rattle.placement.specs.declared.Tuple.{Tuple}
+use Rattle.placement.specs.declared.Spot.{Spot}
+use Rattle.placement.specs.declared.Spot.the-variants.{Inside, Outside}
+use Rattle.placement.specs.declared.Placement.{Placement}
+use Rattle.placement.specs.declared.Placement.the-variants.{Copies, Refused}
+
+-- the cell number of a spot, 0 outside
+abbrev pub cellOf : Spot → ℕ
+cellOf (Inside cell) = cell .0
+cellOf (Outside axis) = 0
+
+-- the smallest axis on which a spot lies outside, or the number of axes
+abbrev pub pastAxis : Spot → ℕ
+pastAxis (Inside cell) = length axes
+pastAxis (Outside axis) = axis
+
+-- n combinations from c on, by number: the last replica iter runs fastest
+abbrev pub combinations : ℕ → ℕ → List ℕ
+combinations c zero = []
+combinations c (suc n) = c ∷ combinations (c + 1) n
+
+-- one cell number per combination, repeats kept
+abbrev pub cellsOf : (ℕ → Spot) → ℕ → List ℕ
+cellsOf at n = map (λ combination. cellOf (at combination)) (combinations 0 n)
+
+-- the smallest axis on which one of them lies outside, or the number of axes
+abbrev pub smallest : List ℕ → ℕ
+smallest [] = length axes
+smallest (n ∷ ns) = min n (smallest ns)
+
+abbrev pub outsideOf : (ℕ → Spot) → ℕ → ℕ
+outsideOf at n = smallest (map (λ combination. pastAxis (at combination)) (combinations 0 n))
+
+-- a row after it was filled with the cells of as many combinations, and the smallest axis on which one lies outside
+pub record Row (at : ℕ → Spot) (before after : List ℕ) (outside : ℕ) : Type 0 where
+  pub cells : after ≡ cellsOf at (length before)
+  pub smallest-axis : outside ≡ outsideOf at (length before)
+
+-- the cells of all copies of an element, and the smallest axis on which a copy lies outside
+unfoldable pub copyCells : Card → ℕ → List ℕ
+copyCells card flat = cellsOf (spot card flat) (copies card)
+
+unfoldable pub outsideAxis : Card → ℕ → ℕ
+outsideAxis card flat = outsideOf (spot card flat) (copies card)
+
+-- a counted list of numbers: entries past the count are ignored
+abbrev pub entries : Tuple → List ℕ
+entries tuple = take (tuple .count) (tuple .at)
+
+-- 9: a shape has 1 to 8 dimensions and is admitted when its product equals the elements
+abbrev pub mostDimensions : ℕ
+mostDimensions = 8
+
+abbrev pub shapeAdmitted : Tuple → ℕ → Bool
+shapeAdmitted shape elements = within 1 mostDimensions (shape .count) && eqb (product (entries shape)) elements
+
+-- 10: as many coordinates as dimensions, each inside its own
+abbrev pub coordinatesFit : Tuple → Tuple → Bool
+coordinatesFit shape coordinates = eqb (coordinates .count) (shape .count) && inside (entries shape) (entries coordinates)
+
+-- rule 1: flattened row-major
+abbrev pub flatten : Tuple → Tuple → ℕ
+flatten shape coordinates = rowMajor (entries shape) (entries coordinates)
+
+-- after checks 1 to 6: 9, 10, 11, then 7 for this element alone
+abbrev pub placed : Card → Tuple → Tuple → ℕ → Placement
+placed card shape coordinates room =
+    cond (not (shapeAdmitted shape (elements card))) (Refused Shape)
+    (cond (not (coordinatesFit shape coordinates)) (Refused Coordinate)
+    (cond (not (leb (copies card) room)) (Refused (TooShort (copies card)))
+    (cond (ltb (outsideAxis card (flatten shape coordinates)) (length axes))
+    (Refused (NotInside (record { 0 = flatten shape coordinates }) (outsideAxis card (flatten shape coordinates))))
+    (Copies (copies card)))))
+
+abbrev pub afterAdmission : Admission → Placement → Placement
+afterAdmission Admitted placement = placement
+afterAdmission (NotAdmitted refusal) placement = Refused refusal
+
+-- the answer for any numbers and a lent memory of this length
+unfoldable pub placementAnswer : Card → Tuple → Tuple → ℕ → Placement
+placementAnswer card shape coordinates room = afterAdmission (admission card) (placed card shape coordinates room)
+
+-- the lent memory: the cells of the copies, entries past the last as they were; a refusal touches nothing
+abbrev pub written : Placement → List ℕ → List ℕ → List ℕ
+written (Copies n) cells before = cells ++ drop n before
+written (Refused refusal) cells before = before
+
+unfoldable pub placementMemory : Card → Tuple → Tuple → List ℕ → List ℕ
+placementMemory card shape coordinates before =
+    written (placementAnswer card shape coordinates (length before)) (copyCells card (flatten shape coordinates)) before
+
+-- what the placement of one element promises of its answer and of the lent memory before and after
+pub record Placing (card : Card) (shape coordinates : Tuple) (before after : List ℕ) (placement : Placement) : Type 0 where
+  pub answer-is : placement ≡ placementAnswer card shape coordinates (length before)
+  pub memory-is : after ≡ placementMemory card shape coordinates before
+
+-- at number 0 the copies
+abbrev pub placementNumbers : Placement → Numbers
+placementNumbers (Copies n) = answer 0 n 0 0
+placementNumbers (Refused refusal) = refusalNumbers refusal

@@ -1,0 +1,83 @@
+-- The cards of the test sheet: each list of iters is eight long, with zeros past its count, as a card has it.
+use Prim.Native.Nat.{ℕ, _-_}
+use mathlib.Core.List.{List, [], _∷_, _++_}
+use lib.ListN.{length, replicate}
+use Rattle.swizzle.specs.declared.Swizzle.{Swizzle}
+use Rattle.card.specs.declared.Iter.{Iter}
+use Rattle.card.specs.declared.Iters.{Iters}
+use Rattle.card.specs.declared.Card.{Card}
+use Rattle.placement.specs.declared.Tuple.{Tuple}
+
+-- the axes, by number
+abbrev pub warpid : ℕ
+warpid = 1
+
+abbrev pub laneid : ℕ
+laneid = 2
+
+abbrev pub TLane : ℕ
+TLane = 5
+
+abbrev pub TCol : ℕ
+TCol = 6
+
+abbrev pub m : ℕ
+m = 7
+
+-- an extent by a stride on an axis
+infix 70 _by_on_
+abbrev pub _by_on_ : ℕ → ℕ → ℕ → Iter
+extent by stride on axis = record { extent = extent; stride = stride; axis = axis }
+
+abbrev pub padded : {A : Type 0} → A → List A → List A
+padded zero xs = xs ++ replicate (8 - length xs) zero
+
+abbrev pub iters : List Iter → Iters
+iters xs = record { at = padded (0 by 0 on 0) xs; count = length xs }
+
+abbrev pub tuple : List ℕ → Tuple
+tuple xs = record { at = padded 0 xs; count = length xs }
+
+abbrev pub swizzle : ℕ → ℕ → ℕ → Swizzle
+swizzle M B S = record { m = M; b = B; s = S }
+
+-- no swizzle is B = 0, S = 3
+abbrev pub unswizzled : Swizzle
+unswizzled = swizzle 0 0 3
+
+abbrev pub none : List ℕ
+none = replicate 8 0
+
+-- tile X with lengths warpid and a replica stride: its own are 11 and 4
+abbrev pub tile : ℕ → ℕ → Card
+tile warps stride =
+    record {
+      shard = iters (8 by 4 on laneid ∷ 2 by 1 on warpid ∷ 4 by 1 on laneid ∷ 2 by 1 on m ∷ []);
+      replica = iters (2 by stride on warpid ∷ []);
+      offset = 0 ∷ 5 ∷ 0 ∷ 0 ∷ 0 ∷ 0 ∷ 0 ∷ 0 ∷ [];
+      lengths = 1 ∷ warps ∷ 32 ∷ 1 ∷ 1 ∷ 1 ∷ 1 ∷ 2 ∷ [];
+      swizzle = unswizzled;
+    }
+
+abbrev pub tileX : Card
+tileX = tile 11 4
+
+-- iters on m alone, in a length of m, with a swizzle
+abbrev pub onM : List Iter → ℕ → Swizzle → Card
+onM shard length w =
+    record { shard = iters shard; replica = iters []; offset = none; lengths = 1 ∷ 1 ∷ 1 ∷ 1 ∷ 1 ∷ 1 ∷ 1 ∷ length ∷ []; swizzle = w }
+
+-- iters in tensor memory, with its lanes and columns
+abbrev pub inTensorMemory : List Iter → List Iter → ℕ → ℕ → Card
+inTensorMemory shard replica lanes columns =
+    record {
+      shard = iters shard;
+      replica = iters replica;
+      offset = none;
+      lengths = 1 ∷ 1 ∷ 1 ∷ 1 ∷ 1 ∷ lanes ∷ columns ∷ 1 ∷ [];
+      swizzle = unswizzled;
+    }
+
+-- 004's accumulator of 224 columns
+abbrev pub wideTile : Card
+wideTile = inTensorMemory (2 by 112 on TCol ∷ 128 by 1 on TLane ∷ 112 by 1 on TCol ∷ []) [] 128 224
