@@ -13,7 +13,7 @@ const NO_SWIZZLE: Swizzle = Swizzle { m: 0, b: 0, s: 3 };
 
 /// A card of these iters, without offset, in the smallest space that holds
 /// every coordinate before the swizzle.
-fn card_of(shard: &[Iter], replica: &[Iter]) -> Card {
+pub fn card_of(shard: &[Iter], replica: &[Iter]) -> Card {
     let slot = |iters: &[Iter], k: usize| iters.get(k).copied().unwrap_or_default();
     let mut card = Card {
         shard_count: shard.len() as u64,
@@ -37,7 +37,7 @@ fn fit(card: &mut Card) {
     card.space = largest.map(|coordinate| coordinate + 1);
 }
 
-fn shuffle<T>(random: &mut Random, things: &mut [T]) {
+pub fn shuffle<T>(random: &mut Random, things: &mut [T]) {
     for at in (1..things.len()).rev() {
         things.swap(at, random.index(at + 1));
     }
@@ -258,7 +258,7 @@ fn spread(random: &mut Random) -> Card {
     card
 }
 
-fn iter(extent: u64, stride: u64, axis: u64) -> Iter {
+pub fn iter(extent: u64, stride: u64, axis: u64) -> Iter {
     Iter {
         extent,
         stride,

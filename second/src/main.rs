@@ -4,6 +4,7 @@
 
 mod cards;
 mod fragment;
+mod large;
 mod layout;
 mod lines;
 mod loads;
@@ -11,6 +12,7 @@ mod malformed;
 mod mask;
 mod random;
 mod swizzle;
+mod verdict;
 mod words;
 
 use std::env;
@@ -21,6 +23,7 @@ const USAGE: &str = "usage: second answer
        second blocks
        second random SEED COUNT
        second exhaustive
+       second large
 ";
 
 /// Answers standard input to its end.
@@ -46,6 +49,7 @@ fn run(arguments: &[&[u8]], out: &mut impl Write) -> Option<io::Result<()>> {
         [b"answer"] => answer(out),
         [b"blocks"] => out.write_all(&loads::blocks()),
         [b"exhaustive"] => out.write_all(&fragment::exhaustive()),
+        [b"large"] => out.write_all(&large::large()),
         [b"random", seed, count] => print_random(out, seed, lines::number(count)?),
         _ => return None,
     })

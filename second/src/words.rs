@@ -10,6 +10,7 @@ use crate::lines::Answer;
 use crate::mask;
 use crate::random::Random;
 use crate::swizzle;
+use crate::verdict;
 
 pub struct Word {
     pub name: &'static str,
@@ -36,6 +37,9 @@ pub const FIELDS_SEED: u64 = 0x6669_656c_6473_0005;
 pub const DESCRIPTOR_SEED: u64 = 0x6465_7363_7269_7006;
 pub const MASK_SEED: u64 = 0x6d61_736b_0000_0007;
 pub const PLACE_SEED: u64 = 0x706c_6163_6500_0008;
+pub const VERDICT_SEED: u64 = 0x7665_7264_6963_7409;
+pub const OWNER_SEED: u64 = 0x6f77_6e65_7200_007a;
+pub const STRETCH_SEED: u64 = 0x7374_7265_7463_680b;
 
 pub const WORDS: &[Word] = &[
     Word {
@@ -108,6 +112,33 @@ pub const WORDS: &[Word] = &[
         numbers: cards::place_numbers,
         seed: PLACE_SEED,
         lines: 300,
+        long_lines: 1,
+    },
+    Word {
+        name: "verdict",
+        count: 58,
+        answer: verdict::answer_verdict,
+        numbers: verdict::verdict_numbers,
+        seed: VERDICT_SEED,
+        lines: 300,
+        long_lines: 1,
+    },
+    Word {
+        name: "owner",
+        count: 66,
+        answer: verdict::answer_owner,
+        numbers: verdict::owner_numbers,
+        seed: OWNER_SEED,
+        lines: 300,
+        long_lines: 1,
+    },
+    Word {
+        name: "stretch",
+        count: 18,
+        answer: verdict::answer_stretch,
+        numbers: verdict::stretch_numbers,
+        seed: STRETCH_SEED,
+        lines: 400,
         long_lines: 1,
     },
 ];

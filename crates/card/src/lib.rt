@@ -145,7 +145,8 @@ pub fn product(numbers: [u64; 8], count: u64) -> u64
     part
 }
 
-// Check 1: the iter counts of shard and replica.
+// Check 1: the iter counts of shard and replica. The checks are public for the crates above, which
+// make some of them alone; 2, 3 and 5 read as many iters as check 1 allows, and require it.
 pub fn counts_fit(card: Card) -> bool
     ensures { λ r. ⌜ r ≡ countsFit card ⌝ }
 {
@@ -166,8 +167,7 @@ fn iters_fit(iters: Iters) -> bool
         & all_within(strides, iters.count, 0, MOST_STRIDE)
 }
 
-// Check 2: every extent, stride and offset. This check and the next two of iters are made after
-// check 1.
+// Check 2: every extent, stride and offset.
 pub fn numbers_fit(card: Card) -> bool
     requires { ⌜ countsFit card ≡ true ⌝ }
     ensures { λ r. ⌜ r ≡ numbersFit card ⌝ }

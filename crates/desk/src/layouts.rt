@@ -25,8 +25,8 @@ fn iter(numbers: &[u64; 80], from: usize) -> Iter
     }
 }
 
-// Eight numbers from a place of a line on.
-fn eight(numbers: &[u64; 80], from: usize) -> [u64; 8]
+// Eight numbers from a place of a line on, which has that many.
+pub fn eight(numbers: &[u64; 80], from: usize) -> [u64; 8]
     requires { ⌜ from ≤ 72 ⌝ }
 {
     [

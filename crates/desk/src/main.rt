@@ -6,6 +6,7 @@ mod lines;
 mod masks;
 mod print;
 mod swizzles;
+mod tables;
 
 use libc::STDIN_FILENO;
 use libc::STDOUT_FILENO;
@@ -24,6 +25,9 @@ enum Word {
     Descriptor,
     Mask,
     Place,
+    Verdict,
+    Owner,
+    Stretch,
     Unknown,
 }
 
@@ -52,6 +56,15 @@ fn word_of(name: &[u8]) -> Word {
     if check::same(name, b"place") {
         return Word::Place;
     }
+    if check::same(name, b"verdict") {
+        return Word::Verdict;
+    }
+    if check::same(name, b"owner") {
+        return Word::Owner;
+    }
+    if check::same(name, b"stretch") {
+        return Word::Stretch;
+    }
     Word::Unknown
 }
 
@@ -66,6 +79,9 @@ fn wanted(word: Word) -> usize {
         Word::Descriptor => 12,
         Word::Mask => 4,
         Word::Place => 76,
+        Word::Verdict => 58,
+        Word::Owner => 66,
+        Word::Stretch => 18,
         Word::Unknown => 0,
     }
 }
@@ -81,6 +97,9 @@ fn ask(word: Word, numbers: &[u64; 80], out: &mut [u8], at: usize) -> usize {
         Word::Descriptor => masks::descriptor(numbers, out, at),
         Word::Mask => masks::mask(numbers, out, at),
         Word::Place => layouts::place(numbers, out, at),
+        Word::Verdict => tables::verdict(numbers, out, at),
+        Word::Owner => tables::owner(numbers, out, at),
+        Word::Stretch => tables::stretch(numbers, out, at),
         Word::Unknown => print::unknown(out, at),
     }
 }

@@ -1,4 +1,6 @@
 pub mod RowMajor
+pub mod Prefixes
+pub mod Positions
 pub mod Joined
 pub mod Along
 pub mod Turn

@@ -57,6 +57,10 @@ pub components-of-flat : (card : Card) (flat : ℕ) → flat < elements card
     → rowMajor (map extentOf (listed (card .shard))) (components (map extentOf (listed (card .shard))) flat) ≡ flat
 components-of-flat card flat h = components-give-back (map extentOf (listed (card .shard))) flat h
 
+-- rule 3: the numbers below the copies name each replica combination once
+pub combination-one-to-one : (card : Card) → OneToOne (map extentOf (listed (card .replica)))
+combination-one-to-one card = one-to-one (map extentOf (listed (card .replica)))
+
 -- rule 5: cell numbers name each cell below the cells by one coordinate tuple inside the space
 pub cell-one-to-one : (card : Card) → OneToOne (card .lengths)
 cell-one-to-one card = one-to-one (card .lengths)

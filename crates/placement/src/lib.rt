@@ -82,8 +82,9 @@ fn walk(
     }
 }
 
-// Where coordinates are among sizes: their number row-major, or the first place past its size.
-fn locate(sizes: &[u64; 8], coordinates: &[u64; 8], count: u64) -> Position
+// Where coordinates are among sizes: their number row-major, or the first place past its size. Public,
+// with a requires, for the crates above.
+pub fn locate(sizes: &[u64; 8], coordinates: &[u64; 8], count: u64) -> Position
     requires { ⌜ Locatable (now sizes) (now coordinates) count ⌝ }
     ensures { λ r. ⌜ r ≡ position (take count (now (sizes .entry))) (take count (now (coordinates .entry))) ⌝ }
 {
@@ -101,8 +102,9 @@ fn locate(sizes: &[u64; 8], coordinates: &[u64; 8], count: u64) -> Position
     Position::At(number)
 }
 
-// The spot of coordinates in a space.
-fn spot_at(lengths: &[u64; 8], coordinates: &[u64; 8]) -> Spot
+// The spot of coordinates in a space. Public, with a requires, for the crates above, which ask for a
+// cell by its coordinates.
+pub fn spot_at(lengths: &[u64; 8], coordinates: &[u64; 8]) -> Spot
     requires { ⌜ Space (now lengths) × (length (now coordinates) ≡ 8) ⌝ }
     ensures { λ r. ⌜ r ≡ spotAt (position (now (lengths .entry)) (now (coordinates .entry))) ⌝ }
 {

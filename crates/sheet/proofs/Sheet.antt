@@ -1,6 +1,6 @@
 -- Every load of the sheet has its stated answer: one test that the checker computes over the whole table, and the law that turns it
 -- into each load.
-use mathlib.Core.Path.{_≡_, refl, ap₂}
+use mathlib.Core.Path.{_≡_, refl, sym, ap, ap₂}
 use mathlib.Core.Bool.{Bool, true, false, _&&_, and-eq-true-iff}
 use mathlib.Core.List.{List, [], _∷_}
 use Prim.Native.Nat.{ℕ, _<_}
@@ -20,7 +20,12 @@ use Rattle.card.specs.Admission.{admission}
 use Rattle.placement.specs.RowMajor.{position}
 use Rattle.placement.specs.Rules.{coordinates, spot}
 use Rattle.placement.specs.Placement.{copyCells, outsideAxis, placementAnswer, placementMemory}
-use Rattle.sheet.specs.Questions.{Question, Reply, asked}
+use Rattle.card.specs.declared.Card.{Card}
+use Rattle.verdict.specs.Verdict.{VerdictPromise, OwnerPromise, verdictNumbers, ownerNumbers}
+use Rattle.verdict.specs.declared.Verdict.{Verdict}
+use Rattle.verdict.specs.declared.Owner.{Owner}
+use Rattle.verdict.proofs.Run.{verdict-is-run, owner-is-run}
+use Rattle.sheet.specs.Questions.{Question, verdict, owner, Reply, reply, asked}
 use Rattle.sheet.specs.Loads.{Load, loads}
 
 -- two replies are the same, tested
@@ -81,3 +86,16 @@ unfolding meets
 sheet-holds other k h =
     let load = getD loads k other in
     reply-same (asked (load .question)) (load .stated) (every-at meets loads other test k h)
+
+-- a load of the verdict is a load of its promise: whatever the promise allows has the numbers that the run computes
+pub verdict-carried : (card : Card) (before after : List ℕ) (v : Verdict) → VerdictPromise card before after v
+    → asked (verdict card before) ≡ reply (verdictNumbers v) []
+unfolding asked
+verdict-carried card before after v p = ap (λ (w : Verdict). reply (verdictNumbers w) []) (sym (verdict-is-run card before after v p .0))
+
+-- and so is one of the owner
+pub owner-carried : (card : Card) (coordinates before after : List ℕ) (o : Owner) → OwnerPromise card coordinates before after o
+    → asked (owner card coordinates before) ≡ reply (ownerNumbers o) []
+unfolding asked
+owner-carried card coordinates before after o p =
+    ap (λ (w : Owner). reply (ownerNumbers w) []) (sym (owner-is-run card coordinates before after o p .0))

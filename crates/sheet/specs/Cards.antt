@@ -81,3 +81,15 @@ inTensorMemory shard replica lanes columns =
 -- 004's accumulator of 224 columns
 abbrev pub wideTile : Card
 wideTile = inTensorMemory (2 by 112 on TCol ∷ 128 by 1 on TLane ∷ 112 by 1 on TCol ∷ []) [] 128 224
+
+-- 004's scale factors: 32 rows, routed to the four warps of a warpgroup
+abbrev pub scaleFactors : Card
+scaleFactors = inTensorMemory (32 by 1 on TLane ∷ 4 by 1 on TCol ∷ []) (4 by 32 on TLane ∷ []) 128 4
+
+-- 65 elements in a row, swizzled
+abbrev pub sixtyFive : ℕ → Card
+sixtyFive length = onM (65 by 1 on m ∷ []) length (swizzle 3 3 3)
+
+-- Figure 189's layout as printed
+abbrev pub figure189 : Card
+figure189 = onM (2 by 64 on m ∷ 8 by 8 on m ∷ 4 by 4 on m ∷ 4 by 1 on m ∷ []) 256 (swizzle 2 1 3)

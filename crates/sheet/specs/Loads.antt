@@ -2,11 +2,12 @@
 use Prim.Native.Nat.{ℕ}
 use mathlib.Core.Bool.{Bool, true, false}
 use mathlib.Core.List.{List, [], _∷_}
+use lib.ListN.{replicate}
 use Rattle.answers.specs.Refusals.{answer}
 use Rattle.mask.specs.Descriptor.{descriptorOf}
 use Rattle.mask.specs.declared.Fields.{Fields}
-use Rattle.sheet.specs.Questions.{Question, swizzle, mode, fragment, descriptor, mask, place, Reply, reply}
-use Rattle.sheet.specs.Cards.{tuple, tileX, onM, _by_on_, m, wideTile}
+use Rattle.sheet.specs.Questions.{Question, swizzle, mode, fragment, descriptor, mask, place, verdict, owner, stretch, Reply, reply}
+use Rattle.sheet.specs.Cards.{tuple, tile, tileX, onM, _by_on_, m, wideTile, scaleFactors, sixtyFive, figure189}
 use Rattle.sheet.specs.Cards.{swizzle as swizzleBy}
 
 pub record Load : Type 0 where
@@ -49,6 +50,10 @@ abbrev pub element128 : ℕ → ℕ → Question
 element128 i j =
     place (onM (8 by 64 on m ∷ 64 by 1 on m ∷ []) 512 (swizzleBy 3 3 3)) (tuple (8 ∷ 64 ∷ [])) (tuple (i ∷ j ∷ [])) (1000000 ∷ [])
 
+-- a table of so many entries
+abbrev pub table : ℕ → List ℕ
+table n = replicate n 1000000
+
 unfoldable pub loads : List Load
 loads =
     -- swizzles
@@ -88,4 +93,20 @@ loads =
     ∷ (element128 3 21 is reply (answer 0 1 0 0) (205 ∷ []))
     -- source document 004's accumulator of 224 columns has too many cells
     ∷ (place wideTile (tuple (2 ∷ 128 ∷ 112 ∷ [])) (tuple (1 ∷ 127 ∷ 111 ∷ [])) (1000000 ∷ []) is reply (answer 4 0 0 0) (1000000 ∷ []))
+    -- verdicts: tile X, with warpid 10, with replica stride 1
+    ∷ (verdict tileX (table 704) is reply (answer 0 128 256 704) [])
+    ∷ (verdict (tile 10 4) (table 704) is reply (answer 7 8 1 0) [])
+    ∷ (verdict (tile 11 1) (table 704) is reply (answer 8 0 8 384) [])
+    ∷ (verdict tileX (table 703) is reply (answer 11 704 0 0) [])
+    -- the scale factors: cell 150, TLane 37 and TCol 2, belongs to element 22
+    ∷ (owner scaleFactors (0 ∷ 0 ∷ 0 ∷ 0 ∷ 0 ∷ 37 ∷ 2 ∷ 0 ∷ []) (table 512) is reply (answer 0 23 0 0) [])
+    -- the 65-element swizzle
+    ∷ (verdict (sixtyFive 72) (table 72) is reply (answer 7 64 7 0) [])
+    ∷ (verdict (sixtyFive 73) (table 73) is reply (answer 0 65 65 73) [])
+    -- Figure 189's layout
+    ∷ (verdict figure189 (table 256) is reply (answer 8 8 16 8) [])
+    -- the accumulator of 224 columns: 28,672 cells
+    ∷ (verdict wideTile [] is reply (answer 4 0 0 0) [])
+    -- the stretch of tile X's table under warpid 6
+    ∷ (stretch (tileX .lengths) 1 (0 ∷ 6 ∷ 99 ∷ 0 ∷ 0 ∷ 0 ∷ 0 ∷ 0 ∷ []) (table 704) is reply (answer 0 384 64 0) (replicate 64 1000000))
     ∷ []

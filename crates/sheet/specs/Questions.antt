@@ -12,6 +12,9 @@ use Rattle.mask.specs.declared.Fields.{Fields}
 use Rattle.card.specs.declared.Card.{Card}
 use Rattle.placement.specs.Placement.{placementAnswer, placementMemory, placementNumbers}
 use Rattle.placement.specs.declared.Tuple.{Tuple}
+use Rattle.table.specs.Stretch.{stretchAnswer, stretchOf, stretchNumbers}
+use Rattle.verdict.specs.Verdict.{verdictOf, ownerOf, verdictNumbers, ownerNumbers}
+use Rattle.verdict.specs.Run.{judge, ownerRun}
 
 pub data Question : Type 0 where
   -- M, B, S and the address
@@ -26,6 +29,12 @@ pub data Question : Type 0 where
   mask : ℕ → ℕ → ℕ → List ℕ → Question
   -- the card, the shape, the coordinates and the lent entries
   place : Card → Tuple → Tuple → List ℕ → Question
+  -- the card and the lent table
+  verdict : Card → List ℕ → Question
+  -- the card, eight coordinates and the lent table
+  owner : Card → List ℕ → List ℕ → Question
+  -- eight lengths, the axis, eight coordinates and the lent table; the values are the stretch
+  stretch : List ℕ → ℕ → List ℕ → List ℕ → Question
 
 -- a number with its details, and the values in lent memory where a question lends some
 pub record Reply : Type 0 where
@@ -45,3 +54,9 @@ asked (mask M N d lent) =
     reply (maskNumbers generated) (maskMemory generated M N d lent)
 asked (place card shape coordinates lent) =
     reply (placementNumbers (placementAnswer card shape coordinates (length lent))) (placementMemory card shape coordinates lent)
+asked (verdict card table) = reply (verdictNumbers (verdictOf card (judge card (length table)))) []
+asked (owner card coordinates table) =
+    reply (ownerNumbers (ownerOf card coordinates (ownerRun card coordinates (length table)) table)) []
+asked (stretch lengths axis coordinates table) =
+    let located = stretchAnswer lengths axis coordinates (length table) in
+    reply (stretchNumbers located) (stretchOf located table)

@@ -1,0 +1,128 @@
+-- What the definition of the stretch means, in plain for-alls, from the laws on the checks and on prefixes.
+use mathlib.Core.Path.{_≡_, refl, sym, ap, _∙_}
+use mathlib.Core.Bool.{Bool, true, false, cond}
+use mathlib.Core.Logic.{_↔_}
+use mathlib.Core.List.{List, [], _∷_}
+use Prim.Native.Nat.{ℕ, zero, suc, _+_, _≤_, _<_}
+use native.Mathlib.Numerals.{add-one}
+use native.Mathlib.Omega.{arith}
+use lib.Dec.{ltb}
+use borrow.Author.Tests.{ltb-true, ltb-false}
+use lib.ListN.{length, getD, drop, length-take, length-drop}
+use Rattle.answers.specs.declared.Cell.{Cell}
+use Rattle.answers.specs.declared.Numbers.{Numbers}
+use Rattle.answers.specs.declared.Refusal.{Refusal}
+use Rattle.answers.specs.declared.Refusal.the-variants.{Space, TooShort, CellOutside}
+use Rattle.answers.proofs.OneToOne.{readBack, refused-back, pinned}
+use Rattle.card.specs.Lists.{product}
+use Rattle.placement.specs.RowMajor.{rowMajor, components, inside, firstPast}
+use Rattle.placement.proofs.RowMajor.{components-inside, components-give-back}
+use Rattle.placement.proofs.Prefixes.{prefix-under}
+use Rattle.table.specs.Stretch.{asked, stretchAnswer, stretchOf, stretchNumbers}
+use Rattle.table.specs.declared.Located.{Located}
+use Rattle.table.specs.declared.Located.the-variants.{Stretch, Refused}
+use Rattle.table.proofs.Checks.{answer-passed, answer-within}
+
+-- two outcomes that the promise of the companion question allows are equal
+pub locate-settled : (lengths : List ℕ) (axis : ℕ) (coordinates : List ℕ) (entries : ℕ) (p q : Located)
+    → p ≡ stretchAnswer lengths axis coordinates entries → q ≡ stretchAnswer lengths axis coordinates entries → p ≡ q
+locate-settled lengths axis coordinates entries p q e f = e ∙ sym f
+
+-- and so are two that the promise of the stretch itself allows
+pub stretch-settled : (table lengths : List ℕ) (axis : ℕ) (coordinates p q : List ℕ)
+    → p ≡ stretchOf (stretchAnswer lengths axis coordinates (length table)) table
+    → q ≡ stretchOf (stretchAnswer lengths axis coordinates (length table)) table → p ≡ q
+stretch-settled table lengths axis coordinates p q e f = e ∙ sym f
+
+-- pinning the numbers pins the answer
+stretchAt : Numbers → Located
+stretchAt n = Stretch (record { 0 = n .a }) (n .b)
+
+stretch-back : (p : Located) → readBack stretchAt Refused (stretchNumbers p) ≡ p
+unfolding stretchAt
+stretch-back (Stretch first long) = refl
+stretch-back (Refused r) = refused-back stretchAt Refused r
+
+pub stretch-one-to-one : (p q : Located) → stretchNumbers p ≡ stretchNumbers q → p ≡ q
+stretch-one-to-one = pinned stretchAt Refused stretchNumbers stretch-back
+
+-- a stretch looks at no coordinate past its axis
+pub past-axis : (lengths : List ℕ) (axis : ℕ) (coordinates others : List ℕ) (entries : ℕ) → asked axis coordinates ≡ asked axis others
+    → stretchAnswer lengths axis coordinates entries ≡ stretchAnswer lengths axis others entries
+past-axis lengths axis coordinates others entries e = rw e
+
+-- the axis that refusal 12 names is the smallest one outside: its coordinate is not below its length, and each before it is
+pub outside-smallest : (lengths coordinates : List ℕ) → firstPast lengths coordinates < length coordinates
+    → (getD lengths (firstPast lengths coordinates) 0 ≤ getD coordinates (firstPast lengths coordinates) 0)
+    × ((b : ℕ) → b < firstPast lengths coordinates → getD coordinates b 0 < getD lengths b 0)
+outside-smallest [] coordinates = λ h. (omega arith, λ b k. absurd (omega arith))
+outside-smallest (l ∷ lengths) [] = λ h. absurd (omega arith)
+outside-smallest (l ∷ lengths) (c ∷ coordinates) =
+    rw (add-one (firstPast lengths coordinates)) (split (ltb c l) refl (outside-smallest lengths coordinates))
+  where
+    next : ℕ
+    next = firstPast lengths coordinates
+
+    split : (b : Bool) → ltb c l ≡ b
+        → (next < length coordinates → (getD lengths next 0 ≤ getD coordinates next 0) × ((b : ℕ) → b < next → getD coordinates b 0 < getD lengths b 0))
+        → cond b (suc next) 0 < suc (length coordinates)
+        → (getD (l ∷ lengths) (cond b (suc next) 0) 0 ≤ getD (c ∷ coordinates) (cond b (suc next) 0) 0)
+        × ((b′ : ℕ) → b′ < cond b (suc next) 0 → getD (c ∷ coordinates) b′ 0 < getD (l ∷ lengths) b′ 0)
+    split true t rest h =
+        let r = rest (omega arith) in
+        (r .0, λ b. elim b [ zero ↦ λ k. ltb-true c l t | suc a ↦ λ k. r .1 a (omega arith) ])
+    split false t rest h = (ltb-false c l t, λ b k. absurd (omega arith))
+
+module _ (lengths : List ℕ) (axis : ℕ) (coordinates : List ℕ) (entries : ℕ) (first : Cell) (long : ℕ)
+    (found : stretchAnswer lengths axis coordinates entries ≡ Stretch first long) where
+  -- the stretch lies within the cells, and these within the table
+  pub stretch-within : (first .0 + long ≤ product lengths) × (product lengths ≤ entries)
+  stretch-within = let w = answer-within lengths axis coordinates entries first long found in (w .ends, w .held)
+
+  -- it has exactly the cells under the asked coordinates: a cell lies in it exactly when its coordinates begin with them
+  pub stretch-exactly : (at : List ℕ) → inside lengths at ≡ true
+      → (asked axis at ≡ asked axis coordinates) ↔ ((first .0 ≤ rowMajor lengths at) × (rowMajor lengths at < first .0 + long))
+  stretch-exactly at i =
+      let passed = answer-passed lengths axis coordinates entries first long found in
+      rw (passed .first-is, passed .long-is) (prefix-under (axis + 1) lengths coordinates (passed .inside-asked) at i)
+
+  -- and each of its cells has coordinates inside the space
+  pub stretch-somewhere : (cell : ℕ) → cell < first .0 + long
+      → (inside lengths (components lengths cell) ≡ true) × (rowMajor lengths (components lengths cell) ≡ cell)
+  stretch-somewhere cell h =
+      let within = stretch-within in
+      (components-inside lengths cell (omega arith), components-give-back lengths cell (omega arith))
+
+-- an empty stretch means refused, and a refused one is empty
+pub empty-refused : (table lengths : List ℕ) (axis : ℕ) (coordinates : List ℕ)
+    → (stretchOf (stretchAnswer lengths axis coordinates (length table)) table ≡ [])
+    ↔ ((r : Refusal) × (stretchAnswer lengths axis coordinates (length table) ≡ Refused r))
+empty-refused table lengths axis coordinates =
+    (split (stretchAnswer lengths axis coordinates (length table)) refl, λ refused. rw (refused .1))
+  where
+    split : (a : Located) → stretchAnswer lengths axis coordinates (length table) ≡ a → stretchOf a table ≡ [] → (r : Refusal) × (a ≡ Refused r)
+    split (Stretch first long) e q =
+        let w = answer-within lengths axis coordinates (length table) first long e in
+        absurd (omega (arith, ap length q, length-take long (drop (first .0) table), length-drop (first .0) table))
+    split (Refused r) e q = (r, refl)
+
+-- document 01's tile X: the stretch of warpid 6, and the table one entry too short for it
+tile : List ℕ
+tile = 1 ∷ 11 ∷ 32 ∷ 1 ∷ 1 ∷ 1 ∷ 1 ∷ 2 ∷ []
+
+warp-six : stretchAnswer tile 1 (0 ∷ 6 ∷ 0 ∷ 0 ∷ 0 ∷ 0 ∷ 0 ∷ 0 ∷ []) 704 ≡ Stretch (record { 0 = 384 }) 64
+unfolding tile
+warp-six = refl
+
+one-short : stretchAnswer tile 1 (0 ∷ 6 ∷ 0 ∷ 0 ∷ 0 ∷ 0 ∷ 0 ∷ 0 ∷ []) 703 ≡ Refused (TooShort 704)
+unfolding tile
+one-short = refl
+
+-- warpid 11 is outside, which is judged before the table's length
+warp-eleven : stretchAnswer tile 1 (0 ∷ 11 ∷ 0 ∷ 0 ∷ 0 ∷ 0 ∷ 0 ∷ 0 ∷ []) 0 ≡ Refused (CellOutside 1)
+unfolding tile
+warp-eleven = refl
+
+-- 28,672 cells are too many
+too-many : stretchAnswer (1 ∷ 1 ∷ 1 ∷ 1 ∷ 1 ∷ 128 ∷ 224 ∷ 1 ∷ []) 0 (0 ∷ 0 ∷ 0 ∷ 0 ∷ 0 ∷ 0 ∷ 0 ∷ 0 ∷ []) 28672 ≡ Refused Space
+too-many = refl

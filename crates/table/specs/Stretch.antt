@@ -1,0 +1,45 @@
+-- A stretch of the owner table, document 01: for an axis and the coordinates of all axes up to and with it, the cells under that
+-- prefix; its checks in their order, 3, 4, 12, 11.
+use mathlib.Core.Bool.{cond, not}
+use mathlib.Core.List.{List, []}
+use Prim.Native.Nat.{ℕ, _+_}
+use lib.Dec.{ltb}
+use lib.ListN.{take, drop}
+use Rattle.answers.specs.Refusals.{answer, refusalNumbers}
+use Rattle.answers.specs.declared.Numbers.{Numbers}
+use Rattle.answers.specs.declared.Refusal.the-variants.{Axis, Space, TooShort, CellOutside}
+use Rattle.card.specs.Limits.{lastAxis}
+use Rattle.card.specs.Lists.{product}
+use Rattle.card.specs.Admission.{spaceFits}
+use Rattle.placement.specs.RowMajor.{rowMajor, inside, firstPast}
+use Rattle.table.specs.declared.Located.{Located}
+use Rattle.table.specs.declared.Located.the-variants.{Stretch, Refused}
+
+-- of one number per axis, those of all axes up to and with the asked one
+abbrev pub asked : ℕ → List ℕ → List ℕ
+asked axis numbers = take (axis + 1) numbers
+
+-- the first cell under the asked coordinates, and as many cells as the axes after the asked one have
+abbrev pub stretchUnder : List ℕ → ℕ → List ℕ → Located
+stretchUnder lengths axis coordinates =
+    Stretch (record { 0 = rowMajor lengths (asked axis coordinates) }) (product (drop (axis + 1) lengths))
+
+-- the answer, for a table of so many entries
+abbrev pub stretchAnswer : List ℕ → ℕ → List ℕ → ℕ → Located
+stretchAnswer lengths axis coordinates entries =
+    cond (ltb lastAxis axis) (Refused Axis)
+    (cond (not (spaceFits lengths)) (Refused Space)
+    (cond (not (inside (asked axis lengths) (asked axis coordinates)))
+    (Refused (CellOutside (firstPast (asked axis lengths) (asked axis coordinates))))
+    (cond (ltb entries (product lengths)) (Refused (TooShort (product lengths)))
+    (stretchUnder lengths axis coordinates))))
+
+-- the stretch of the table itself: empty where refused
+abbrev pub stretchOf : Located → List ℕ → List ℕ
+stretchOf (Stretch first length) table = take length (drop (first .0) table)
+stretchOf (Refused refusal) table = []
+
+-- at number 0 its first cell and length
+abbrev pub stretchNumbers : Located → Numbers
+stretchNumbers (Stretch first length) = answer 0 (first .0) length 0
+stretchNumbers (Refused refusal) = refusalNumbers refusal

@@ -1,0 +1,7 @@
+pub mod Laws
+pub mod Promises
+pub mod Owners
+pub mod Unique
+pub mod Run
+pub mod Theorems
+pub mod Leaves

@@ -1,0 +1,156 @@
+-- `verdict::claim_all` claims one element after the other: with the loop's index in the place of the elements, the table is approved so far.
+use Prim.Native.Nat.{ℕ, _-_, _≤_}
+use mathlib.Core.Path.{_≡_, refl, ap, _∙_}
+use native.Mathlib.Omega.{arith}
+use lib.ListN.{length, replicate, length-replicate}
+use Rattle.card.specs.Card.{elements, cells}
+use Rattle.card.specs.declared.Card.{Card}
+use Rattle.card.proofs.Admitted.{sized}
+use Rattle.placement.specs.Inside.{cardOf}
+use Rattle.claims.specs.Claims.{Approved}
+use Rattle.verdict.specs.Judgement.{placed}
+use Rattle.verdict.specs.Inside.{Claimable}
+use Rattle.verdict.proofs.Laws.{Ready, row-ready, claims-none, claims-count, claims-more, claims-met, claims-clash}
+use Rattle.verdict.proofs.Promises.{clash-promise, approved-promise}
+use Rattle.verdict.proofs.claim_all.Statement.{statement}
+use Rattle.verdict.proofs.claim_all.Tie as tie
+
+abbrev Inv-loop : tie.InvT-loop
+Inv-loop shard-extents shard-strides shard-axes shard-count replica-extents replica-strides replica-axes replica-count offset lengths swizzle elements row₀ table₀ occupied₀ flat₀ row table occupied flat =
+    let card = cardOf shard-extents shard-strides shard-axes shard-count replica-extents replica-strides replica-axes replica-count offset lengths swizzle in
+    (flat ≤ elements) × (length row ≡ length row₀) × Approved (placed card) flat (cells card) table occupied
+
+abbrev μ-loop : tie.MeasureT-loop
+μ-loop shard-extents shard-strides shard-axes shard-count replica-extents replica-strides replica-axes replica-count offset lengths swizzle elements row₀ table₀ occupied₀ flat₀ row table occupied flat =
+    elements - flat
+
+-- the lent card
+abbrev card : tie.Start Inv-loop μ-loop → Card
+card s =
+    let a = s .args in
+    cardOf (a .shard-extents .now) (a .shard-strides .now) (a .shard-axes .now) (a .shard-count) (a .replica-extents .now) (a .replica-strides .now)
+    (a .replica-axes .now) (a .replica-count) (a .offset .now) (a .lengths .now) (a .swizzle)
+
+-- the table lent has exactly the cells
+exact : (s : tie.Start Inv-loop μ-loop) → length (s .args .table .now) ≡ cells (card s)
+exact s = ap length (s .pre .1 .1) ∙ length-replicate (cells (card s)) 0
+
+-- the element that is claimed can be, and its row is ready for it
+claimable : (t : tie.In-loop Inv-loop μ-loop) → Claimable (card (t .before .before .before .before)) (t .before .loop .flat) (t .before .loop .table)
+claimable t =
+    let s = t .before .before .before .before in
+    record { inside = s .pre .1 .0; element = omega (arith, s .pre .0 .all-elements); size = t .before .loop .inv .2 .size }
+
+abbrev test : tie.After-claim-element Inv-loop μ-loop → tie.In-loop Inv-loop μ-loop
+test m = m .before .before .before
+
+ready : (m : tie.After-claim-element Inv-loop μ-loop) → Ready (test m .before .loop .flat) (m .claim-element .last .1 .1 .1 .1 .1 .1 .1 .1 .1 .1 .1 .1 .0) (test m .before .loop .table)
+ready m =
+    let l = test m .before .loop in
+    let s = test m .before .before .before .before in
+    row-ready (card s) (l .flat) (l .table) (s .pre .0 .lent .admitted) (claimable (test m)) (m .claim-element .ensures .placed)
+
+-- the table has as many cells after the claim
+size : (m : tie.After-claim-element Inv-loop μ-loop) → length (m .claim-element .last .1 .1 .1 .1 .1 .1 .1 .1 .1 .1 .1 .1 .1 .0) ≡ cells (card (test m .before .before .before .before))
+size m = m .claim-element .kept .1 .1 .1 .1 .1 .1 .1 .1 .1 .1 .1 .1 .1 .0 ∙ test m .before .loop .inv .2 .size
+
+loop-holds : tie.Need-loop-holds Inv-loop μ-loop
+loop-holds c =
+    let s = c .before .before in (
+      omega arith,
+      refl,
+      rw (s .pre .1 .1) (claims-none (card s)),
+    )
+
+claim-element-requires : tie.Need-claim-element-requires Inv-loop μ-loop
+claim-element-requires c κs =
+    let t = c .before .before in
+    let s = t .before .before .before .before in
+    (s .pre .0 .lent, (t .before .loop .inv .1 ∙ s .pre .0 .one-each, claimable t))
+
+refuse-clash-requires : tie.Need-refuse-clash-requires Inv-loop μ-loop
+refuse-clash-requires c κs =
+    let m = c .before .before .before .before .before .before .before in
+    let l = test m .before .loop in
+    let s = test m .before .before .before .before in
+    let met = claims-met (card s) (l .flat) (m .claim-element .result) (l .occupied) (l .inv .2) (m .claim-element .ensures) (c .before .before .if1 .taken) in
+    (rw (met .1) (ready m .within), met .0)
+
+same-length : tie.Need-same-length Inv-loop μ-loop
+same-length c = omega arith
+
+same-length-2 : tie.Need-same-length-2 Inv-loop μ-loop
+same-length-2 c =
+    let m = c .before .before .before .before .before .before .before .before .before .before in
+    omega (arith, exact (test m .before .before .before .before))
+
+returns : tie.Need-returns Inv-loop μ-loop
+returns c =
+    let r = c .before .before in
+    let i = r .before .before .before in
+    let m = i .before .before .before .before .before in
+    let l = test m .before .loop in
+    let s = test m .before .before .before .before in
+    let a = s .args in
+    clash-promise (card s) (a .table .now) (s .pre .0 .lent .admitted) (exact s) (s .pre .1 .0)
+    (m .claim-element .last .1 .1 .1 .1 .1 .1 .1 .1 .1 .1 .1 .1 .1 .0) (m .claim-element .last .1 .1 .1 .1 .1 .1 .1 .1 .1 .1 .1 .1 .0) (record { 0 = l .flat })
+    (claims-clash (card s) (l .flat) (m .claim-element .result) (l .occupied) (l .inv .2) (m .claim-element .ensures) (claimable (test m) .element) (i .if1 .taken))
+    (r .refuse-clash .ensures .0) (r .refuse-clash .ensures .1 ∙ ap (λ (n : ℕ). replicate n 0) (size m))
+
+add-occupied : tie.Need-add-occupied Inv-loop μ-loop
+add-occupied c =
+    let m = c .before .before .before .before .before in
+    let l = test m .before .loop in
+    let s = test m .before .before .before .before in
+    let n = sized (card s) (s .pre .0 .lent .admitted) in
+    omega (arith, claims-count (card s) (l .flat) (m .claim-element .result) (l .occupied) (l .inv .2) (m .claim-element .ensures) (size m))
+
+add-flat : tie.Need-add-flat Inv-loop μ-loop
+add-flat c = omega arith
+
+loop-less : tie.Need-loop-less Inv-loop μ-loop
+loop-less c = omega arith
+
+loop-again : tie.Need-loop-again Inv-loop μ-loop
+loop-again c =
+    let m = c .before .before .before .before .before in
+    let l = test m .before .loop in
+    let s = test m .before .before .before .before in (
+      omega arith,
+      m .claim-element .kept .1 .1 .1 .1 .1 .1 .1 .1 .1 .1 .1 .1 .0 ∙ l .inv .1,
+      claims-more (card s) (l .flat) (m .claim-element .result) (l .occupied) (l .inv .2) (m .claim-element .ensures) (ready m .within) (size m) (omega arith),
+    )
+
+same-length-3 : tie.Need-same-length-3 Inv-loop μ-loop
+same-length-3 c = omega arith
+
+same-length-4 : tie.Need-same-length-4 Inv-loop μ-loop
+same-length-4 c = omega (arith, exact (c .before .before .before .before))
+
+returns-2 : tie.Need-returns-2 Inv-loop μ-loop
+returns-2 c =
+    let l = c .before .loop in
+    let s = c .before .before .before .before in
+    let end : l .flat ≡ elements (card s) = omega (arith, s .pre .0 .all-elements) in
+    approved-promise (card s) (s .args .table .now) (s .pre .0 .lent .admitted) (exact s) (s .pre .1 .0)
+    (rw end at (l .inv .2)) (s .pre .0 .all-elements) (l .inv .2 .size)
+
+pub claim-all-spec : {M : Type 1} → statement M
+claim-all-spec =
+    tie.close
+    (tie.spec
+    Inv-loop
+    μ-loop
+    loop-holds
+    claim-element-requires
+    refuse-clash-requires
+    same-length
+    same-length-2
+    returns
+    add-occupied
+    add-flat
+    loop-less
+    loop-again
+    same-length-3
+    same-length-4
+    returns-2)

@@ -1,0 +1,48 @@
+-- `verdict::claim_element` places the row and claims it: the row is the card's, so it lies in the cells.
+use mathlib.Core.Path.{_≡_}
+use Rattle.card.specs.declared.Card.{Card}
+use Rattle.placement.specs.Placement.{copyCells}
+use Rattle.placement.specs.Inside.{cardOf}
+use Rattle.verdict.proofs.Laws.{row-cells, row-ready}
+use borrow.Author.Needs.{needs}
+use Rattle.verdict.proofs.claim_element.Statement.{statement}
+use Rattle.verdict.proofs.claim_element.Tie as tie
+
+-- the lent card
+abbrev card : tie.Start → Card
+card s =
+    let a = s .args in
+    cardOf (a .shard-extents .now) (a .shard-strides .now) (a .shard-axes .now) (a .shard-count) (a .replica-extents .now) (a .replica-strides .now)
+    (a .replica-axes .now) (a .replica-count) (a .offset .now) (a .lengths .now) (a .swizzle)
+
+abbrev start : tie.After-place-row → tie.Start
+start p = p .before .before .before .before
+
+-- the row as it is placed
+is-placed : (p : tie.After-place-row) → p .place-row .last .1 .1 .1 .1 .1 .1 .1 .1 .1 .1 .1 .1 .0 ≡ copyCells (card (start p)) (start p .args .flat .0)
+is-placed p = row-cells (card (start p)) (start p .args .flat .0) (p .place-row .ensures) (start p .pre .1 .0)
+
+place-row-requires : tie.Need-place-row-requires
+place-row-requires c κs = search needs
+
+claim-row-requires : tie.Need-claim-row-requires
+claim-row-requires c κs =
+    let p = c .before .before .before .before in
+    let s = start p in
+    let r = row-ready (card s) (s .args .flat .0) (s .args .table .now) (s .pre .0 .admitted) (s .pre .1 .1) (is-placed p) in
+    (r .within, (r .some, r .small))
+
+same-length : tie.Need-same-length
+same-length c = search needs
+
+same-length-2 : tie.Need-same-length-2
+same-length-2 c = search needs
+
+returns : tie.Need-returns
+returns c =
+    let m = c .before .before in
+    record { placed = is-placed (m .before .before .before .before .before); claim = m .claim-row .ensures }
+
+pub claim-element-spec : {M : Type 1} → statement M
+claim-element-spec =
+    tie.close (tie.spec place-row-requires claim-row-requires same-length same-length-2 returns)

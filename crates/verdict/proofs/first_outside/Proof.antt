@@ -1,0 +1,85 @@
+-- `verdict::first_outside` looks at one element after the other: below the loop's index every copy lies in the space.
+use Prim.Native.Nat.{_-_, _≤_}
+use mathlib.Core.Path.{_≡_, refl, _∙_}
+use native.Mathlib.Nat.{not-suc-le-zero}
+use native.Mathlib.Omega.{arith}
+use lib.ListN.{length}
+use Rattle.card.specs.declared.Card.{Card}
+use Rattle.placement.specs.Inside.{cardOf}
+use Rattle.verdict.proofs.Laws.{InsideBelow, inside-more, outside-first}
+use Rattle.verdict.proofs.first_outside.Statement.{statement}
+use Rattle.verdict.proofs.first_outside.Tie as tie
+
+abbrev Inv-loop : tie.InvT-loop
+Inv-loop shard-extents shard-strides shard-axes shard-count replica-extents replica-strides replica-axes replica-count offset lengths swizzle elements row₀ flat₀ row flat =
+    (flat ≤ elements) × (length row ≡ length row₀)
+    × InsideBelow (cardOf shard-extents shard-strides shard-axes shard-count replica-extents replica-strides replica-axes replica-count offset lengths swizzle) flat
+
+abbrev μ-loop : tie.MeasureT-loop
+μ-loop shard-extents shard-strides shard-axes shard-count replica-extents replica-strides replica-axes replica-count offset lengths swizzle elements row₀ flat₀ row flat =
+    elements - flat
+
+-- the lent card
+abbrev card : tie.Start Inv-loop μ-loop → Card
+card s =
+    let a = s .args in
+    cardOf (a .shard-extents .now) (a .shard-strides .now) (a .shard-axes .now) (a .shard-count) (a .replica-extents .now) (a .replica-strides .now)
+    (a .replica-axes .now) (a .replica-count) (a .offset .now) (a .lengths .now) (a .swizzle)
+
+loop-holds : tie.Need-loop-holds Inv-loop μ-loop
+loop-holds c = (omega arith, refl, λ f r h. absurd (not-suc-le-zero h))
+
+place-row-requires : tie.Need-place-row-requires Inv-loop μ-loop
+place-row-requires c κs = c .before .before .before .before .pre .lent
+
+same-length : tie.Need-same-length Inv-loop μ-loop
+same-length c = omega arith
+
+returns : tie.Need-returns Inv-loop μ-loop
+returns c =
+    let p = c .before .before .before in
+    let l = p .before .before .before .loop in
+    let s = p .before .before .before .before .before in
+    let all = s .pre .all-elements in
+    outside-first (card s) (l .flat) (p .place-row .ensures) (l .inv .1 ∙ s .pre .one-each) (c .if1 .taken) (omega arith) (l .inv .2)
+
+add-flat : tie.Need-add-flat Inv-loop μ-loop
+add-flat c = omega arith
+
+loop-less : tie.Need-loop-less Inv-loop μ-loop
+loop-less c = omega arith
+
+loop-again : tie.Need-loop-again Inv-loop μ-loop
+loop-again c =
+    let p = c .before .before .before in
+    let l = p .before .before .before .loop in
+    let s = p .before .before .before .before .before in (
+      omega arith,
+      p .place-row .kept .1 .1 .1 .1 .1 .1 .1 .1 .1 .1 .1 .1 .0 ∙ l .inv .1,
+      inside-more (card s) (l .flat) (p .place-row .ensures) (l .inv .1 ∙ s .pre .one-each) (s .pre .lent .eight-lengths) (c .if1 .left) (l .inv .2),
+    )
+
+same-length-2 : tie.Need-same-length-2 Inv-loop μ-loop
+same-length-2 c = omega arith
+
+returns-2 : tie.Need-returns-2 Inv-loop μ-loop
+returns-2 c =
+    let l = c .before .loop in
+    let s = c .before .before .before in
+    λ f r h. l .inv .2 f r (omega (arith, s .pre .all-elements))
+
+pub first-outside-spec : {M : Type 1} → statement M
+first-outside-spec =
+    tie.close
+    (tie.spec
+    Inv-loop
+    μ-loop
+    loop-holds
+    place-row-requires
+    same-length
+    returns
+    add-flat
+    loop-less
+    loop-again
+    same-length-2
+    returns-2)

@@ -1,0 +1,84 @@
+-- `verdict::judge_cells` is the verdict of the card: its columns, lent, are the numbers of this card and no other.
+use Prim.Native.Nat.{ℕ, _≤_}
+use mathlib.Core.Path.{_≡_, sym, ap, _∙_, subst}
+use native.Mathlib.Omega.{arith}
+use lib.ListN.{length, take, replicate}
+use lib.Seq.{length-take-le}
+use Rattle.card.specs.Card.{elements, copies}
+use Rattle.card.specs.declared.Card.{Card}
+use Rattle.card.specs.declared.Sizes.{Sizes}
+use Rattle.card.proofs.Admitted.{sized}
+use Rattle.card.proofs.Filled.{length-of}
+use Rattle.placement.proofs.Cards.{unpacked, lent-columns}
+use Rattle.verdict.specs.Verdict.{VerdictPromise}
+use borrow.Author.Needs.{needs}
+use Rattle.verdict.proofs.judge_cells.Statement.{statement}
+use Rattle.verdict.proofs.judge_cells.Tie as tie
+
+-- both lists of iters are unpacked, and the function's start from there
+abbrev both : tie.After-lengths2 → tie.After-unpack2
+both c = c .before .before .before .before .before .before .before .before .before .before .before .before .before .before
+
+abbrev start : tie.After-lengths2 → tie.Start
+start c = both c .before .before .before .before .before .before .before
+
+-- the card's arrays are of eight
+eight : (s : tie.Start) → (length (s .args .card .shard .at) ≡ 8) × (length (s .args .card .replica .at) ≡ 8) × (length (s .args .card .offset) ≡ 8) × (length (s .args .card .lengths) ≡ 8)
+eight s = (search (needs, length-of), search (needs, length-of), search needs, search needs)
+
+-- the row is as long as there are copies
+few : (s : tie.Start) → s .args .sizes .copies ≤ 64
+few s = let n = sized (s .args .card) (s .pre .0) in let e = ap (λ (z : Sizes). z .copies) (s .pre .1 .0) in omega arith
+
+long : (s : tie.Start) → length {A = ℕ} (take (s .args .sizes .copies) (replicate 64 0)) ≡ s .args .sizes .copies
+long s = length-take-le (s .args .sizes .copies) (replicate 64 0) (few s)
+
+unpack-requires : tie.Need-unpack-requires
+unpack-requires c κs = search needs
+
+unpack-requires-2 : tie.Need-unpack-requires-2
+unpack-requires-2 c κs = search needs
+
+array-borrow-prefix-row : tie.Need-array-borrow-prefix-row
+array-borrow-prefix-row c = few (start c)
+
+slice-aggregate-judge-lent : tie.Need-slice-aggregate-judge-lent
+slice-aggregate-judge-lent c = sym (long (start (c .before)))
+
+judge-lent-requires : tie.Need-judge-lent-requires
+judge-lent-requires c κs =
+    let l = c .before .before in
+    let s = start l in
+    let n = eight s in
+    let card = s .args .card in
+    let same = unpacked card (both l .before .unpack .ensures) (both l .unpack2 .ensures) in (
+      record {
+        lent = lent-columns card (both l .before .unpack .ensures) (both l .unpack2 .ensures) (s .pre .0) (n .0) (n .1) (n .2) (n .3);
+        all-elements = ap (λ (z : Sizes). z .elements) (s .pre .1 .0) ∙ ap elements (sym same);
+        one-each = long s ∙ ap (λ (z : Sizes). z .copies) (s .pre .1 .0) ∙ ap copies (sym same);
+      },
+      s .pre .1 .1,
+    )
+
+same-length : tie.Need-same-length
+same-length c = search needs
+
+returns : tie.Need-returns
+returns c =
+    let m = c .before .before .before in
+    let l = m .before .before .before in
+    let a = start l .args in
+    subst (λ (card : Card). VerdictPromise card (a .table .now) (m .judge-lent .last .1 .1 .1 .1 .1 .1 .1 .1 .1 .1 .1 .1 .1 .0) (m .judge-lent .result))
+    (unpacked (a .card) (both l .before .unpack .ensures) (both l .unpack2 .ensures)) (m .judge-lent .ensures)
+
+pub judge-cells-spec : {M : Type 1} → statement M
+judge-cells-spec =
+    tie.close
+    (tie.spec
+    unpack-requires
+    unpack-requires-2
+    array-borrow-prefix-row
+    slice-aggregate-judge-lent
+    judge-lent-requires
+    same-length
+    returns)

@@ -1,0 +1,96 @@
+-- `verdict::judge_lent` is the first pass and then the second, in the cleared cells.
+use Prim.Native.Nat.{ℕ}
+use mathlib.Core.Path.{_≡_, ap, _∙_}
+use lib.ListN.{replicate}
+use Rattle.card.specs.Card.{cells}
+use Rattle.card.specs.declared.Card.{Card}
+use Rattle.placement.specs.Inside.{cardOf}
+use Rattle.verdict.proofs.Promises.{outside-promise, cells-anew}
+use borrow.Author.Needs.{needs}
+use Rattle.verdict.proofs.judge_lent.Statement.{statement}
+use Rattle.verdict.proofs.judge_lent.Tie as tie
+
+-- the function's start from the first pass, and the lent card
+abbrev start : tie.After-clear → tie.Start
+start k = k .before .before .before .before
+
+abbrev clearing : tie.After-first-outside → tie.After-clear
+clearing p = p .before .before .before .before
+
+abbrev card : tie.Start → Card
+card s =
+    let a = s .args in
+    cardOf (a .shard-extents .now) (a .shard-strides .now) (a .shard-axes .now) (a .shard-count) (a .replica-extents .now) (a .replica-strides .now)
+    (a .replica-axes .now) (a .replica-count) (a .offset .now) (a .lengths .now) (a .swizzle)
+
+-- the cells are all nobody's
+is-cleared : (k : tie.After-clear) → k .clear .last .0 ≡ replicate (cells (card (start k))) 0
+is-cleared k = k .clear .ensures ∙ ap (λ (n : ℕ). replicate n 0) (start k .pre .1)
+
+clear-requires : tie.Need-clear-requires
+clear-requires c κs = search needs
+
+first-outside-requires : tie.Need-first-outside-requires
+first-outside-requires c κs = search needs
+
+enum-known-search : tie.Need-enum-known-search
+enum-known-search c = search needs
+
+same-length : tie.Need-same-length
+same-length c = search needs
+
+same-length-2 : tie.Need-same-length-2
+same-length-2 c = search needs
+
+returns : tie.Need-returns
+returns c =
+    let p = c .before .before .before .before .before in
+    let k = clearing p in
+    let s = start k in
+    let first = rw (c .before .search .given .1) at (p .first-outside .ensures) in
+    outside-promise (card s) (s .args .table .now) (s .pre .0 .lent .admitted) (s .pre .1) _ _ first (is-cleared k)
+
+enum-told : tie.Need-enum-told
+enum-told c = search needs
+
+claim-all-requires : tie.Need-claim-all-requires
+claim-all-requires c κs =
+    let p = c .before .before .before .before .before .before in
+    let k = clearing p in
+    let s = start k in (
+      record {
+        lent = s .pre .0 .lent;
+        all-elements = s .pre .0 .all-elements;
+        one-each = p .first-outside .kept .1 .1 .1 .1 .1 .1 .1 .1 .1 .1 .1 .1 .0 ∙ s .pre .0 .one-each;
+      },
+      (rw (c .before .before .enum-told .given .1) at (p .first-outside .ensures), is-cleared k),
+    )
+
+same-length-3 : tie.Need-same-length-3
+same-length-3 c = search needs
+
+same-length-4 : tie.Need-same-length-4
+same-length-4 c = search needs
+
+returns-2 : tie.Need-returns-2
+returns-2 c =
+    let m = c .before .before .before .before in
+    let k = clearing (m .before .before .before .before .before .before .before) in
+    let s = start k in
+    cells-anew (card s) (s .args .table .now) (k .clear .last .0) (s .pre .0 .lent .admitted) (s .pre .1) (k .clear .kept .0 ∙ s .pre .1) (m .claim-all .ensures)
+
+pub judge-lent-spec : {M : Type 1} → statement M
+judge-lent-spec =
+    tie.close
+    (tie.spec
+    clear-requires
+    first-outside-requires
+    enum-known-search
+    same-length
+    same-length-2
+    returns
+    enum-told
+    claim-all-requires
+    same-length-3
+    same-length-4
+    returns-2)

@@ -1,0 +1,93 @@
+-- `verdict::owner_of` is the ladder of checks, and then the entry read at the cell that the coordinates name.
+use mathlib.Core.Path.{_≡_, sym, _∙_}
+use lib.ListN.{length}
+use Rattle.card.specs.Admission.{admission}
+use Rattle.card.specs.declared.Admission.the-variants.{Admitted}
+use Rattle.card.proofs.Admitted.{checked}
+use Rattle.verdict.proofs.Owners.{owner-refused, owner-outside, asked-below, owner-read}
+use borrow.Author.Needs.{needs}
+use Rattle.verdict.proofs.owner_of.Statement.{statement}
+use Rattle.verdict.proofs.owner_of.Tie as tie
+
+-- the lengths and the coordinates are of eight
+eight : (s : tie.Start) → (length (s .args .card .lengths) ≡ 8) × (length (s .args .t2) ≡ 8)
+eight s = (search needs, search needs)
+
+-- the card is admitted, and the spot is that of the coordinates
+abbrev start : tie.After-enum-told → tie.Start
+start k = k .before .before .before .before
+
+admitted : (k : tie.After-enum-told) → admission (start k .args .card) ≡ Admitted
+admitted k = sym (k .before .before .admit .ensures) ∙ k .enum-told .given .1
+
+abbrev told : tie.After-spot-at → tie.After-enum-told
+told p = p .before .before .before .before
+
+admit-requires : tie.Need-admit-requires
+admit-requires c κs = search needs
+
+enum-known-admission : tie.Need-enum-known-admission
+enum-known-admission c = search needs
+
+returns : tie.Need-returns
+returns c =
+    let d = c .before .before .before in
+    let a = d .before .before .args in
+    owner-refused (a .card) (a .t2) (a .table .now) (sym (d .admit .ensures) ∙ c .before .admission .given .1)
+
+enum-told : tie.Need-enum-told
+enum-told c = search needs
+
+spot-at-requires : tie.Need-spot-at-requires
+spot-at-requires c κs =
+    let k = c .before .before .before in
+    let s = start k in
+    (record { eight-lengths = eight s .0; fits = checked (s .args .card) (admitted k) .space }, eight s .1)
+
+enum-known-spot : tie.Need-enum-known-spot
+enum-known-spot c = search needs
+
+owner-at-requires : tie.Need-owner-at-requires
+owner-at-requires c κs =
+    let p = c .before .before .before .before in
+    let k = told p in
+    let a = start k .args in
+    (admitted k, asked-below (a .card) (a .t2) (a .table .now) (admitted k) (sym (p .spot-at .ensures) ∙ c .before .before .spot .given .1))
+
+enum-known-spot-2 : tie.Need-enum-known-spot-2
+enum-known-spot-2 c = search needs
+
+same-length : tie.Need-same-length
+same-length c = search needs
+
+returns-2 : tie.Need-returns-2
+returns-2 c =
+    let o = c .before .before in
+    let t = o .before .before .before in
+    let p = t .before .before in
+    let k = told p in
+    let a = start k .args in
+    owner-read (a .card) (a .t2) (a .table .now) (admitted k) (sym (p .spot-at .ensures) ∙ t .spot .given .1) (o .owner-at .ensures)
+
+returns-3 : tie.Need-returns-3
+returns-3 c =
+    let p = c .before .before .before in
+    let k = told p in
+    let a = start k .args in
+    owner-outside (a .card) (a .t2) (a .table .now) (admitted k) (sym (p .spot-at .ensures) ∙ c .before .spot2 .given .1)
+
+pub owner-of-spec : {M : Type 1} → statement M
+owner-of-spec =
+    tie.close
+    (tie.spec
+    admit-requires
+    enum-known-admission
+    returns
+    enum-told
+    spot-at-requires
+    enum-known-spot
+    owner-at-requires
+    enum-known-spot-2
+    same-length
+    returns-2
+    returns-3)

@@ -1,0 +1,53 @@
+-- What the functions inside speak of: an admitted card's numbers lent as arrays of eight, and a row lent for the copies of one element.
+use mathlib.Core.Path.{_≡_}
+use mathlib.Core.List.{List}
+use Prim.Native.Nat.{ℕ, _<_}
+use lib.ListN.{length, getD}
+use Rattle.swizzle.specs.declared.Swizzle.{Swizzle}
+use Rattle.card.specs.Card.{elements, copies, cells}
+use Rattle.card.specs.declared.Card.{Card}
+use Rattle.placement.specs.Placement.{copyCells}
+use Rattle.placement.specs.Inside.{cardOf, LentCard}
+use Rattle.claims.specs.Rows.{RowClaim}
+use Rattle.verdict.specs.Judgement.{AllInside, FirstOutside, Judgement, ComesTo}
+use Rattle.verdict.specs.Verdict.{verdictOf, tableAfter, readEntry}
+use Rattle.verdict.specs.declared.Owner.{Owner}
+use Rattle.verdict.specs.declared.Search.{Search}
+use Rattle.verdict.specs.declared.Search.the-variants.{Outside, NoneOutside}
+
+-- what a pass over the elements is lent: an admitted card's numbers, how many elements it has, and a row as long as its copies
+pub record Pass (shard-extents shard-strides shard-axes : List ℕ) (shard-count : ℕ) (replica-extents replica-strides replica-axes : List ℕ)
+    (replica-count : ℕ) (offset lengths : List ℕ) (swizzle : Swizzle) (count : ℕ) (row : List ℕ) : Type 0 where
+  pub lent :
+      LentCard shard-extents shard-strides shard-axes shard-count replica-extents replica-strides replica-axes replica-count offset lengths swizzle
+  pub all-elements :
+      count
+      ≡ elements
+      (cardOf shard-extents shard-strides shard-axes shard-count replica-extents replica-strides replica-axes replica-count offset lengths swizzle)
+  pub one-each :
+      length row
+      ≡ copies
+      (cardOf shard-extents shard-strides shard-axes shard-count replica-extents replica-strides replica-axes replica-count offset lengths swizzle)
+
+-- what the first pass finds
+abbrev pub Finds : Card → Search → Type 0
+Finds card (Outside flat axis) = FirstOutside card (flat .0) axis
+Finds card NoneOutside = AllInside card
+
+-- an element can be claimed: every copy of every element lies in the space, and the table has exactly the cells
+pub record Claimable (card : Card) (flat : ℕ) (table : List ℕ) : Type 0 where
+  pub inside : AllInside card
+  pub element : flat < elements card
+  pub size : length table ≡ cells card
+
+-- one element's claim: its row is placed, and claimed or not
+pub record ElementClaim (card : Card) (flat newly : ℕ) (row before after : List ℕ) : Type 0 where
+  pub placed : row ≡ copyCells card flat
+  pub claim : RowClaim row flat newly before after
+
+-- the verdict, and one entry read of the table after it
+pub record ReadAt (card : Card) (cell : ℕ) (before after : List ℕ) (owner : Owner) : Type 0 where
+  pub judgement : Judgement
+  pub comes : ComesTo card (length before) judgement
+  pub answers : owner ≡ readEntry (verdictOf card judgement) (getD (tableAfter card judgement before) cell 0)
+  pub leaves : after ≡ tableAfter card judgement before

@@ -1,0 +1,59 @@
+-- What a card comes to in a table of so many entries: document 01's order 1, 2, 3, 4, 5, 6, 11, 7, 8.
+use mathlib.Core.Path.{_≡_}
+use mathlib.Core.List.{List}
+use Prim.Native.Nat.{ℕ, _≤_, _<_}
+use Rattle.answers.specs.declared.Refusal.{Refusal}
+use Rattle.card.specs.Card.{elements, copies, cells}
+use Rattle.card.specs.Admission.{admission}
+use Rattle.card.specs.declared.Card.{Card}
+use Rattle.card.specs.declared.Admission.the-variants.{Admitted, Refused}
+use Rattle.placement.specs.Rules.{spot}
+use Rattle.placement.specs.Placement.{cellOf}
+use Rattle.placement.specs.declared.Spot.{Spot}
+use Rattle.placement.specs.declared.Spot.the-variants.{Inside, Outside}
+use Rattle.claims.specs.Claims.{Placement, NoneShare, Approved, FirstClash}
+
+-- where the copies of a card's elements go
+abbrev pub placed : Card → Placement
+placed card = record { copies = copies card; at = λ flat combination. cellOf (spot card flat combination) }
+
+abbrev pub LiesInside : Spot → Type 0
+LiesInside (Inside cell) = Unit
+LiesInside (Outside axis) = ⊥
+
+-- every copy of every element lies in the space
+abbrev pub AllInside : Card → Type 0
+AllInside card = (flat combination : ℕ) → flat < elements card → combination < copies card → LiesInside (spot card flat combination)
+
+-- no two different elements share a cell
+abbrev pub NoTwoShare : Card → Type 0
+NoTwoShare card = NoneShare (placed card) (elements card)
+
+-- 7: the smallest flat of which a copy lies outside the space, and the smallest axis for it
+pub record FirstOutside (card : Card) (flat axis : ℕ) : Type 0 where
+  pub element : flat < elements card
+  pub combination : ℕ
+  pub copy : combination < copies card
+  pub outside : spot card flat combination ≡ Outside axis
+  pub smallest-axis : (r other : ℕ) → r < copies card → spot card flat r ≡ Outside other → axis ≤ other
+  pub smallest-flat : (f r other : ℕ) → r < copies card → spot card f r ≡ Outside other → flat ≤ f
+
+pub data Judgement : Type 0 where
+  NotAdmitted : (refusal : Refusal) → Judgement
+  NoRoom : Judgement
+  OutsideAt : (flat axis : ℕ) → Judgement
+  Clashing : (x y cell : ℕ) → Judgement
+  Passed : (owners : List ℕ) (occupied : ℕ) → Judgement
+
+-- checks 1 to 6 and 11 are passed
+pub record Judged (card : Card) (room : ℕ) : Type 0 where
+  pub admitted : admission card ≡ Admitted
+  pub enough : cells card ≤ room
+
+abbrev pub ComesTo : Card → ℕ → Judgement → Type 0
+ComesTo card room (NotAdmitted refusal) = admission card ≡ Refused refusal
+ComesTo card room NoRoom = (admission card ≡ Admitted) × (room < cells card)
+ComesTo card room (OutsideAt flat axis) = Judged card room × FirstOutside card flat axis
+ComesTo card room (Clashing x y cell) = Judged card room × AllInside card × FirstClash (placed card) (elements card) x y cell
+ComesTo card room (Passed owners occupied) =
+    Judged card room × AllInside card × Approved (placed card) (elements card) (cells card) owners occupied

@@ -1,0 +1,4 @@
+pub mod Judgement
+pub mod Verdict
+pub mod Inside
+pub mod Run

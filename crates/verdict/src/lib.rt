@@ -1,0 +1,376 @@
+// The verdict on a layout card, and the owner of a cell.
+use answers::Cell;
+use answers::Flat;
+use answers::Numbers;
+use answers::Refusal;
+use card::Admission;
+use card::Card;
+use card::Sizes;
+use placement::Spot;
+use swizzle::Swizzle;
+use table::owners;
+ghost use mathlib.Core.Path.{_≡_};
+ghost use Prim.Native.Nat.{_<_};
+ghost use lib.ListN.{length, replicate};
+ghost use Rattle.card.specs.Card.{copies, cells, sizes as sizesOf};
+ghost use Rattle.card.specs.Admission.{admission};
+ghost use Rattle.card.specs.declared.Admission.the-variants.{Admitted};
+ghost use Rattle.placement.specs.Inside.{cardOf, LentCard};
+ghost use Rattle.claims.specs.Rows.{Within, entryMet};
+ghost use Rattle.table.specs.Owners.{clashOf};
+ghost use Rattle.verdict.specs.Judgement.{AllInside};
+ghost use Rattle.verdict.specs.Verdict.{VerdictPromise, OwnerPromise, verdictNumbers, ownerNumbers};
+ghost use Rattle.verdict.specs.Inside.{Pass, Finds, Claimable, ElementClaim, ReadAt};
+
+// How many axes there are: past the last stands for none.
+const AXES: u64 = card::LAST_AXIS + 1;
+
+// The answer to the verdict: elements, occupied cells and cells of an approved card.
+pub enum Verdict {
+    Approved {
+        elements: u64,
+        occupied: u64,
+        cells: u64,
+    },
+    Refused(Refusal),
+}
+
+// The answer to the owner of a cell: the entry read, the flat index plus 1, or 0 for nobody.
+pub enum Owner {
+    Entry(u64),
+    Refused(Refusal),
+}
+
+// What the first pass over the elements finds.
+enum Search {
+    Outside { flat: Flat, axis: u64 },
+    NoneOutside,
+}
+
+// The first pass: the smallest element of which a copy lies outside the space.
+fn first_outside(
+    shard_extents: &[u64; 8],
+    shard_strides: &[u64; 8],
+    shard_axes: &[u64; 8],
+    shard_count: u64,
+    replica_extents: &[u64; 8],
+    replica_strides: &[u64; 8],
+    replica_axes: &[u64; 8],
+    replica_count: u64,
+    offset: &[u64; 8],
+    lengths: &[u64; 8],
+    swizzle: Swizzle,
+    elements: u64,
+    row: &mut [u32],
+) -> Search
+    requires { ⌜ Pass (now «shard_extents») (now «shard_strides») (now «shard_axes») «shard_count» (now «replica_extents») (now «replica_strides») (now «replica_axes») «replica_count» (now offset) (now lengths) swizzle elements (now row) ⌝ }
+    ensures { λ r. ⌜ Finds (cardOf (now («shard_extents» .entry)) (now («shard_strides» .entry)) (now («shard_axes» .entry)) «shard_count» (now («replica_extents» .entry)) (now («replica_strides» .entry)) (now («replica_axes» .entry)) «replica_count» (now (offset .entry)) (now (lengths .entry)) swizzle) r ⌝ }
+{
+    let mut flat: u64 = 0;
+    while flat < elements {
+        let axis = placement::place_row(
+            shard_extents,
+            shard_strides,
+            shard_axes,
+            shard_count,
+            replica_extents,
+            replica_strides,
+            replica_axes,
+            replica_count,
+            offset,
+            lengths,
+            swizzle,
+            Flat(flat),
+            row,
+        );
+        if axis < AXES {
+            return Search::Outside {
+                flat: Flat(flat),
+                axis,
+            };
+        }
+        flat += 1;
+    }
+    Search::NoneOutside
+}
+
+// Places the copies of one element and claims their cells: how many are newly occupied, none where a
+// cell has an owner already.
+fn claim_element(
+    shard_extents: &[u64; 8],
+    shard_strides: &[u64; 8],
+    shard_axes: &[u64; 8],
+    shard_count: u64,
+    replica_extents: &[u64; 8],
+    replica_strides: &[u64; 8],
+    replica_axes: &[u64; 8],
+    replica_count: u64,
+    offset: &[u64; 8],
+    lengths: &[u64; 8],
+    swizzle: Swizzle,
+    flat: Flat,
+    row: &mut [u32],
+    table: &mut [u32],
+) -> u64
+    requires { ⌜ LentCard (now «shard_extents») (now «shard_strides») (now «shard_axes») «shard_count» (now «replica_extents») (now «replica_strides») (now «replica_axes») «replica_count» (now offset) (now lengths) swizzle ⌝ }
+    requires { ⌜ length (now row) ≡ copies (cardOf (now «shard_extents») (now «shard_strides») (now «shard_axes») «shard_count» (now «replica_extents») (now «replica_strides») (now «replica_axes») «replica_count» (now offset) (now lengths) swizzle) ⌝ }
+    requires { ⌜ Claimable (cardOf (now «shard_extents») (now «shard_strides») (now «shard_axes») «shard_count» (now «replica_extents») (now «replica_strides») (now «replica_axes») «replica_count» (now offset) (now lengths) swizzle) (flat .0) (now table) ⌝ }
+    ensures { λ r. ⌜ ElementClaim (cardOf (now («shard_extents» .entry)) (now («shard_strides» .entry)) (now («shard_axes» .entry)) «shard_count» (now («replica_extents» .entry)) (now («replica_strides» .entry)) (now («replica_axes» .entry)) «replica_count» (now (offset .entry)) (now (lengths .entry)) swizzle) (flat .0) r (now (row .exit)) (now (table .entry)) (now (table .exit)) ⌝ }
+{
+    placement::place_row(
+        shard_extents,
+        shard_strides,
+        shard_axes,
+        shard_count,
+        replica_extents,
+        replica_strides,
+        replica_axes,
+        replica_count,
+        offset,
+        lengths,
+        swizzle,
+        flat,
+        row,
+    );
+    owners::claim_row(table, row, flat)
+}
+
+// Why an element's row can not be claimed; the cells are all nobody's after it.
+fn refuse_clash(table: &mut [u32], row: &[u32], flat: Flat) -> Refusal
+    requires { ⌜ Within (now row) (now table) ⌝ }
+    requires { ⌜ 0 < entryMet (now table) (now row) ⌝ }
+    ensures { λ r. ⌜ r ≡ clashOf (now (table .entry)) (now (row .entry)) flat ⌝ }
+    ensures { λ r. ⌜ now (table .exit) ≡ replicate (length (now (table .entry))) 0 ⌝ }
+{
+    let refusal = owners::find_clash(table, row, flat);
+    owners::clear(table);
+    refusal
+}
+
+// The second pass: claims the cells of every element in the cleared table, which has exactly the
+// cells. The first element that meets an owner is refused.
+fn claim_all(
+    shard_extents: &[u64; 8],
+    shard_strides: &[u64; 8],
+    shard_axes: &[u64; 8],
+    shard_count: u64,
+    replica_extents: &[u64; 8],
+    replica_strides: &[u64; 8],
+    replica_axes: &[u64; 8],
+    replica_count: u64,
+    offset: &[u64; 8],
+    lengths: &[u64; 8],
+    swizzle: Swizzle,
+    elements: u64,
+    row: &mut [u32],
+    table: &mut [u32],
+) -> Verdict
+    requires { ⌜ Pass (now «shard_extents») (now «shard_strides») (now «shard_axes») «shard_count» (now «replica_extents») (now «replica_strides») (now «replica_axes») «replica_count» (now offset) (now lengths) swizzle elements (now row) ⌝ }
+    requires { ⌜ AllInside (cardOf (now «shard_extents») (now «shard_strides») (now «shard_axes») «shard_count» (now «replica_extents») (now «replica_strides») (now «replica_axes») «replica_count» (now offset) (now lengths) swizzle) ⌝ }
+    requires { ⌜ now table ≡ replicate (cells (cardOf (now «shard_extents») (now «shard_strides») (now «shard_axes») «shard_count» (now «replica_extents») (now «replica_strides») (now «replica_axes») «replica_count» (now offset) (now lengths) swizzle)) 0 ⌝ }
+    ensures { λ r. ⌜ VerdictPromise (cardOf (now («shard_extents» .entry)) (now («shard_strides» .entry)) (now («shard_axes» .entry)) «shard_count» (now («replica_extents» .entry)) (now («replica_strides» .entry)) (now («replica_axes» .entry)) «replica_count» (now (offset .entry)) (now (lengths .entry)) swizzle) (now (table .entry)) (now (table .exit)) r ⌝ }
+{
+    let mut occupied: u64 = 0;
+    let mut flat: u64 = 0;
+    while flat < elements {
+        let newly = claim_element(
+            shard_extents,
+            shard_strides,
+            shard_axes,
+            shard_count,
+            replica_extents,
+            replica_strides,
+            replica_axes,
+            replica_count,
+            offset,
+            lengths,
+            swizzle,
+            Flat(flat),
+            row,
+            table,
+        );
+        if newly == 0 {
+            return Verdict::Refused(refuse_clash(table, row, Flat(flat)));
+        }
+        occupied += newly;
+        flat += 1;
+    }
+    Verdict::Approved {
+        elements,
+        occupied,
+        cells: table.len() as u64,
+    }
+}
+
+// The verdict on an admitted card whose numbers are lent, in a table of exactly its cells.
+fn judge_lent(
+    shard_extents: &[u64; 8],
+    shard_strides: &[u64; 8],
+    shard_axes: &[u64; 8],
+    shard_count: u64,
+    replica_extents: &[u64; 8],
+    replica_strides: &[u64; 8],
+    replica_axes: &[u64; 8],
+    replica_count: u64,
+    offset: &[u64; 8],
+    lengths: &[u64; 8],
+    swizzle: Swizzle,
+    elements: u64,
+    row: &mut [u32],
+    table: &mut [u32],
+) -> Verdict
+    requires { ⌜ Pass (now «shard_extents») (now «shard_strides») (now «shard_axes») «shard_count» (now «replica_extents») (now «replica_strides») (now «replica_axes») «replica_count» (now offset) (now lengths) swizzle elements (now row) ⌝ }
+    requires { ⌜ length (now table) ≡ cells (cardOf (now «shard_extents») (now «shard_strides») (now «shard_axes») «shard_count» (now «replica_extents») (now «replica_strides») (now «replica_axes») «replica_count» (now offset) (now lengths) swizzle) ⌝ }
+    ensures { λ r. ⌜ VerdictPromise (cardOf (now («shard_extents» .entry)) (now («shard_strides» .entry)) (now («shard_axes» .entry)) «shard_count» (now («replica_extents» .entry)) (now («replica_strides» .entry)) (now («replica_axes» .entry)) «replica_count» (now (offset .entry)) (now (lengths .entry)) swizzle) (now (table .entry)) (now (table .exit)) r ⌝ }
+{
+    owners::clear(table);
+    let search = first_outside(
+        shard_extents,
+        shard_strides,
+        shard_axes,
+        shard_count,
+        replica_extents,
+        replica_strides,
+        replica_axes,
+        replica_count,
+        offset,
+        lengths,
+        swizzle,
+        elements,
+        row,
+    );
+    if let Search::Outside { flat, axis } = search {
+        return Verdict::Refused(Refusal::Outside { flat, axis });
+    }
+    claim_all(
+        shard_extents,
+        shard_strides,
+        shard_axes,
+        shard_count,
+        replica_extents,
+        replica_strides,
+        replica_axes,
+        replica_count,
+        offset,
+        lengths,
+        swizzle,
+        elements,
+        row,
+        table,
+    )
+}
+
+// The verdict on an admitted card, in a table of exactly its cells: the card is unpacked once and its
+// numbers lent, and so is one row for the copies of an element.
+fn judge_cells(card: Card, sizes: Sizes, table: &mut [u32]) -> Verdict
+    requires { ⌜ admission card ≡ Admitted ⌝ }
+    requires { ⌜ sizes ≡ sizesOf card ⌝ }
+    requires { ⌜ length (now table) ≡ cells card ⌝ }
+    ensures { λ r. ⌜ VerdictPromise card (now (table .entry)) (now (table .exit)) r ⌝ }
+{
+    let shard = card.shard;
+    let replica = card.replica;
+    let offset = card.offset;
+    let lengths = card.lengths;
+    let s = card::unpack(shard);
+    let r = card::unpack(replica);
+    let shard_extents = s.extents;
+    let shard_strides = s.strides;
+    let shard_axes = s.axes;
+    let replica_extents = r.extents;
+    let replica_strides = r.strides;
+    let replica_axes = r.axes;
+    let copies = sizes.copies as usize;
+    let mut row = [0u32; card::MOST_COPIES as usize];
+    judge_lent(
+        &shard_extents,
+        &shard_strides,
+        &shard_axes,
+        shard.count,
+        &replica_extents,
+        &replica_strides,
+        &replica_axes,
+        replica.count,
+        &offset,
+        &lengths,
+        card.swizzle,
+        sizes.elements,
+        &mut row[..copies],
+        table,
+    )
+}
+
+// The verdict on any card: the checks in the document's order, then the owners in the table.
+pub fn judge(card: Card, table: &mut [u32]) -> Verdict
+    ensures { λ r. ⌜ VerdictPromise card (now (table .entry)) (now (table .exit)) r ⌝ }
+{
+    let admission = card::admit(card);
+    if let Admission::Refused(refusal) = admission {
+        return Verdict::Refused(refusal);
+    }
+    let sizes = card::measure(card);
+    let cells = sizes.cells;
+    if (table.len() as u64) < cells {
+        return Verdict::Refused(Refusal::TooShort { needed: cells });
+    }
+    let end = cells as usize;
+    judge_cells(card, sizes, &mut table[..end])
+}
+
+// The owner of a cell of an admitted card: the verdict, and then one entry is read.
+fn owner_at(card: Card, cell: Cell, table: &mut [u32]) -> Owner
+    requires { ⌜ admission card ≡ Admitted ⌝ }
+    requires { ⌜ cell .0 < cells card ⌝ }
+    ensures { λ r. ⌜ ReadAt card (cell .0) (now (table .entry)) (now (table .exit)) r ⌝ }
+{
+    let verdict = judge(card, table);
+    match verdict {
+        Verdict::Approved {
+            elements: _,
+            occupied: _,
+            cells: _,
+        } => Owner::Entry(table[cell.0 as usize] as u64),
+        Verdict::Refused(refusal) => Owner::Refused(refusal),
+    }
+}
+
+// The owner of the cell that eight coordinates name, for any card: after the card's own checks the
+// coordinates are judged.
+pub fn owner_of(card: Card, coordinates: [u64; 8], table: &mut [u32]) -> Owner
+    ensures { λ r. ⌜ OwnerPromise card coordinates (now (table .entry)) (now (table .exit)) r ⌝ }
+{
+    let admission = card::admit(card);
+    if let Admission::Refused(refusal) = admission {
+        return Owner::Refused(refusal);
+    }
+    let lengths = card.lengths;
+    let spot = placement::spot_at(&lengths, &coordinates);
+    match spot {
+        Spot::Inside(cell) => owner_at(card, cell, table),
+        Spot::Outside(axis) => Owner::Refused(Refusal::CellOutside { axis }),
+    }
+}
+
+// The plain numbers of a verdict.
+pub fn verdict_numbers(verdict: Verdict) -> Numbers
+    ensures { λ r. ⌜ r ≡ verdictNumbers verdict ⌝ }
+{
+    match verdict {
+        Verdict::Approved {
+            elements,
+            occupied,
+            cells,
+        } => answers::answer(0, elements, occupied, cells),
+        Verdict::Refused(refusal) => answers::refusal_numbers(refusal),
+    }
+}
+
+// The plain numbers of an owner.
+pub fn owner_numbers(owner: Owner) -> Numbers
+    ensures { λ r. ⌜ r ≡ ownerNumbers owner ⌝ }
+{
+    match owner {
+        Owner::Entry(entry) => answers::answer(0, entry, 0, 0),
+        Owner::Refused(refusal) => answers::refusal_numbers(refusal),
+    }
+}

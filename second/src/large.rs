@@ -1,0 +1,126 @@
+//! Full-size loads: 16,384 elements, up to 64 copies, tables of 16,384.
+
+use crate::cards::{card_of, iter, shuffle};
+use crate::layout::{Card, Coordinates, Iter, AXES, MOST_CELLS, M_AXIS};
+use crate::malformed::Question;
+use crate::random::Random;
+use crate::swizzle::Swizzle;
+
+pub const LARGE_SEED: u64 = 0x6c61_7267_6500_0001;
+
+/// A card of these iters whose m has all the cells.
+fn in_memory(shard: &[Iter], replica: &[Iter], swizzle: [u64; 3]) -> Card {
+    let mut card = card_of(shard, replica);
+    card.space = [1; AXES];
+    card.space[M_AXIS] = MOST_CELLS;
+    let [m, b, s] = swizzle;
+    card.swizzle = Swizzle { m, b, s };
+    card
+}
+
+/// Address bits handed to eight iters in any order: every address once.
+fn bit_tile(random: &mut Random, swizzle: [u64; 3]) -> Card {
+    let mut bits = 0;
+    let widths = [1, 2, 2, 1, 3, 2, 1, 2];
+    let mut iters = widths.map(|width| {
+        bits += width;
+        iter(1 << width, 1 << (bits - width), 7)
+    });
+    shuffle(random, &mut iters);
+    in_memory(&iters, &[], swizzle)
+}
+
+/// Cards whose copies are counted in the hundred thousands.
+fn with_copies() -> Vec<Card> {
+    let all = [iter(16_384, 1, 7)];
+    let still = [iter(2, 0, 7), iter(2, 0, 0), iter(4, 0, 3), iter(4, 0, 7)];
+    let moving = [iter(16, 0, 0), iter(2, 0, 2), iter(2, 1, 7)];
+    let blocks = [iter(4, 4_096, 7), iter(16, 256, 7)];
+    vec![
+        in_memory(&all, &still, [2, 3, 3]),
+        in_memory(&all, &moving, [0, 0, 3]),
+        in_memory(&[iter(16_384, 0, 7)], &[iter(64, 0, 7)], [0, 0, 3]),
+        in_memory(&[iter(256, 1, 7)], &blocks, [3, 3, 3]),
+        in_memory(
+            &[iter(128, 64, 7), iter(128, 0, 7)],
+            &[iter(64, 1, 7)],
+            [3, 3, 3],
+        ),
+    ]
+}
+
+/// Cards without copies: all cells taken, the last element outside, an
+/// element in the middle that clashes, and several axes.
+fn without_copies(random: &mut Random) -> Vec<Card> {
+    let mut outside = in_memory(&[iter(16_384, 1, 7)], &[], [0, 0, 3]);
+    outside.offset[M_AXIS] = 1;
+    let halves = [iter(2, 8_191, 7), iter(8_192, 1, 7)];
+    let lanes = [iter(2, 64, 6), iter(128, 1, 5), iter(64, 1, 6)];
+    let extents = [4, 2, 4, 4, 2, 4, 4, 4];
+    let axes: [Iter; 8] = std::array::from_fn(|axis| iter(extents[axis], 1, axis as u64));
+    vec![
+        bit_tile(random, [3, 3, 3]),
+        bit_tile(random, [1, 4, 7]),
+        bit_tile(random, [5, 4, 5]),
+        outside,
+        in_memory(&halves, &[], [0, 0, 3]),
+        card_of(&lanes, &[]),
+        card_of(&axes, &[]),
+        card_of(&[iter(127, 129, 4), iter(129, 1, 4)], &[]),
+    ]
+}
+
+fn line(word: &str, parts: &[&[u64]]) -> Vec<u8> {
+    let mut line = Question::new(word, &parts.concat()).bytes();
+    line.push(b'\n');
+    line
+}
+
+/// A verdict on each card, and of every third the owner of some cell.
+pub fn large() -> Vec<u8> {
+    let mut random = Random::new(LARGE_SEED);
+    let cards = [with_copies(), without_copies(&mut random)].concat();
+    let mut lines = Vec::new();
+    for (at, card) in cards.iter().enumerate() {
+        let numbers = card.numbers();
+        lines.extend(line("verdict", &[&numbers, &[MOST_CELLS]]));
+        if at % 3 == 0 {
+            let asked: Coordinates = card.space.map(|length| random.below(length));
+            lines.extend(line("owner", &[&numbers, &asked, &[MOST_CELLS]]));
+        }
+    }
+    let space = [4, 2, 4, 4, 2, 4, 4, 4];
+    for axis in 0..AXES as u64 {
+        let asked: Coordinates = space.map(|length| random.below(length));
+        lines.extend(line("stretch", &[&space, &[axis], &asked, &[MOST_CELLS]]));
+    }
+    lines
+}
+
+#[cfg(test)]
+mod tests {
+    use super::*;
+    use crate::lines::answers;
+
+    #[test]
+    fn what_the_large_loads_say() {
+        let lines = large();
+        let said = answers(&lines).filter(|text| text.split(' ').count() == 6);
+        let plain = |text: String| text.split(" |").next().unwrap_or("").to_string();
+        let said: Vec<String> = said.map(plain).collect();
+        let verdicts = |text: &&String| !text.ends_with(" 0 0");
+        let wanted = [
+            "0 16384 16384 16384",
+            "7 16383 7 0",
+            "0 256 16384 16384",
+            "8 8191 8192 8191",
+            "0 16383 16383 16383",
+        ];
+        for text in wanted {
+            assert!(said.iter().any(|said| said == text), "{text}");
+        }
+        assert!(said.iter().filter(verdicts).count() > 12);
+        assert_eq!(said.len(), 26);
+        assert!(!said.iter().any(|text| text == "?"));
+    }
+}

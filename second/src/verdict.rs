@@ -1,0 +1,408 @@
+//! The verdict on a card, the owner of a cell, and a stretch of the table.
+//! Who lies where is written down as sets, and each refusal is read off them
+//! in the words of document 01.
+
+use crate::cards::random_card;
+use crate::layout::{
+    lent_entries, whole_product, Card, Cell, Coordinates, Flat, Refusal, AXES, MOST_CELLS,
+    MOST_LENGTH, TOO_SHORT, WRONG_AXIS, WRONG_SPACE,
+};
+use crate::lines::Answer;
+use crate::random::Random;
+use std::collections::{BTreeMap, BTreeSet};
+
+/// Refusals: two elements share a cell, an asked cell outside the space.
+const CELL_SHARED: u64 = 8;
+const ASKED_OUTSIDE: u64 = 12;
+
+/// The program lends at most so many entries to a table.
+const MOST_ENTRIES: u64 = 16_384;
+
+/// The sum of (i + 1) times entry i is printed modulo this.
+const DIGEST_MODULUS: u128 = 4_294_967_291;
+
+/// All elements that have a copy in a cell, for each cell that is anyone's.
+type Holders = BTreeMap<Cell, BTreeSet<Flat>>;
+
+fn digest(entries: &[u64]) -> u64 {
+    let weighed = |(i, entry): (usize, &u64)| (i as u128 + 1) * u128::from(*entry);
+    let sum: u128 = entries.iter().enumerate().map(weighed).sum();
+    (sum % DIGEST_MODULUS) as u64
+}
+
+/// Who lies where, or refusal 7 for the smallest flat that lies outside.
+fn holders(card: &Card) -> Result<Holders, Refusal> {
+    let mut holders = Holders::new();
+    for flat in (0..card.elements() as u64).map(Flat) {
+        for cell in card.cells_of(flat)? {
+            holders.entry(cell).or_default().insert(flat);
+        }
+    }
+    Ok(holders)
+}
+
+/// Refusal 8, if two elements share a cell: y is the smallest flat sharing a
+/// cell with a smaller one, x the smallest it shares with, and the cell the
+/// smallest they share.
+fn clash(holders: &Holders) -> Option<Refusal> {
+    let second = |flats: &BTreeSet<Flat>| flats.iter().nth(1).copied();
+    let y = holders.values().filter_map(second).min()?;
+    let with_y = || holders.iter().filter(|(_, flats)| flats.contains(&y));
+    let others = with_y().flat_map(|(_, flats)| flats).filter(|x| **x != y);
+    let x = *others.min()?;
+    let (cell, _) = with_y().find(|(_, flats)| flats.contains(&x))?;
+    Some(Refusal {
+        number: CELL_SHARED,
+        details: [x.0, y.0, cell.0],
+    })
+}
+
+/// Fills the table for a card that passes checks 1 to 6: refusals 11, 7, 8.
+/// The cells are all 0 at 7 and 8, the owners otherwise.
+fn fill(card: &Card, table: &mut [u64]) -> Result<[u64; 3], Refusal> {
+    let cells = card.cells() as u64;
+    let Some(own) = table.get_mut(..cells as usize) else {
+        return Err(Refusal::with(TOO_SHORT, cells, 0));
+    };
+    own.fill(0);
+    let holders = holders(card)?;
+    if let Some(refusal) = clash(&holders) {
+        return Err(refusal);
+    }
+    for (cell, flats) in &holders {
+        own[cell.0 as usize] = flats.first().map_or(0, |flat| flat.0 + 1);
+    }
+    Ok([card.elements() as u64, holders.len() as u64, cells])
+}
+
+fn verdict(card: &Card, table: &mut [u64]) -> Result<[u64; 3], Refusal> {
+    card.refusal().map_or(Ok(()), Err)?;
+    fill(card, table)
+}
+
+/// The smallest of the axes on which an asked coordinate lies outside.
+fn asked_outside(space: &[u64; AXES], asked: &[u64]) -> Option<Refusal> {
+    let axis = (0..asked.len()).find(|axis| asked[*axis] >= space[*axis])?;
+    Some(Refusal::with(ASKED_OUTSIDE, axis as u64, 0))
+}
+
+fn owner(card: &Card, asked: &Coordinates, table: &mut [u64]) -> Result<[u64; 3], Refusal> {
+    card.refusal().map_or(Ok(()), Err)?;
+    asked_outside(&card.space, asked).map_or(Ok(()), Err)?;
+    fill(card, table)?;
+    Ok([table[card.cell(asked).0 as usize], 0, 0])
+}
+
+/// The first cell and the length of the stretch: refusals 3, 4, 12, 11.
+fn stretch(
+    space: &[u64; AXES],
+    axis: u64,
+    asked: &Coordinates,
+    length: u64,
+) -> Result<[u64; 2], Refusal> {
+    if axis >= AXES as u64 {
+        return Err(Refusal::plain(WRONG_AXIS));
+    }
+    let cells = whole_product(space);
+    let lengths = space.iter().all(|n| (1..=MOST_LENGTH).contains(n));
+    if !lengths || cells > u128::from(MOST_CELLS) {
+        return Err(Refusal::plain(WRONG_SPACE));
+    }
+    let asked = &asked[..=axis as usize];
+    asked_outside(space, asked).map_or(Ok(()), Err)?;
+    if u128::from(length) < cells {
+        return Err(Refusal::with(TOO_SHORT, cells as u64, 0));
+    }
+    let under = whole_product(&space[asked.len()..]) as u64;
+    let both = asked.iter().zip(space);
+    let prefix = both.fold(0, |cell, (coordinate, length)| cell * length + coordinate);
+    Ok([prefix * under, under])
+}
+
+fn printed(result: Result<[u64; 3], Refusal>, digested: &[u64]) -> Answer {
+    let (number, details) = match result {
+        Ok(details) => (0, details),
+        Err(refusal) => (refusal.number, refusal.details),
+    };
+    Answer {
+        number,
+        details,
+        after_bar: Some(vec![digest(digested)]),
+    }
+}
+
+/// A lent table of the last number's length; none beyond the program's limit.
+fn lent_table(numbers: &[u64]) -> Option<Vec<u64>> {
+    let length = *numbers.last()?;
+    (length <= MOST_ENTRIES).then(|| lent_entries(length))
+}
+
+pub fn answer_verdict(numbers: &[u64]) -> Option<Answer> {
+    let mut table = lent_table(numbers)?;
+    let result = verdict(&Card::of(numbers)?, &mut table);
+    Some(printed(result, &table))
+}
+
+pub fn answer_owner(numbers: &[u64]) -> Option<Answer> {
+    let mut table = lent_table(numbers)?;
+    let asked = numbers.get(Card::NUMBERS..)?.first_chunk()?;
+    let result = owner(&Card::of(numbers)?, asked, &mut table);
+    Some(printed(result, &table))
+}
+
+pub fn answer_stretch(numbers: &[u64]) -> Option<Answer> {
+    let table = lent_table(numbers)?;
+    let (space, rest) = numbers.split_first_chunk()?;
+    let (axis, rest) = rest.split_first()?;
+    let result = stretch(space, *axis, rest.first_chunk()?, table.len() as u64);
+    Some(match result {
+        Ok([first, length]) => {
+            let own = table.iter().skip(first as usize).take(length as usize);
+            let own: Vec<u64> = own.copied().collect();
+            printed(Ok([first, length, 0]), &own)
+        }
+        Err(refusal) => printed(Err(refusal), &[]),
+    })
+}
+
+/// The length of a table for so many cells: enough, mostly.
+fn random_length(random: &mut Random, cells: u128) -> u64 {
+    let cells = cells.min(u128::from(MOST_CELLS)) as u64;
+    match random.below(16) {
+        0..=8 => cells,
+        9 | 10 => cells + random.below(5),
+        11 | 12 => random.around(cells),
+        13 => random.below(cells),
+        14 => random.pick(&[0, 1, 16_383, 16_384]),
+        _ => random.pick(&[16_384, 16_385, 16_386, 1 << 32, u64::MAX]),
+    }
+}
+
+/// Coordinates in a space, mostly inside it.
+fn random_asked(random: &mut Random, space: &[u64; AXES]) -> Coordinates {
+    let mut asked = space.map(|length| random.below(length));
+    let at = random.index(AXES);
+    match random.below(12) {
+        0 => asked[at] = space[at],
+        1 => asked[at] = random.hostile(),
+        2 => asked = space.map(|length| length.saturating_sub(1)),
+        _ => {}
+    }
+    asked
+}
+
+pub fn verdict_numbers(random: &mut Random) -> Vec<u64> {
+    let card = random_card(random);
+    let length = random_length(random, card.cells());
+    [card.numbers(), vec![length]].concat()
+}
+
+pub fn owner_numbers(random: &mut Random) -> Vec<u64> {
+    let card = random_card(random);
+    let asked = random_asked(random, &card.space);
+    let length = random_length(random, card.cells());
+    [&card.numbers()[..], &asked, &[length]].concat()
+}
+
+/// Lengths of a space: a few axes of some length, sometimes too many cells.
+fn random_space(random: &mut Random) -> [u64; AXES] {
+    let mut space = [1; AXES];
+    let mut room = 1u64 << random.between(0, 14);
+    for _ in 0..random.between(1, 8) {
+        let length = random.between(1, room.min(40));
+        space[random.index(AXES)] = length;
+        room /= length;
+    }
+    let at = random.index(AXES);
+    match random.below(20) {
+        0 => space[at] = random.pick(&[0, 16_384, 16_385]),
+        1 => space[at] = random.hostile(),
+        2 => space = [random.pick(&[2, 3, 4, 16_384, 1 << 16]); AXES],
+        3 => {
+            space = [1; AXES];
+            space[at] = random.pick(&[16_383, 16_384, 16_385, 128, 127, 129]);
+            space[random.index(AXES)] *= random.pick(&[1, 2, 127, 128, 129]);
+        }
+        _ => {}
+    }
+    space
+}
+
+pub fn stretch_numbers(random: &mut Random) -> Vec<u64> {
+    let space = random_space(random);
+    let mut asked = random_asked(random, &space);
+    let axis = match random.below(16) {
+        0 => random.around(8),
+        1 => random.hostile(),
+        _ => random.below(AXES as u64),
+    };
+    if random.once_in(2) {
+        // Past the asked axis no coordinate is looked at.
+        let past = (axis as usize).saturating_add(1).min(AXES);
+        asked[past..].fill(random.hostile());
+    }
+    let length = random_length(random, whole_product(&space));
+    [&space[..], &[axis], &asked, &[length]].concat()
+}
+
+#[cfg(test)]
+mod tests {
+    use super::*;
+    use crate::cards;
+    use crate::layout::M_AXIS;
+    use crate::lines::answer_line;
+
+    /// The verdict's number and details on a card with a table to spare, the
+    /// table after it, and the number of cells.
+    fn judged(card: &Card) -> (String, Vec<u64>, usize) {
+        let cells = card.cells() as usize;
+        let mut table = lent_entries(cells as u64 + 3);
+        let answer = printed(verdict(card, &mut table), &[]).print();
+        let plain = answer.split(" |").next().unwrap_or("").to_string();
+        assert_eq!(table[cells..], lent_entries(cells as u64 + 3)[cells..]);
+        (plain, table, cells)
+    }
+
+    fn says(card: &Card, wanted: &str) {
+        let (said, table, cells) = judged(card);
+        assert_eq!(said, wanted);
+        if said.starts_with("7 ") || said.starts_with("8 ") {
+            assert!(table[..cells].iter().all(|entry| *entry == 0));
+        }
+    }
+
+    #[test]
+    fn tile_x_of_the_sheet() {
+        let card = cards::tile_x();
+        says(&card, "0 128 256 704");
+        let (_, table, _) = judged(&card);
+        assert_eq!((table[447], table[703], table[0]), (128, 128, 0));
+        let mut short = card;
+        short.space[1] = 10;
+        says(&short, "7 8 1 0");
+        let mut shared = card;
+        shared.replica_slots[0].stride = 1;
+        says(&shared, "8 0 8 384");
+    }
+
+    #[test]
+    fn other_cards_of_the_sheet() {
+        let mut card = cards::sixty_five();
+        card.space[M_AXIS] = 72;
+        says(&card, "7 64 7 0");
+        card.space[M_AXIS] = 73;
+        says(&card, "0 65 65 73");
+        says(&cards::figure_189(), "8 8 16 8");
+        let refused = verdict(&cards::accumulator(), &mut []);
+        assert_eq!(refused, Err(Refusal::plain(4)));
+    }
+
+    #[test]
+    fn the_owner_of_the_sheet() {
+        let card = cards::scale_factors();
+        let asked = [0, 0, 0, 0, 0, 37, 2, 0];
+        assert_eq!(card.cell(&asked), Cell(150));
+        let mut table = lent_entries(512);
+        assert_eq!(owner(&card, &asked, &mut table), Ok([23, 0, 0]));
+        let outside = [0, 0, 0, 1, 0, 128, 2, 0];
+        assert_eq!(
+            owner(&card, &outside, &mut []),
+            Err(Refusal::with(12, 3, 0))
+        );
+        assert_eq!(
+            owner(&card, &asked, &mut [0; 511]),
+            Err(Refusal::with(11, 512, 0))
+        );
+    }
+
+    #[test]
+    fn a_short_table_is_untouched() {
+        let mut table = lent_entries(703);
+        let refused = verdict(&cards::tile_x(), &mut table);
+        assert_eq!(refused, Err(Refusal::with(11, 704, 0)));
+        assert_eq!(table, lent_entries(703));
+    }
+
+    #[test]
+    fn x_is_the_smallest_shared_with_not_the_one_in_the_smallest_cell() {
+        let flats = |flats: &[u64]| flats.iter().copied().map(Flat).collect();
+        let holders = Holders::from([
+            (Cell(4), flats(&[1, 2])),
+            (Cell(5), flats(&[0, 2])),
+            (Cell(6), flats(&[0, 2, 7])),
+        ]);
+        let wanted = Refusal {
+            number: 8,
+            details: [0, 2, 5],
+        };
+        assert_eq!(clash(&holders), Some(wanted));
+    }
+
+    #[test]
+    fn the_stretch_of_the_page() {
+        let says = |line: &str, wanted: &str| {
+            assert_eq!(answer_line(line.as_bytes()).as_deref(), Some(wanted));
+        };
+        says(
+            "stretch 1 11 32 1 1 1 1 2 1 0 6 99 0 0 0 0 0 704",
+            "0 384 64 0 | 2080886080",
+        );
+        says(
+            "stretch 1 11 32 1 1 1 1 2 1 0 6 99 0 0 0 0 0 703",
+            "11 704 0 0 | 0",
+        );
+        says(
+            "stretch 1 11 32 1 1 1 1 2 1 0 11 99 0 0 0 0 0 0",
+            "12 1 0 0 | 0",
+        );
+        says(
+            "stretch 1 11 32 1 1 1 0 2 1 0 11 99 0 0 0 0 0 0",
+            "4 0 0 0 | 0",
+        );
+        says(
+            "stretch 1 11 32 1 1 1 0 2 8 0 11 99 0 0 0 0 0 0",
+            "3 0 0 0 | 0",
+        );
+        says("stretch 1 11 32 1 1 1 1 2 1 0 6 99 0 0 0 0 0 16385", "?");
+        says(
+            "stretch 1 1 1 1 1 1 1 1 7 0 0 0 0 0 0 0 0 1",
+            "0 0 1 0 | 1000000",
+        );
+    }
+
+    #[test]
+    fn digests() {
+        assert_eq!(digest(&[]), 0);
+        assert_eq!(digest(&[5, 7]), 19);
+        assert_eq!(digest(&[4_294_967_291, 1]), 2);
+    }
+
+    /// Demand 3's words, on whatever the random cards give.
+    #[test]
+    fn approved_exactly_when_all_lie_inside_and_none_share() {
+        let mut random = Random::new(8);
+        for _ in 0..300 {
+            let card = random_card(&mut random);
+            if card.refusal().is_some() || card.elements() * card.copies() > 4_096 {
+                continue;
+            }
+            let (said, table, cells) = judged(&card);
+            let flats = || (0..card.elements() as u64).map(Flat);
+            let inside = flats().all(|flat| card.cells_of(flat).is_ok());
+            let own = |flat| BTreeSet::from_iter(card.cells_of(flat).unwrap_or_default());
+            let sizes = flats().map(|flat| own(flat).len()).sum::<usize>();
+            let all: BTreeSet<Cell> = flats().flat_map(own).collect();
+            assert_eq!(said.starts_with("0 "), inside && sizes == all.len());
+            if said.starts_with("0 ") {
+                let occupied = table[..cells].iter().filter(|entry| **entry > 0);
+                assert_eq!(occupied.count(), all.len());
+                let held = |flat: Flat| {
+                    own(flat)
+                        .iter()
+                        .all(|cell| table[cell.0 as usize] == flat.0 + 1)
+                };
+                assert!(flats().all(held));
+            }
+        }
+    }
+}
