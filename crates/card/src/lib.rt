@@ -145,9 +145,9 @@ pub fn product(numbers: [u64; 8], count: u64) -> u64
     part
 }
 
-// Check 1: the iter counts of shard and replica. The checks are public for the crates above, which
-// make some of them alone; 2, 3 and 5 read as many iters as check 1 allows, and require it.
-pub fn counts_fit(card: Card) -> bool
+// Check 1: the iter counts of shard and replica. Checks 2, 3 and 5 read as many iters as it allows,
+// and require it.
+fn counts_fit(card: Card) -> bool
     ensures { λ r. ⌜ r ≡ countsFit card ⌝ }
 {
     let shard = card.shard.count;
@@ -168,7 +168,7 @@ fn iters_fit(iters: Iters) -> bool
 }
 
 // Check 2: every extent, stride and offset.
-pub fn numbers_fit(card: Card) -> bool
+fn numbers_fit(card: Card) -> bool
     requires { ⌜ countsFit card ≡ true ⌝ }
     ensures { λ r. ⌜ r ≡ numbersFit card ⌝ }
 {
@@ -189,7 +189,7 @@ fn iters_on_axes(iters: Iters) -> bool
 }
 
 // Check 3: every axis.
-pub fn axes_fit(card: Card) -> bool
+fn axes_fit(card: Card) -> bool
     requires { ⌜ countsFit card ≡ true ⌝ }
     ensures { λ r. ⌜ r ≡ axesFit card ⌝ }
 {
@@ -198,7 +198,7 @@ pub fn axes_fit(card: Card) -> bool
     iters_on_axes(shard) & iters_on_axes(replica)
 }
 
-// Check 4: every length, and the cells.
+// Check 4: every length, and the cells. Public for the crates above.
 pub fn space_fits(lengths: [u64; 8]) -> bool
     ensures { λ r. ⌜ r ≡ spaceFits lengths ⌝ }
 {
@@ -216,7 +216,7 @@ fn size(iters: Iters) -> u64
 }
 
 // Check 5: the elements and the copies.
-pub fn few_enough(card: Card) -> bool
+fn few_enough(card: Card) -> bool
     requires { ⌜ countsFit card ≡ true ⌝ }
     ensures { λ r. ⌜ r ≡ fewEnough card ⌝ }
 {

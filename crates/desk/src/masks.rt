@@ -52,20 +52,16 @@ fn are_fields(numbers: &[u64; 80]) -> bool {
         & (numbers[10] <= 255)
 }
 
-fn wide(b: u8) -> u64 {
-    b as u64
-}
-
 fn yes(b: bool) -> u64 {
     if b { 1 } else { 0 }
 }
 
 // The start counts, each after a space.
 fn put_counts(out: &mut [u8], at: usize, counts: [u8; 4]) -> usize {
-    let mut place = print::next(out, at, wide(counts[0]));
-    place = print::next(out, place, wide(counts[1]));
-    place = print::next(out, place, wide(counts[2]));
-    print::next(out, place, wide(counts[3]))
+    let mut place = print::next(out, at, print::wide(counts[0]));
+    place = print::next(out, place, print::wide(counts[1]));
+    place = print::next(out, place, print::wide(counts[2]));
+    print::next(out, place, print::wide(counts[3]))
 }
 
 // The first spans, each after a space.
@@ -79,8 +75,8 @@ fn put_spans(out: &mut [u8], at: usize, spans: [bool; 4]) -> usize {
 // The fields that all sub-masks share, each after a space.
 fn put_shared(out: &mut [u8], at: usize, fields: Fields) -> usize {
     let mut place = print::next(out, at, yes(fields.non_zero));
-    place = print::next(out, place, wide(fields.skip_span));
-    place = print::next(out, place, wide(fields.use_span));
+    place = print::next(out, place, print::wide(fields.skip_span));
+    place = print::next(out, place, print::wide(fields.use_span));
     print::next(out, place, fields.shift)
 }
 

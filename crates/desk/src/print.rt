@@ -1,5 +1,6 @@
 // Answers as text, put into a buffer that is written out when it fills.
 use answers::Numbers;
+ghost use mathlib.Core.Path.{_≡_};
 
 // One byte at a place of the buffer, and the next place. Without room it is left out, which the
 // caller prevents by writing the buffer out in time.
@@ -49,7 +50,8 @@ pub fn bar(out: &mut [u8], at: usize) -> usize {
     byte(out, place, b'|')
 }
 
-fn wide(b: u8) -> u64 {
+// A byte as a number.
+pub fn wide(b: u8) -> u64 {
     b as u64
 }
 
@@ -64,7 +66,10 @@ pub fn bytes(out: &mut [u8], at: usize, from: &[u8]) -> usize {
     place
 }
 
-fn wide32(n: u32) -> u64 {
+// An entry as a number.
+pub fn wide32(n: u32) -> u64
+    ensures { λ r. ⌜ r ≡ n ⌝ }
+{
     n as u64
 }
 

@@ -2,7 +2,6 @@
 use crate::layouts;
 use crate::print;
 use answers::Numbers;
-ghost use mathlib.Core.Path.{_≡_};
 ghost use Prim.Native.Nat.{_*_, _≤_};
 
 // The most entries that the program lends to a table: its own limit, not the card's.
@@ -11,17 +10,11 @@ const MOST_LENT: u64 = 16384;
 // The digest of a table is taken modulo this prime.
 const DIGEST: u64 = 4294967291;
 
-fn wide(n: u32) -> u64
-    ensures { λ r. ⌜ r ≡ n ⌝ }
-{
-    n as u64
-}
-
 // An entry times its place, counted from 1. No place is above 16,384.
 fn weighted(place: u64, entry: u32) -> u64
     ensures { λ r. ⌜ r ≤ 16384 * 4294967295 ⌝ }
 {
-    (place % 16385) * wide(entry)
+    (place % 16385) * print::wide32(entry)
 }
 
 // The digest of a table or of a stretch of it.

@@ -22,8 +22,8 @@ ghost use Rattle.placement.specs.Inside.{Lent, Sums, Space, Locatable, R
 // The most dimensions of a shape.
 const MOST_DIMENSIONS: u64 = 8;
 
-// How many axes there are: past the last stands for none.
-const AXES: u64 = card::LAST_AXIS + 1;
+// How many axes there are: past the last stands for none. Public for the crates above.
+pub const AXES: u64 = card::LAST_AXIS + 1;
 
 // The axis m, the last.
 const M: usize = card::LAST_AXIS as usize;

@@ -1,24 +1,24 @@
 -- What the definition of the stretch means, in plain for-alls, from the laws on the checks and on prefixes.
 use mathlib.Core.Path.{_≡_, refl, sym, ap, _∙_}
-use mathlib.Core.Bool.{Bool, true, false, cond}
+use mathlib.Core.Bool.{Bool, true, false, cond, not}
 use mathlib.Core.Logic.{_↔_}
 use mathlib.Core.List.{List, [], _∷_}
-use Prim.Native.Nat.{ℕ, zero, suc, _+_, _≤_, _<_}
-use native.Mathlib.Numerals.{add-one}
+use Prim.Native.Nat.{ℕ, _+_, _≤_, _<_, min}
 use native.Mathlib.Omega.{arith}
 use lib.Dec.{ltb}
-use borrow.Author.Tests.{ltb-true, ltb-false}
-use lib.ListN.{length, getD, drop, length-take, length-drop}
+use lib.ListN.{length, drop, length-take, length-drop}
 use Rattle.answers.specs.declared.Cell.{Cell}
 use Rattle.answers.specs.declared.Numbers.{Numbers}
 use Rattle.answers.specs.declared.Refusal.{Refusal}
-use Rattle.answers.specs.declared.Refusal.the-variants.{Space, TooShort, CellOutside}
+use Rattle.answers.specs.declared.Refusal.the-variants.{Axis, Space, TooShort, CellOutside}
 use Rattle.answers.proofs.OneToOne.{readBack, refused-back, pinned}
 use Rattle.card.specs.Lists.{product}
+use Rattle.card.specs.Limits.{lastAxis}
+use Rattle.card.specs.Admission.{spaceFits}
 use Rattle.placement.specs.RowMajor.{rowMajor, components, inside, firstPast}
-use Rattle.placement.proofs.RowMajor.{components-inside, components-give-back}
+use Rattle.placement.proofs.RowMajor.{components-inside, components-give-back, FirstPast, first-past}
 use Rattle.placement.proofs.Prefixes.{prefix-under}
-use Rattle.table.specs.Stretch.{asked, stretchAnswer, stretchOf, stretchNumbers}
+use Rattle.table.specs.Stretch.{asked, stretchUnder, stretchAnswer, stretchOf, stretchNumbers}
 use Rattle.table.specs.declared.Located.{Located}
 use Rattle.table.specs.declared.Located.the-variants.{Stretch, Refused}
 use Rattle.table.proofs.Checks.{answer-passed, answer-within}
@@ -52,26 +52,32 @@ pub past-axis : (lengths : List ℕ) (axis : ℕ) (coordinates others : List ℕ
 past-axis lengths axis coordinates others entries e = rw e
 
 -- the axis that refusal 12 names is the smallest one outside: its coordinate is not below its length, and each before it is
-pub outside-smallest : (lengths coordinates : List ℕ) → firstPast lengths coordinates < length coordinates
-    → (getD lengths (firstPast lengths coordinates) 0 ≤ getD coordinates (firstPast lengths coordinates) 0)
-    × ((b : ℕ) → b < firstPast lengths coordinates → getD coordinates b 0 < getD lengths b 0)
-outside-smallest [] coordinates = λ h. (omega arith, λ b k. absurd (omega arith))
-outside-smallest (l ∷ lengths) [] = λ h. absurd (omega arith)
-outside-smallest (l ∷ lengths) (c ∷ coordinates) =
-    rw (add-one (firstPast lengths coordinates)) (split (ltb c l) refl (outside-smallest lengths coordinates))
+pub outside-smallest : (lengths : List ℕ) (axis : ℕ) (coordinates : List ℕ) (entries a : ℕ) → length coordinates ≡ length lengths
+    → stretchAnswer lengths axis coordinates entries ≡ Refused (CellOutside a) → FirstPast (asked axis lengths) (asked axis coordinates) a
+outside-smallest lengths axis coordinates entries a same =
+    go (ltb lastAxis axis) (spaceFits lengths) (inside long near) (ltb entries (product lengths)) refl
   where
-    next : ℕ
-    next = firstPast lengths coordinates
+    long : List ℕ
+    long = asked axis lengths
 
-    split : (b : Bool) → ltb c l ≡ b
-        → (next < length coordinates → (getD lengths next 0 ≤ getD coordinates next 0) × ((b : ℕ) → b < next → getD coordinates b 0 < getD lengths b 0))
-        → cond b (suc next) 0 < suc (length coordinates)
-        → (getD (l ∷ lengths) (cond b (suc next) 0) 0 ≤ getD (c ∷ coordinates) (cond b (suc next) 0) 0)
-        × ((b′ : ℕ) → b′ < cond b (suc next) 0 → getD (c ∷ coordinates) b′ 0 < getD (l ∷ lengths) b′ 0)
-    split true t rest h =
-        let r = rest (omega arith) in
-        (r .0, λ b. elim b [ zero ↦ λ k. ltb-true c l t | suc a ↦ λ k. r .1 a (omega arith) ])
-    split false t rest h = (ltb-false c l t, λ b k. absurd (omega arith))
+    near : List ℕ
+    near = asked axis coordinates
+
+    equally : length near ≡ length long
+    equally = length-take (axis + 1) coordinates ∙ ap (min (axis + 1)) same ∙ sym (length-take (axis + 1) lengths)
+
+    go : (p q r s : Bool) → inside long near ≡ r
+        → cond p (Refused Axis)
+        (cond (not q) (Refused Space)
+        (cond (not r) (Refused (CellOutside (firstPast long near)))
+        (cond s (Refused (TooShort (product lengths))) (stretchUnder lengths axis coordinates))))
+        ≡ Refused (CellOutside a)
+        → FirstPast long near a
+    go true q r s h e = let z : _≡_ {A = ℕ} 0 1 = cc in absurd (omega arith)
+    go false false r s h e = let z : _≡_ {A = ℕ} 0 1 = cc in absurd (omega arith)
+    go false true false s h e = let found : firstPast long near ≡ a = cc in rw (sym found) (first-past long near equally h)
+    go false true true true h e = let z : _≡_ {A = ℕ} 0 1 = cc in absurd (omega arith)
+    go false true true false h e = let z : _≡_ {A = ℕ} 0 1 = cc in absurd (omega arith)
 
 module _ (lengths : List ℕ) (axis : ℕ) (coordinates : List ℕ) (entries : ℕ) (first : Cell) (long : ℕ)
     (found : stretchAnswer lengths axis coordinates entries ≡ Stretch first long) where

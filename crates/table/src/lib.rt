@@ -36,7 +36,7 @@ pub fn locate_stretch(table: &[u32], lengths: [u64; 8], axis: u64, coordinates: 
     if (table.len() as u64) < cells {
         return Located::Refused(Refusal::TooShort { needed: cells });
     }
-    // under each prefix as many cells
+    // each prefix has equally many cells under it
     let length = cells / card::product(lengths, axis + 1);
     Located::Stretch {
         first: Cell(number * length),

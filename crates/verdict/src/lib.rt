@@ -22,9 +22,6 @@ ghost use Rattle.verdict.specs.Judgement.{AllInside};
 ghost use Rattle.verdict.specs.Verdict.{VerdictPromise, OwnerPromise, verdictNumbers, ownerNumbers};
 ghost use Rattle.verdict.specs.Inside.{Pass, Finds, Claimable, ElementClaim, ReadAt};
 
-// How many axes there are: past the last stands for none.
-const AXES: u64 = card::LAST_AXIS + 1;
-
 // The answer to the verdict: elements, occupied cells and cells of an approved card.
 pub enum Verdict {
     Approved {
@@ -83,7 +80,7 @@ fn first_outside(
             Flat(flat),
             row,
         );
-        if axis < AXES {
+        if axis < placement::AXES {
             return Search::Outside {
                 flat: Flat(flat),
                 axis,

@@ -13,11 +13,11 @@ bound place entry n e h =
     let small : n ≤ 4294967295 = omega arith in
     mul-le-mul below small
 
-wide-requires : tie.Need-wide-requires
-wide-requires c κs = search needs
+wide32-requires : tie.Need-wide32-requires
+wide32-requires c κs = search needs
 
-product : (c : tie.After-wide) → c .before .args .place % 16385 * c .wide .result ≤ 16384 * 4294967295
-product c = bound (c .before .args .place) (c .before .args .entry) (c .wide .result) (c .wide .ensures) (omega arith)
+product : (c : tie.After-wide32) → c .before .args .place % 16385 * c .wide32 .result ≤ 16384 * 4294967295
+product c = bound (c .before .args .place) (c .before .args .entry) (c .wide32 .result) (c .wide32 .ensures) (omega arith)
 
 mul-result : tie.Need-mul-result
 mul-result c = omega (arith, product c)
@@ -26,4 +26,4 @@ returns : tie.Need-returns
 returns c = product c
 
 pub weighted-spec : {M : Type 1} → statement M
-weighted-spec = tie.close (tie.spec wide-requires mul-result returns)
+weighted-spec = tie.close (tie.spec wide32-requires mul-result returns)
