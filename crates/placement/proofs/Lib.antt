@@ -1,6 +1,5 @@
 pub mod RowMajor
 pub mod Prefixes
-pub mod Positions
 pub mod Joined
 pub mod Along
 pub mod Turn

@@ -48,7 +48,7 @@ inside-at (At n) cell e = let same : record { 0 = n } ≡ cell = cc in ap (λ (c
 inside-at (Past k) cell e = let z : _≡_ {A = ℕ} 0 1 = cc in absurd (omega arith)
 
 -- and one outside is that of a place past its size
-outside-past : (p : Position) (axis : ℕ) → spotAt p ≡ Outside axis → p ≡ Past axis
+pub outside-past : (p : Position) (axis : ℕ) → spotAt p ≡ Outside axis → p ≡ Past axis
 outside-past (At n) axis e = let z : _≡_ {A = ℕ} 0 1 = cc in absurd (omega arith)
 outside-past (Past k) axis e = ap Past (cc)
 

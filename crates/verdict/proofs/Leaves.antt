@@ -9,17 +9,21 @@ use lib.ListN.{length, getD, drop, replicate, length-replicate, getD-replicate, 
 use lib.Seq.{length-front, length-take-le, getD-append-add, getD-drop}
 use Rattle.answers.specs.Refusals.{refusalNumbers}
 use Rattle.answers.specs.declared.Refusal.{Refusal}
-use Rattle.answers.specs.declared.Refusal.the-variants.{Counts, Limits, Axis, Space, TooMany, Swizzle}
+use Rattle.answers.specs.declared.Refusal.the-variants.{Counts, Limits, Axis, Space, TooMany, Swizzle, CellOutside}
 use Rattle.card.specs.Card.{cells}
 use Rattle.card.specs.Admission.{countsFit, numbersFit, axesFit, spaceFits, fewEnough, swizzleFits, admission}
 use Rattle.card.specs.declared.Card.{Card}
 use Rattle.card.specs.declared.Admission.{Admission}
 use Rattle.card.specs.declared.Admission.the-variants.{Admitted, Refused}
+use Rattle.placement.specs.RowMajor.{position}
+use Rattle.placement.proofs.RowMajor.{FirstPast, first-past}
+use Rattle.placement.proofs.Spots.{position-past, outside-past}
 use Rattle.verdict.specs.Judgement.{Judgement, NotAdmitted, NoRoom, OutsideAt, Clashing, Passed, ComesTo}
 use Rattle.verdict.specs.Verdict.{verdictOf, cleared, tableAfter, VerdictPromise, OwnerJudgement, NoCell, ByVerdict, OwnerComesTo, readEntry, ownerTableAfter, ownerOf, OwnerPromise, verdictNumbers, ownerNumbers}
 use Rattle.verdict.specs.declared.Verdict.{Verdict}
 use Rattle.verdict.specs.declared.Verdict.the-variants.{Approved, Refused as NotApproved}
 use Rattle.verdict.specs.declared.Owner.{Owner}
+use Rattle.verdict.specs.declared.Owner.the-variants.{Refused as NoOwner}
 
 -- what an answer of this number leaves in the lent table
 pub record Leaves (card : Card) (before after : List ℕ) (number : ℕ) : Type 0 where
@@ -118,3 +122,26 @@ owner-leaves card coordinates before after owner p = rw (p .answers, p .leaves) 
         → Leaves card before (ownerTableAfter card j before) (ownerNumbers (ownerOf card coordinates j before) .number)
     go (NoCell axis) h = leaves-all card before 12 (λ e. omega arith) (λ e. omega arith)
     go (ByVerdict j) h = rw (same-number (verdictOf card j) _) (judgement-leaves card before j (h .1))
+
+-- refusal 12 of the owner names the smallest axis on which the asked coordinates lie outside the space
+pub owner-outside : (card : Card) (coordinates before after : List ℕ) (axis : ℕ) → length coordinates ≡ length (card .lengths)
+    → OwnerPromise card coordinates before after (NoOwner (CellOutside axis)) → FirstPast (card .lengths) coordinates axis
+owner-outside card coordinates before after axis same p = go (p .judgement) (p .comes) (p .answers)
+  where
+    named : (j : Judgement) (entry : ℕ) → ComesTo card (length before) j → NoOwner (CellOutside axis) ≡ readEntry (verdictOf card j) entry → ⊥
+    named (NotAdmitted r) entry h e =
+        let same-refusal : CellOutside axis ≡ r = cc in
+        let number = ap (λ (s : Refusal). refusalNumbers s .number) same-refusal in
+        omega (arith, admission-number card r h)
+    named NoRoom entry h e = let z : _≡_ {A = ℕ} 0 1 = cc in omega arith
+    named (OutsideAt flat a) entry h e = let z : _≡_ {A = ℕ} 0 1 = cc in omega arith
+    named (Clashing x y cell) entry h e = let z : _≡_ {A = ℕ} 0 1 = cc in omega arith
+    named (Passed owners occupied) entry h e = let z : _≡_ {A = ℕ} 0 1 = cc in omega arith
+
+    go : (j : OwnerJudgement) → OwnerComesTo card coordinates (length before) j → NoOwner (CellOutside axis) ≡ ownerOf card coordinates j before
+        → FirstPast (card .lengths) coordinates axis
+    go (NoCell a) h e =
+        let found : a ≡ axis = cc in
+        let past = position-past (card .lengths) coordinates a (outside-past (position (card .lengths) coordinates) a (h .1)) in
+        rw (sym found, sym (past .1)) (first-past (card .lengths) coordinates same (past .0))
+    go (ByVerdict j) h e = absurd (named j _ (h .1) e)

@@ -14,7 +14,7 @@ use Rattle.card.specs.Lists.{product}
 use Rattle.card.specs.Admission.{spaceFits}
 use Rattle.placement.specs.RowMajor.{rowMajor, inside}
 use Rattle.placement.proofs.Spaces.{whole}
-use Rattle.placement.proofs.Positions.{at-number, at-past}
+use Rattle.placement.proofs.Spots.{Numbered, position-at, position-past}
 use Rattle.placement.proofs.Prefixes.{row-major-prefix, prefix-within}
 use Rattle.table.specs.Stretch.{asked}
 use Rattle.table.proofs.Checks.{Parted, parted}
@@ -71,17 +71,16 @@ returns-3 c =
     let at = c .before .before .before in
     let two = fitting at in
     let a = start two .args in
-    let past = at-past (asked (a .axis) (a .t2)) (asked (a .axis) (a .t4)) _ (sym (at .locate .ensures) ∙ c .before .outside .given .1) in
+    let past = position-past (asked (a .axis) (a .t2)) (asked (a .axis) (a .t4)) _ (sym (at .locate .ensures) ∙ c .before .outside .given .1) in
     rw (an-axis (two .before .before), fits two, past .0, past .1)
 
 -- the asked coordinates are inside, and this is their number
 numbered : (c : tie.After-known-told) →
     let a = start (fitting (located c)) .args in
-    (inside (asked (a .axis) (a .t2)) (asked (a .axis) (a .t4)) ≡ true)
-    × (rowMajor (asked (a .axis) (a .t2)) (asked (a .axis) (a .t4)) ≡ c .before .number .given .0 .0)
+    Numbered (asked (a .axis) (a .t2)) (asked (a .axis) (a .t4)) (c .before .number .given .0 .0)
 numbered c =
     let a = start (fitting (located c)) .args in
-    at-number (asked (a .axis) (a .t2)) (asked (a .axis) (a .t4)) _ (sym (located c .locate .ensures) ∙ c .before .number .given .1)
+    position-at (asked (a .axis) (a .t2)) (asked (a .axis) (a .t4)) _ (sym (located c .locate .ensures) ∙ c .before .number .given .1)
 
 product-requires : tie.Need-product-requires
 product-requires c κs = search needs
@@ -98,7 +97,7 @@ cells-are c =
 returns-4 : tie.Need-returns-4
 returns-4 c =
     let two = fitting (located (c .before .before)) in
-    rw (an-axis (two .before .before), fits two, numbered (c .before .before) .0, sym (cells-are (c .before)), lt-ltb _ _ (c .if3 .taken))
+    rw (an-axis (two .before .before), fits two, numbered (c .before .before) .within, sym (cells-are (c .before)), lt-ltb _ _ (c .if3 .taken))
 
 add-product : tie.Need-add-product
 add-product c = search needs
@@ -124,7 +123,7 @@ first : (c : tie.After-product2) →
     ≡ rowMajor (a .t2) (asked (a .axis) (a .t4))
 first c =
     let a = start (fitting (located (told c))) .args in
-    ap₂ _*_ (sym (numbered (told c) .1)) (after-cells c) ∙ sym (row-major-prefix (a .axis + 1) (a .t2) (a .t4))
+    ap₂ _*_ (sym (numbered (told c) .number)) (after-cells c) ∙ sym (row-major-prefix (a .axis + 1) (a .t2) (a .t4))
 
 div-length : tie.Need-div-length
 div-length c = let p = parts (fitting (located (told c))) in omega (arith, first-cells c)
@@ -134,7 +133,7 @@ mul-t20 c =
     let two = fitting (located (told c)) in
     let a = start two .args in
     let p = parts two in
-    omega (arith, first c, prefix-within (a .axis + 1) (a .t2) (a .t4) (numbered (told c) .0))
+    omega (arith, first c, prefix-within (a .axis + 1) (a .t2) (a .t4) (numbered (told c) .within))
 
 returns-5 : tie.Need-returns-5
 returns-5 c =
@@ -142,7 +141,7 @@ returns-5 c =
     rw (
       an-axis (two .before .before),
       fits two,
-      numbered (told c) .0,
+      numbered (told c) .within,
       sym (cells-are (c .before .before)),
       le-ltb _ _ (c .before .if3 .left),
       first c,
