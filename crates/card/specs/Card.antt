@@ -5,9 +5,7 @@ use lib.ListN.{take}
 use Rattle.card.specs.Lists.{product}
 use Rattle.card.specs.declared.Iter.{Iter}
 use Rattle.card.specs.declared.Iters.{Iters}
-use Rattle.card.specs.declared.Columns.{Columns}
 use Rattle.card.specs.declared.Card.{Card}
-use Rattle.card.specs.declared.Sizes.{Sizes}
 
 -- iters past the count are ignored
 abbrev pub listed : Iters → List Iter
@@ -21,10 +19,6 @@ strideOf iter = iter .stride
 
 abbrev pub axisOf : Iter → ℕ
 axisOf iter = iter .axis
-
--- the numbers of a list of iters, a list for each kind
-abbrev pub columns : List Iter → Columns
-columns iters = record { extents = map extentOf iters; strides = map strideOf iters; axes = map axisOf iters }
 
 -- the product of the extents of a list of iters, 1 when there are none
 abbrev pub size : Iters → ℕ
@@ -41,6 +35,3 @@ copies card = size (card .replica)
 -- the cells: the product of the lengths
 abbrev pub cells : Card → ℕ
 cells card = product (card .lengths)
-
-abbrev pub sizes : Card → Sizes
-sizes card = record { elements = elements card; copies = copies card; cells = cells card }

@@ -1,5 +1,5 @@
 -- Document 01's limits of a layout card, each named once.
-use Prim.Native.Nat.{ℕ, _^_}
+use Prim.Native.Nat.{ℕ}
 
 -- the shard has 1 to 8 iters, the replica 0 to 4
 abbrev pub mostShard : ℕ
@@ -33,7 +33,3 @@ mostElements = 16384
 
 abbrev pub mostCopies : ℕ
 mostCopies = 64
-
--- no limit, but a number above every limit of a product: the code tells products apart below it
-abbrev pub beyond : ℕ
-beyond = 2 ^ 32

@@ -8,8 +8,8 @@ ghost use mathlib.Core.Bool.{true};
 ghost use Prim.Native.Nat.{_*_, _≤_, min};
 ghost use lib.ListN.{take};
 ghost use Rattle.card.specs.Lists.{all, within, product};
-ghost use Rattle.card.specs.Limits.{beyond};
-ghost use Rattle.card.specs.Card.{columns, size, sizes};
+ghost use Rattle.card.specs.Card.{size};
+ghost use Rattle.card.specs.Inside.{beyond, columns, sizes};
 ghost use Rattle.card.specs.Admission.{countsFit, itersFit, numbersFit, itersOnAxes, axesFit, spaceFits, fewEnough, admission, admissionNumbers};
 
 // The most iters of a shard and of a replica.
@@ -34,8 +34,8 @@ const MOST_ELEMENTS: u64 = 16384;
 
 pub const MOST_COPIES: u64 = 64;
 
-// Above every limit of a product: products are told apart below it.
-const BEYOND: u64 = 4294967296;
+// Above every limit of a product: products are told apart below it. Public for the crates above.
+pub const BEYOND: u64 = 4294967296;
 
 // An extent, a stride and an axis.
 pub struct Iter {
@@ -51,10 +51,10 @@ pub struct Iters {
 }
 
 // The numbers of a list of iters, as arrays.
-pub struct Columns {
-    pub extents: [u64; 8],
-    pub strides: [u64; 8],
-    pub axes: [u64; 8],
+struct Columns {
+    extents: [u64; 8],
+    strides: [u64; 8],
+    axes: [u64; 8],
 }
 
 // A layout card. The offset has one number per axis, and so have the lengths of the space.
@@ -79,9 +79,8 @@ pub enum Admission {
     Refused(Refusal),
 }
 
-// The numbers of all eight iters, one array for each kind. Public for the crates above, which unpack
-// a card once and lend its numbers.
-pub fn unpack(iters: Iters) -> Columns
+// The numbers of all eight iters, one array for each kind.
+fn unpack(iters: Iters) -> Columns
     ensures { λ r. ⌜ r ≡ columns (iters .at) ⌝ }
 {
     let mut extents: [u64; 8] = [0; 8];

@@ -1,18 +1,14 @@
 -- A lent card is admitted, so its numbers are what the functions inside ask for, and a copy from the base is the copy of the card.
 use mathlib.Core.Path.{_≡_, refl, ap, _∙_, fun-ext}
 use mathlib.Core.Bool.{true, _&&_, and-eq-true-iff}
-use mathlib.Core.List.{List, map}
+use mathlib.Core.List.{List, [], _∷_, map}
 use Prim.Native.Nat.{ℕ, _+_, _≤_, _<_}
 use native.Mathlib.Decide.{decLt}
 use native.Mathlib.Omega.{arith}
-use lib.ListN.{length, getD, length-map, List·getD-eq-default}
-use Rattle.swizzle.specs.declared.Swizzle.{Swizzle}
+use lib.ListN.{length, getD, List·getD-eq-default}
 use Rattle.card.specs.Lists.{all, within}
 use Rattle.card.specs.Limits.{mostStride}
-use Rattle.card.specs.Card.{extentOf, strideOf, axisOf, columns}
 use Rattle.card.specs.Admission.{itersFit, itersOnAxes, admission}
-use Rattle.card.specs.declared.Iter.{Iter}
-use Rattle.card.specs.declared.Columns.{Columns}
 use Rattle.card.specs.declared.Admission.the-variants.{Admitted}
 use Rattle.card.specs.declared.Iters.{Iters}
 use Rattle.card.specs.declared.Card.{Card}
@@ -20,10 +16,9 @@ use Rattle.card.proofs.Lists.{all-at, within-numbers}
 use Rattle.card.proofs.Listed.{Counted, counted}
 use Rattle.card.proofs.Admitted.{Checked, checked}
 use Rattle.placement.specs.Rules.{axes, part, sum, coordinates, spot}
-use Rattle.placement.specs.Placement.{Row}
-use Rattle.placement.specs.Inside.{itersOf, walked, spotFrom, roomy, Eight, Lent, Sums, Ready, cardOf, LentCard}
-use Rattle.placement.proofs.Joined.{joined-columns}
+use Rattle.placement.specs.Inside.{itersOf, numbersOf, walked, spotFrom, Row, roomy, Lent, Sums, Ready, cardOf, LentCard}
 use Rattle.placement.proofs.Along.{axes-at, on-axes}
+use Rattle.placement.proofs.Lending.{lent-back}
 use Rattle.placement.proofs.Turn.{along-room}
 
 -- what a walk leaves on an axis
@@ -65,10 +60,9 @@ eight-small l most h at axis =
     ]
 
 -- an admitted card whose numbers are lent
-module _ {se ss sa : List ℕ} {sc : ℕ} {re rs ra : List ℕ} {rc : ℕ} {offset lengths : List ℕ} {swizzle : Swizzle}
-    (lent : LentCard se ss sa sc re rs ra rc offset lengths swizzle) where
+module _ {shard replica offset lengths swizzle : List ℕ} (lent : LentCard shard replica offset lengths swizzle) where
   abbrev card : Card
-  card = cardOf se ss sa sc re rs ra rc offset lengths swizzle
+  card = cardOf shard replica offset lengths swizzle
 
   passed : Checked card
   passed = checked card (lent .admitted)
@@ -76,20 +70,20 @@ module _ {se ss sa : List ℕ} {sc : ℕ} {re rs ra : List ℕ} {rc : ℕ} {offs
   counts : Counted card
   counts = counted card (passed .counts)
 
-  on-the-axes : (itersOnAxes (itersOf se ss sa sc) ≡ true) × (itersOnAxes (itersOf re rs ra rc) ≡ true)
-  on-the-axes = and-eq-true-iff (itersOnAxes (itersOf se ss sa sc)) (itersOnAxes (itersOf re rs ra rc)) .0 (passed .axes)
+  on-the-axes : (itersOnAxes (itersOf shard) ≡ true) × (itersOnAxes (itersOf replica) ≡ true)
+  on-the-axes = and-eq-true-iff (itersOnAxes (itersOf shard)) (itersOnAxes (itersOf replica)) .0 (passed .axes)
 
-  fit : (itersFit (itersOf se ss sa sc) ≡ true) × (itersFit (itersOf re rs ra rc) ≡ true) × (all (within 0 mostStride) offset ≡ true)
+  fit : (itersFit (itersOf shard) ≡ true) × (itersFit (itersOf replica) ≡ true) × (all (within 0 mostStride) offset ≡ true)
   fit =
-      let both = and-eq-true-iff (itersFit (itersOf se ss sa sc) && itersFit (itersOf re rs ra rc)) (all (within 0 mostStride) offset) .0 (passed .numbers) in
-      let iters = and-eq-true-iff (itersFit (itersOf se ss sa sc)) (itersFit (itersOf re rs ra rc)) .0 (both .0) in
+      let both = and-eq-true-iff (itersFit (itersOf shard) && itersFit (itersOf replica)) (all (within 0 mostStride) offset) .0 (passed .numbers) in
+      let iters = and-eq-true-iff (itersFit (itersOf shard)) (itersFit (itersOf replica)) .0 (both .0) in
       (iters .0, iters .1, both .1)
 
-  pub lent-shard : Lent se ss sa sc
-  lent-shard = record { eight = lent .eight-shard; few = counts .shard; fit = fit .0; on-axes = on-the-axes .0 }
+  pub lent-shard : Lent shard
+  lent-shard = record { whole = lent .whole-shard; few = counts .shard; fit = fit .0; on-axes = on-the-axes .0 }
 
-  pub lent-replica : Lent re rs ra rc
-  lent-replica = let n = counts in record { eight = lent .eight-replica; few = omega arith; fit = fit .1; on-axes = on-the-axes .1 }
+  pub lent-replica : Lent replica
+  lent-replica = let n = counts in record { whole = lent .whole-replica; few = omega arith; fit = fit .1; on-axes = on-the-axes .1 }
 
   offset-at : (axis : ℕ) → axis < 8 → getD offset axis 0 ≤ mostStride
   offset-at axis h =
@@ -102,51 +96,42 @@ module _ {se ss sa : List ℕ} {sc : ℕ} {re rs ra : List ℕ} {rc : ℕ} {offs
     small = eight-small offset roomy (lent .eight-offsets) (λ axis h. let s = offset-at axis h in omega arith);
   }
 
-  base-sums : (flat : ℕ) → Sums (walked (itersOf se ss sa sc) flat offset)
+  base-sums : (flat : ℕ) → Sums (walked (itersOf shard) flat offset)
   base-sums flat =
-      let iters = itersOf se ss sa sc in
+      let iters = itersOf shard in
       record {
         eight = walked-eight iters flat offset;
         small =
             eight-small (walked iters flat offset) roomy (walked-eight iters flat offset)
-            (λ axis h. omega (arith, walked-at iters flat offset axis h, offset-at axis h, along-room se ss sa sc lent-shard 0 flat axis));
+            (λ axis h. omega (arith, walked-at iters flat offset axis h, offset-at axis h, along-room shard lent-shard 0 flat axis));
       }
 
   -- with its base an element's copies can be placed
-  pub ready : (flat : ℕ) → Ready (walked (itersOf se ss sa sc) flat offset) re rs ra rc lengths swizzle
+  pub ready : (flat : ℕ) → Ready (walked (itersOf shard) flat offset) replica lengths swizzle
   ready flat = record {
     sums = base-sums flat;
-    replica = lent-replica;
+    iters = lent-replica;
     space = record { eight-lengths = lent .eight-lengths; fits = passed .space };
+    three = lent .three;
     swizzles = passed .swizzle;
   }
 
--- the columns of a card's iters are the numbers of this card
-module _ (card : Card) {s r : Columns} (e : s ≡ columns (card .shard .at)) (f : r ≡ columns (card .replica .at)) where
-  abbrev again : Card
-  again =
-      cardOf (s .extents) (s .strides) (s .axes) (card .shard .count) (r .extents) (r .strides) (r .axes) (card .replica .count) (card .offset)
-      (card .lengths) (card .swizzle)
+-- the numbers of a card are those of this card and no other
+module _ (card : Card) {shard replica : List ℕ} (s : shard ≡ numbersOf (card .shard)) (r : replica ≡ numbersOf (card .replica))
+    (eight : (length (card .shard .at) ≡ 8) × (length (card .replica .at) ≡ 8) × (length (card .offset) ≡ 8) × (length (card .lengths) ≡ 8)) where
+  abbrev swizzle : List ℕ
+  swizzle = card .swizzle .m ∷ card .swizzle .b ∷ card .swizzle .s ∷ []
 
-  pub unpacked : again ≡ card
-  unpacked = rw (e, f, joined-columns (card .shard .at), joined-columns (card .replica .at))
+  pub unpacked : cardOf shard replica (card .offset) (card .lengths) swizzle ≡ card
+  unpacked = rw (s, r, lent-back (card .shard) (eight .0), lent-back (card .replica) (eight .1))
 
   -- and lent they are an admitted card's
-  pub lent-columns : admission card ≡ Admitted → length (card .shard .at) ≡ 8 → length (card .replica .at) ≡ 8 → length (card .offset) ≡ 8
-      → length (card .lengths) ≡ 8
-      → LentCard (s .extents) (s .strides) (s .axes) (card .shard .count) (r .extents) (r .strides) (r .axes) (card .replica .count) (card .offset)
-      (card .lengths) (card .swizzle)
-  lent-columns a hs hr ho hl = record {
-    eight-shard = eight (card .shard .at) hs e;
-    eight-replica = eight (card .replica .at) hr f;
-    eight-offsets = ho;
-    eight-lengths = hl;
+  pub lent-numbers : admission card ≡ Admitted → LentCard shard replica (card .offset) (card .lengths) swizzle
+  lent-numbers a = record {
+    whole-shard = ap length s;
+    whole-replica = ap length r;
+    eight-offsets = eight .2;
+    eight-lengths = eight .3;
+    three = refl;
     admitted = ap admission unpacked ∙ a;
   }
-    where
-      eight : (l : List Iter) → length l ≡ 8 → {c : Columns} → c ≡ columns l → Eight (c .extents) (c .strides) (c .axes)
-      eight l h {c} g = record {
-        eight-extents = ap (λ (c : Columns). length (c .extents)) g ∙ length-map l extentOf ∙ h;
-        eight-strides = ap (λ (c : Columns). length (c .strides)) g ∙ length-map l strideOf ∙ h;
-        eight-axes = ap (λ (c : Columns). length (c .axes)) g ∙ length-map l axisOf ∙ h;
-      }

@@ -10,7 +10,8 @@ use borrow.Author.Count.{below-more}
 use lib.ListN.{length, getD, set, length-set, length-map}
 use lib.Seq.{getD-set-same, getD-set-other, ext-getD}
 use Rattle.placement.specs.Rules.{axes}
-use Rattle.placement.specs.Placement.{combinations, cellOf, pastAxis, cellsOf, smallest, outsideOf, Row}
+use Rattle.placement.specs.Placement.{combinations, cellOf, pastAxis, cellsOf, smallest, outsideOf}
+use Rattle.placement.specs.Inside.{Row}
 use Rattle.placement.specs.declared.Spot.{Spot}
 use Rattle.placement.proofs.Along.{consecutive-at}
 

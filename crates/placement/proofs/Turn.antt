@@ -14,8 +14,8 @@ use Rattle.card.specs.Card.{listed, extentOf, strideOf, axisOf}
 use Rattle.card.specs.declared.Iter.{Iter}
 use Rattle.card.proofs.Lists.{all-at, within-numbers}
 use Rattle.card.proofs.Admitted.{Fitting, fitting}
-use Rattle.placement.specs.Inside.{joined, itersOf, Lent}
-use Rattle.placement.proofs.Joined.{none, joined-length, joined-at}
+use Rattle.placement.specs.Inside.{iterAt, slots, itersOf, none, Lent}
+use Rattle.placement.proofs.Lending.{slot-at}
 use Rattle.placement.proofs.Along.{along, step, along-small}
 
 all-drop : {A : Type 0} (f : A → ℕ) (p : ℕ → Bool) (k : ℕ) (l : List A) → all p (map f l) ≡ true → all p (map f (drop k l)) ≡ true
@@ -24,52 +24,58 @@ all-drop f p (suc k) [] t = t
 all-drop f p (suc k) (x ∷ l) t = all-drop f p k l (and-eq-true-iff (p (f x)) (all p (map f l)) .0 t .1)
 
 -- the numbers of an iter within their limits
-pub record Meets (extent stride axis : ℕ) : Type 0 where
-  pub some-extent : 1 ≤ extent
-  pub most-extent : extent ≤ mostExtent
-  pub most-stride : stride ≤ mostStride
-  pub an-axis : axis ≤ lastAxis
+pub record Meets (iter : Iter) : Type 0 where
+  pub some-extent : 1 ≤ iter .extent
+  pub most-extent : iter .extent ≤ mostExtent
+  pub most-stride : iter .stride ≤ mostStride
+  pub an-axis : iter .axis ≤ lastAxis
 
-module _ (es ss xs : List ℕ) (count : ℕ) (lent : Lent es ss xs count) where
-  pub eight-iters : length (joined es ss xs) ≡ 8
-  eight-iters = joined-length es ss xs (omega arith) (omega arith) ∙ lent .eight .eight-extents
+module _ (iters : List ℕ) (lent : Lent iters) where
+  abbrev count : ℕ
+  count = getD iters 0 0
 
-  pub lent-next : (k : ℕ) → k < count
-      → slice k count (joined es ss xs) ≡ record { extent = getD es k 0; stride = getD ss k 0; axis = getD xs k 0 } ∷ slice (k + 1) count (joined es ss xs)
+  -- its eight slots
+  abbrev at : List Iter
+  at = map (iterAt iters) slots
+
+  eight : length at ≡ 8
+  eight = refl
+
+  pub lent-next : (k : ℕ) → k < count → slice k count at ≡ iterAt iters k ∷ slice (k + 1) count at
   lent-next k h =
-      slice-next (joined es ss xs) k count none h (omega (arith, eight-iters))
-      ∙ ap (λ (i : Iter). i ∷ slice (k + 1) count (joined es ss xs)) (joined-at es ss xs k (omega arith) (omega arith) (omega arith))
+      slice-next at k count none h (omega (arith, lent .few, eight))
+      ∙ ap (λ (i : Iter). i ∷ slice (k + 1) count at) (slot-at (iterAt iters) k (omega (arith, lent .few)))
 
   -- what all iters pass, the iter at k passes
-  passes : (f : Iter → ℕ) (p : ℕ → Bool) → f none ≡ 0 → all p (map f (listed (itersOf es ss xs count))) ≡ true → (k : ℕ) → k < count
-      → p (f (record { extent = getD es k 0; stride = getD ss k 0; axis = getD xs k 0 })) ≡ true
+  passes : (f : Iter → ℕ) (p : ℕ → Bool) → f none ≡ 0 → all p (map f (listed (itersOf iters))) ≡ true → (k : ℕ) → k < count → p (f (iterAt iters k)) ≡ true
   passes f p zero-of t k h =
-      let l = take count (joined es ss xs) in
-      let long : k < length (map f l) = simp (length-map, length-take) (omega (arith, eight-iters)) in
-      rw (sym (joined-at es ss xs k (omega arith) (omega arith) (omega arith)), sym (getD-take count (joined es ss xs) k none h), sym (List·getD-map f l k none))
+      let l = take count at in
+      let long : k < length (map f l) = simp (length-map, length-take) (omega (arith, lent .few, eight)) in
+      rw (sym (slot-at (iterAt iters) k (omega (arith, lent .few))), sym (getD-take count at k none h), sym (List·getD-map f l k none))
       (all-at p (map f l) k (f none) t long)
 
-  fits : Fitting (itersOf es ss xs count)
-  fits = fitting (itersOf es ss xs count) (lent .fit)
+  fits : Fitting (itersOf iters)
+  fits = fitting (itersOf iters) (lent .fit)
 
-  pub meets : (k : ℕ) → k < count → Meets (getD es k 0) (getD ss k 0) (getD xs k 0)
+  pub meets : (k : ℕ) → k < count → Meets (iterAt iters k)
   meets k h =
-      let e = within-numbers 1 mostExtent (getD es k 0) (passes extentOf (within 1 mostExtent) refl (fits .extents) k h) in
-      let s = within-numbers 0 mostStride (getD ss k 0) (passes strideOf (within 0 mostStride) refl (fits .strides) k h) in
-      let x = within-numbers 0 lastAxis (getD xs k 0) (passes axisOf (within 0 lastAxis) refl (lent .on-axes) k h) in
+      let i = iterAt iters k in
+      let e = within-numbers 1 mostExtent (i .extent) (passes extentOf (within 1 mostExtent) refl (fits .extents) k h) in
+      let s = within-numbers 0 mostStride (i .stride) (passes strideOf (within 0 mostStride) refl (fits .strides) k h) in
+      let x = within-numbers 0 lastAxis (i .axis) (passes axisOf (within 0 lastAxis) refl (lent .on-axes) k h) in
       record { some-extent = e .0; most-extent = e .1; most-stride = s .1; an-axis = x .1 }
 
   -- a walk so far adds no more than eight steps
-  pub along-room : (k index axis : ℕ) → along (slice k count (joined es ss xs)) index axis ≤ 8 * step
+  pub along-room : (k index axis : ℕ) → along (slice k count at) index axis ≤ 8 * step
   along-room k index axis =
-      let l = take count (joined es ss xs) in
-      let few : length (drop k l) ≤ 8 = simp (length-drop, length-take) (omega (arith, eight-iters)) in
+      let l = take count at in
+      let few : length (drop k l) ≤ 8 = simp (length-drop, length-take) (omega (arith, eight)) in
       le-trans
       (along-small (drop k l) index axis (all-drop extentOf (within 1 mostExtent) k l (fits .extents)) (all-drop strideOf (within 0 mostStride) k l (fits .strides)))
       (mul-le-mul-right step few)
 
 -- one component times its stride is no more than a step
-pub component-room : (rest extent stride axis : ℕ) → Meets extent stride axis → rest % extent * stride ≤ step
-component-room rest extent stride axis m =
-    let below : rest % extent < extent = mod-lt rest (m .some-extent) in
+pub component-room : (rest : ℕ) (iter : Iter) → Meets iter → rest % iter .extent * iter .stride ≤ step
+component-room rest iter m =
+    let below : rest % iter .extent < iter .extent = mod-lt rest (m .some-extent) in
     le-trans (mul-le-mul {n₂ = mostExtent} {m₂ = mostStride} (omega arith) (m .most-stride)) (omega arith)

@@ -1,13 +1,14 @@
--- What the functions inside speak of: a card's numbers lent as arrays of eight, and the card that has these numbers.
-use Prim.Native.Nat.{ℕ, _+_, _^_, _≤_}
+-- What the functions inside speak of: a card's numbers lent as arrays, the card that has these numbers, and a position as one number.
+use Prim.Native.Nat.{ℕ, _+_, _*_, _-_, _^_, _≤_}
 use mathlib.Core.Path.{_≡_}
 use mathlib.Core.Bool.{true, cond}
 use mathlib.Core.List.{List, [], _∷_, map}
+use lib.Dec.{ltb}
 use lib.ListN.{length, getD, take}
 use Rattle.swizzle.specs.declared.Swizzle.{Swizzle}
 use Rattle.swizzle.specs.Swizzle.{permitted}
 use Rattle.card.specs.Lists.{product}
-use Rattle.card.specs.Limits.{beyond}
+use Rattle.card.specs.Inside.{beyond}
 use Rattle.card.specs.Admission.{itersFit, itersOnAxes, spaceFits, admission}
 use Rattle.card.specs.declared.Iter.{Iter}
 use Rattle.card.specs.declared.Iters.{Iters}
@@ -15,46 +16,76 @@ use Rattle.card.specs.declared.Card.{Card}
 use Rattle.card.specs.declared.Admission.the-variants.{Admitted}
 use Rattle.placement.specs.RowMajor.{position}
 use Rattle.placement.specs.Rules.{axes, part, swizzledM, spotAt}
-use Rattle.placement.specs.Placement.{entries, coordinatesFit, flatten}
+use Rattle.placement.specs.Placement.{entries, coordinatesFit, flatten, cellsOf, outsideOf}
 use Rattle.placement.specs.declared.Tuple.{Tuple}
+use Rattle.placement.specs.declared.Position.{Position}
+use Rattle.placement.specs.declared.Position.the-variants.{At, Past}
 use Rattle.placement.specs.declared.Spot.{Spot}
 use Rattle.placement.specs.declared.Found.{Found}
 use Rattle.placement.specs.declared.Found.the-variants.{Element, Nowhere}
 
--- the iters that have these extents, strides and axes
-abbrev pub joined : List ℕ → List ℕ → List ℕ → List Iter
-joined [] strides axes = []
-joined (e ∷ extents) [] axes = []
-joined (e ∷ extents) (s ∷ strides) [] = []
-joined (e ∷ extents) (s ∷ strides) (a ∷ axes) = record { extent = e; stride = s; axis = a } ∷ joined extents strides axes
+-- a list of iters is lent as 25 numbers: its count, then the extent, the stride and the axis of each of eight iters
+abbrev pub iterAt : List ℕ → ℕ → Iter
+iterAt numbers k = record { extent = getD numbers (3 * k + 1) 0; stride = getD numbers (3 * k + 2) 0; axis = getD numbers (3 * k + 3) 0 }
 
-abbrev pub itersOf : List ℕ → List ℕ → List ℕ → ℕ → Iters
-itersOf extents strides axes count = record { at = joined extents strides axes; count = count }
+abbrev pub slots : List ℕ
+slots = 0 ∷ 1 ∷ 2 ∷ 3 ∷ 4 ∷ 5 ∷ 6 ∷ 7 ∷ []
+
+abbrev pub itersOf : List ℕ → Iters
+itersOf numbers = record { at = map (iterAt numbers) slots; count = getD numbers 0 0 }
+
+abbrev pub none : Iter
+none = record { extent = 0; stride = 0; axis = 0 }
+
+abbrev pub slotNumbers : List Iter → List ℕ → List ℕ
+slotNumbers at [] = []
+slotNumbers at (k ∷ ks) = getD at k none .extent ∷ getD at k none .stride ∷ getD at k none .axis ∷ slotNumbers at ks
+
+abbrev pub numbersOf : Iters → List ℕ
+numbersOf iters = iters .count ∷ slotNumbers (iters .at) slots
+
+-- and a swizzle as M, B and S
+abbrev pub swizzleOf : List ℕ → Swizzle
+swizzleOf numbers = record { m = getD numbers 0 0; b = getD numbers 1 0; s = getD numbers 2 0 }
+
+-- a position as one number: that of the coordinates, or from beyond on the place past its size
+abbrev pub numberOf : Position → ℕ
+numberOf (At number) = number
+numberOf (Past k) = beyond + k
+
+-- the cell that such a number names, 0 outside, and the axis on which it lies outside, or the number of axes
+abbrev pub cellFrom : ℕ → ℕ
+cellFrom number = cond (ltb number beyond) number 0
+
+abbrev pub axisFrom : ℕ → ℕ
+axisFrom number = cond (ltb number beyond) (length axes) (number - beyond)
 
 -- sums with what iters add to each axis at an index
 unfoldable pub walked : Iters → ℕ → List ℕ → List ℕ
 walked iters index sums = map (λ axis. getD sums axis 0 + part iters index axis) axes
 
 -- where the copy of a combination goes whose base, shard and offset, is known
+abbrev pub positionFrom : List ℕ → Swizzle → Iters → List ℕ → ℕ → Position
+positionFrom lengths swizzle replica base combination = position lengths (swizzledM swizzle (walked replica combination base))
+
 abbrev pub spotFrom : List ℕ → Swizzle → Iters → List ℕ → ℕ → Spot
-spotFrom lengths swizzle replica base combination = spotAt (position lengths (swizzledM swizzle (walked replica combination base)))
+spotFrom lengths swizzle replica base combination = spotAt (positionFrom lengths swizzle replica base combination)
+
+-- a row after it was filled with the cells of as many combinations, and the smallest axis on which one lies outside
+pub record Row (at : ℕ → Spot) (before after : List ℕ) (outside : ℕ) : Type 0 where
+  pub cells : after ≡ cellsOf at (length before)
+  pub smallest-axis : outside ≡ outsideOf at (length before)
 
 -- a bound on the sums before a walk, with room to spare
 abbrev pub roomy : ℕ
 roomy = 2 ^ 40
 
--- arrays of eight
-pub record Eight (extents strides axes : List ℕ) : Type 0 where
-  pub eight-extents : length extents ≡ 8
-  pub eight-strides : length strides ≡ 8
-  pub eight-axes : length axes ≡ 8
-
--- with iters that fit
-pub record Lent (extents strides axes : List ℕ) (count : ℕ) : Type 0 where
-  pub eight : Eight extents strides axes
-  pub few : count ≤ 8
-  pub fit : itersFit (itersOf extents strides axes count) ≡ true
-  pub on-axes : itersOnAxes (itersOf extents strides axes count) ≡ true
+-- the numbers of iters that fit
+pub record Lent (iters : List ℕ) : Type 0 where
+  pub whole : length iters ≡ 25
+  pub few : getD iters 0 0 ≤ 8
+  pub fit : itersFit (itersOf iters) ≡ true
+  pub on-axes : itersOnAxes (itersOf iters) ≡ true
 
 pub record Sums (sums : List ℕ) : Type 0 where
   pub eight : length sums ≡ 8
@@ -66,11 +97,12 @@ pub record Space (lengths : List ℕ) : Type 0 where
   pub fits : spaceFits lengths ≡ true
 
 -- what the copies of an element are placed by: its base, the replica, the space and a permitted swizzle
-pub record Ready (base extents strides axes : List ℕ) (count : ℕ) (lengths : List ℕ) (swizzle : Swizzle) : Type 0 where
+pub record Ready (base replica lengths swizzle : List ℕ) : Type 0 where
   pub sums : Sums base
-  pub replica : Lent extents strides axes count
+  pub iters : Lent replica
   pub space : Space lengths
-  pub swizzles : permitted (swizzle .m) (swizzle .b) (swizzle .s) ≡ true
+  pub three : length swizzle ≡ 3
+  pub swizzles : permitted (getD swizzle 0 0) (getD swizzle 1 0) (getD swizzle 2 0) ≡ true
 
 -- arrays of eight sizes and coordinates, of which the first count are looked at
 pub record Locatable (sizes coordinates : List ℕ) (count : ℕ) : Type 0 where
@@ -81,25 +113,23 @@ pub record Locatable (sizes coordinates : List ℕ) (count : ℕ) : Type 0 where
   pub small : product (take count sizes) ≤ beyond
 
 -- the card that has these numbers: of the shard, of the replica, the offset, the lengths and the swizzle
-abbrev pub cardOf : List ℕ → List ℕ → List ℕ → ℕ → List ℕ → List ℕ → List ℕ → ℕ → List ℕ → List ℕ → Swizzle → Card
-cardOf es ss xs n fs ts ys m offset lengths swizzle = record {
-  shard = itersOf es ss xs n;
-  replica = itersOf fs ts ys m;
+abbrev pub cardOf : List ℕ → List ℕ → List ℕ → List ℕ → List ℕ → Card
+cardOf shard replica offset lengths swizzle = record {
+  shard = itersOf shard;
+  replica = itersOf replica;
   offset = offset;
   lengths = lengths;
-  swizzle = swizzle;
+  swizzle = swizzleOf swizzle;
 }
 
--- an admitted card's numbers, lent as arrays of eight
-pub record LentCard (shard-extents shard-strides shard-axes : List ℕ) (shard-count : ℕ) (replica-extents replica-strides replica-axes : List ℕ)
-    (replica-count : ℕ) (offset lengths : List ℕ) (swizzle : Swizzle) : Type 0 where
-  pub eight-shard : Eight shard-extents shard-strides shard-axes
-  pub eight-replica : Eight replica-extents replica-strides replica-axes
+-- an admitted card's numbers, lent as arrays
+pub record LentCard (shard replica offset lengths swizzle : List ℕ) : Type 0 where
+  pub whole-shard : length shard ≡ 25
+  pub whole-replica : length replica ≡ 25
   pub eight-offsets : length offset ≡ 8
   pub eight-lengths : length lengths ≡ 8
-  pub admitted :
-      admission (cardOf shard-extents shard-strides shard-axes shard-count replica-extents replica-strides replica-axes replica-count offset lengths swizzle)
-      ≡ Admitted
+  pub three : length swizzle ≡ 3
+  pub admitted : admission (cardOf shard replica offset lengths swizzle) ≡ Admitted
 
 -- a shape that can be numbered
 pub record Shaped (shape : Tuple) : Type 0 where

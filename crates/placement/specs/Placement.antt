@@ -49,11 +49,6 @@ smallest (n ∷ ns) = min n (smallest ns)
 abbrev pub outsideOf : (ℕ → Spot) → ℕ → ℕ
 outsideOf at n = smallest (map (λ combination. pastAxis (at combination)) (combinations 0 n))
 
--- a row after it was filled with the cells of as many combinations, and the smallest axis on which one lies outside
-pub record Row (at : ℕ → Spot) (before after : List ℕ) (outside : ℕ) : Type 0 where
-  pub cells : after ≡ cellsOf at (length before)
-  pub smallest-axis : outside ≡ outsideOf at (length before)
-
 -- the cells of all copies of an element, and the smallest axis on which a copy lies outside
 unfoldable pub copyCells : Card → ℕ → List ℕ
 copyCells card flat = cellsOf (spot card flat) (copies card)

@@ -5,19 +5,19 @@ use answers::Numbers;
 use answers::Refusal;
 use card::Admission;
 use card::Card;
-use swizzle::Swizzle;
+use card::Iters;
 ghost use mathlib.Core.Path.{_≡_};
-ghost use Prim.Native.Nat.{_^_, _<_, min};
+ghost use Prim.Native.Nat.{_<_, min};
 ghost use lib.ListN.{length, take};
 ghost use Rattle.card.specs.Lists.{product};
-ghost use Rattle.card.specs.Limits.{beyond};
+ghost use Rattle.card.specs.Inside.{beyond};
 ghost use Rattle.card.specs.Card.{copies};
 ghost use Rattle.card.specs.Admission.{admission};
 ghost use Rattle.card.specs.declared.Admission.the-variants.{Admitted};
 ghost use Rattle.placement.specs.RowMajor.{position};
 ghost use Rattle.placement.specs.Rules.{spotAt, spot};
-ghost use Rattle.placement.specs.Placement.{cellOf, pastAxis, Row, outsideAxis, shapeAdmitted, Placing, placementNumbers};
-ghost use Rattle.placement.specs.Inside.{Lent, Sums, Space, Locatable, Ready, LentCard, itersOf, walked, spotFrom, cardOf, Shaped, element};
+ghost use Rattle.placement.specs.Placement.{outsideAxis, shapeAdmitted, Placing, placementNumbers};
+ghost use Rattle.placement.specs.Inside.{itersOf, numbersOf, swizzleOf, numberOf, cellFrom, axisFrom, walked, positionFrom, spotFrom, Row, Lent, Sums, Space, Locatable, Ready, cardOf, LentCard, Shaped, element};
 
 // The most dimensions of a shape.
 const MOST_DIMENSIONS: u64 = 8;
@@ -58,28 +58,76 @@ pub enum Placement {
     Refused(Refusal),
 }
 
+// The numbers of a list of iters as the functions inside are lent them: its count, then the extent,
+// the stride and the axis of each. Public for the crates above, which lend a card's numbers.
+pub fn lend(iters: Iters) -> [u64; 25]
+    ensures { λ r. ⌜ r ≡ numbersOf iters ⌝ }
+{
+    let at = iters.at;
+    [
+        iters.count,
+        at[0].extent,
+        at[0].stride,
+        at[0].axis,
+        at[1].extent,
+        at[1].stride,
+        at[1].axis,
+        at[2].extent,
+        at[2].stride,
+        at[2].axis,
+        at[3].extent,
+        at[3].stride,
+        at[3].axis,
+        at[4].extent,
+        at[4].stride,
+        at[4].axis,
+        at[5].extent,
+        at[5].stride,
+        at[5].axis,
+        at[6].extent,
+        at[6].stride,
+        at[6].axis,
+        at[7].extent,
+        at[7].stride,
+        at[7].axis,
+    ]
+}
+
 // Adds to the sums what the iters add to each axis at an index: one walk over the iters for all
 // eight axes, from the last, which runs fastest.
-fn walk(
-    extents: &[u64; 8],
-    strides: &[u64; 8],
-    axes: &[u64; 8],
-    count: u64,
-    index: u64,
-    sums: &mut [u64; 8],
-)
-    requires { ⌜ Lent (now extents) (now strides) (now axes) count × Sums (now sums) ⌝ }
-    ensures { λ r. ⌜ now (sums .exit) ≡ walked (itersOf (now (extents .entry)) (now (strides .entry)) (now (axes .entry)) count) index (now (sums .entry)) ⌝ }
+fn walk(iters: &[u64; 25], index: u64, sums: &mut [u64; 8])
+    requires { ⌜ Lent (now iters) × Sums (now sums) ⌝ }
+    ensures { λ r. ⌜ now (sums .exit) ≡ walked (itersOf (now (iters .entry))) index (now (sums .entry)) ⌝ }
 {
     let mut rest = index;
-    let mut k = count as usize;
+    let mut k = iters[0] as usize;
     while 0 < k {
         k -= 1;
-        let extent = extents[k];
-        let axis = axes[k] as usize;
-        sums[axis] = sums[axis] + rest % extent * strides[k];
+        let extent = iters[3 * k + 1];
+        let axis = iters[3 * k + 3] as usize;
+        sums[axis] = sums[axis] + rest % extent * iters[3 * k + 2];
         rest = rest / extent;
     }
+}
+
+// Where coordinates are among sizes, as one word for the loops: their number row-major, or BEYOND and
+// the first place past its size.
+fn number_among(sizes: &[u64; 8], coordinates: &[u64; 8], count: u64) -> u64
+    requires { ⌜ Locatable (now sizes) (now coordinates) count ⌝ }
+    ensures { λ r. ⌜ r ≡ numberOf (position (take count (now (sizes .entry))) (take count (now (coordinates .entry)))) ⌝ }
+{
+    let mut number: u64 = 0;
+    let mut k: u64 = 0;
+    while k < count {
+        let size = sizes[k as usize];
+        let coordinate = coordinates[k as usize];
+        if size <= coordinate {
+            return card::BEYOND + k;
+        }
+        number = number * size + coordinate;
+        k += 1;
+    }
+    number
 }
 
 // Where coordinates are among sizes: their number row-major, or the first place past its size. Public,
@@ -88,18 +136,12 @@ pub fn locate(sizes: &[u64; 8], coordinates: &[u64; 8], count: u64) -> Position
     requires { ⌜ Locatable (now sizes) (now coordinates) count ⌝ }
     ensures { λ r. ⌜ r ≡ position (take count (now (sizes .entry))) (take count (now (coordinates .entry))) ⌝ }
 {
-    let mut number: u64 = 0;
-    let mut k: u64 = 0;
-    while k < count {
-        let size = sizes[k as usize];
-        let coordinate = coordinates[k as usize];
-        if size <= coordinate {
-            return Position::Past(k);
-        }
-        number = number * size + coordinate;
-        k += 1;
+    let number = number_among(sizes, coordinates, count);
+    if number < card::BEYOND {
+        Position::At(number)
+    } else {
+        Position::Past(number - card::BEYOND)
     }
-    Position::At(number)
 }
 
 // The spot of coordinates in a space. Public, with a requires, for the crates above, which ask for a
@@ -114,45 +156,43 @@ pub fn spot_at(lengths: &[u64; 8], coordinates: &[u64; 8]) -> Spot
     }
 }
 
-// The spot of one copy: the base of its element, then the replica, then the swizzle of m, and only
-// then the space is asked.
-fn copy_spot(
+// Where one copy goes, as one word: the base of its element, then the replica, then the swizzle of m,
+// and only then the space is asked.
+fn copy_number(
     base: &[u64; 8],
-    extents: &[u64; 8],
-    strides: &[u64; 8],
-    axes: &[u64; 8],
-    count: u64,
+    replica: &[u64; 25],
     lengths: &[u64; 8],
-    swizzle: Swizzle,
+    swizzle: &[u64; 3],
     combination: u64,
-) -> Spot
-    requires { ⌜ Ready (now base) (now extents) (now strides) (now axes) count (now lengths) swizzle ⌝ }
-    ensures { λ r. ⌜ r ≡ spotFrom (now (lengths .entry)) swizzle (itersOf (now (extents .entry)) (now (strides .entry)) (now (axes .entry)) count) (now (base .entry)) combination ⌝ }
+) -> u64
+    requires { ⌜ Ready (now base) (now replica) (now lengths) (now swizzle) ⌝ }
+    ensures { λ r. ⌜ r ≡ numberOf (positionFrom (now (lengths .entry)) (swizzleOf (now (swizzle .entry))) (itersOf (now (replica .entry))) (now (base .entry)) combination) ⌝ }
 {
     let mut coordinates = *base;
-    walk(extents, strides, axes, count, combination, &mut coordinates);
-    coordinates[M] = swizzle::swizzle_permitted(swizzle.m, swizzle.b, swizzle.s, coordinates[M]);
-    spot_at(lengths, &coordinates)
+    walk(replica, combination, &mut coordinates);
+    coordinates[M] = swizzle::swizzle_permitted(swizzle[0], swizzle[1], swizzle[2], coordinates[M]);
+    number_among(lengths, &coordinates, AXES)
 }
 
-// The cell number of a spot as lent memory holds it, 0 outside.
-fn cell_number(spot: Spot) -> u32
-    requires { ⌜ cellOf spot < 2 ^ 32 ⌝ }
-    ensures { λ r. ⌜ r ≡ cellOf spot ⌝ }
+// The cell that such a word names as lent memory holds it, 0 outside.
+fn cell_from(number: u64) -> u32
+    ensures { λ r. ⌜ r ≡ cellFrom number ⌝ }
 {
-    match spot {
-        Spot::Inside(cell) => cell.0 as u32,
-        Spot::Outside(_) => 0,
+    if number < card::BEYOND {
+        number as u32
+    } else {
+        0
     }
 }
 
-// The axis on which a spot lies outside, or AXES.
-fn past_axis(spot: Spot) -> u64
-    ensures { λ r. ⌜ r ≡ pastAxis spot ⌝ }
+// The axis on which it lies outside, or AXES.
+fn axis_from(number: u64) -> u64
+    ensures { λ r. ⌜ r ≡ axisFrom number ⌝ }
 {
-    match spot {
-        Spot::Inside(_) => AXES,
-        Spot::Outside(axis) => axis,
+    if number < card::BEYOND {
+        AXES
+    } else {
+        number - card::BEYOND
     }
 }
 
@@ -167,32 +207,20 @@ fn smaller(a: u64, b: u64) -> u64
 // which one lies outside, or AXES.
 fn place_copies(
     base: &[u64; 8],
-    extents: &[u64; 8],
-    strides: &[u64; 8],
-    axes: &[u64; 8],
-    count: u64,
+    replica: &[u64; 25],
     lengths: &[u64; 8],
-    swizzle: Swizzle,
+    swizzle: &[u64; 3],
     row: &mut [u32],
 ) -> u64
-    requires { ⌜ Ready (now base) (now extents) (now strides) (now axes) count (now lengths) swizzle ⌝ }
-    ensures { λ r. ⌜ Row (spotFrom (now (lengths .entry)) swizzle (itersOf (now (extents .entry)) (now (strides .entry)) (now (axes .entry)) count) (now (base .entry))) (now (row .entry)) (now (row .exit)) r ⌝ }
+    requires { ⌜ Ready (now base) (now replica) (now lengths) (now swizzle) ⌝ }
+    ensures { λ r. ⌜ Row (spotFrom (now (lengths .entry)) (swizzleOf (now (swizzle .entry))) (itersOf (now (replica .entry))) (now (base .entry))) (now (row .entry)) (now (row .exit)) r ⌝ }
 {
     let mut outside = AXES;
     let mut combination: usize = 0;
     while combination < row.len() {
-        let spot = copy_spot(
-            base,
-            extents,
-            strides,
-            axes,
-            count,
-            lengths,
-            swizzle,
-            combination as u64,
-        );
-        row[combination] = cell_number(spot);
-        outside = smaller(outside, past_axis(spot));
+        let number = copy_number(base, replica, lengths, swizzle, combination as u64);
+        row[combination] = cell_from(number);
+        outside = smaller(outside, axis_from(number));
         combination += 1;
     }
     outside
@@ -202,42 +230,20 @@ fn place_copies(
 // the smallest axis on which one lies outside, or AXES. Public, with a requires, for the crates
 // above, whose loops lend an admitted card's numbers.
 pub fn place_row(
-    shard_extents: &[u64; 8],
-    shard_strides: &[u64; 8],
-    shard_axes: &[u64; 8],
-    shard_count: u64,
-    replica_extents: &[u64; 8],
-    replica_strides: &[u64; 8],
-    replica_axes: &[u64; 8],
-    replica_count: u64,
+    shard: &[u64; 25],
+    replica: &[u64; 25],
     offset: &[u64; 8],
     lengths: &[u64; 8],
-    swizzle: Swizzle,
+    swizzle: &[u64; 3],
     flat: Flat,
     row: &mut [u32],
 ) -> u64
-    requires { ⌜ LentCard (now «shard_extents») (now «shard_strides») (now «shard_axes») «shard_count» (now «replica_extents») (now «replica_strides») (now «replica_axes») «replica_count» (now offset) (now lengths) swizzle ⌝ }
-    ensures { λ r. ⌜ Row (spot (cardOf (now («shard_extents» .entry)) (now («shard_strides» .entry)) (now («shard_axes» .entry)) «shard_count» (now («replica_extents» .entry)) (now («replica_strides» .entry)) (now («replica_axes» .entry)) «replica_count» (now (offset .entry)) (now (lengths .entry)) swizzle) (flat .0)) (now (row .entry)) (now (row .exit)) r ⌝ }
+    requires { ⌜ LentCard (now shard) (now replica) (now offset) (now lengths) (now swizzle) ⌝ }
+    ensures { λ r. ⌜ Row (spot (cardOf (now (shard .entry)) (now (replica .entry)) (now (offset .entry)) (now (lengths .entry)) (now (swizzle .entry))) (flat .0)) (now (row .entry)) (now (row .exit)) r ⌝ }
 {
     let mut base = *offset;
-    walk(
-        shard_extents,
-        shard_strides,
-        shard_axes,
-        shard_count,
-        flat.0,
-        &mut base,
-    );
-    place_copies(
-        &base,
-        replica_extents,
-        replica_strides,
-        replica_axes,
-        replica_count,
-        lengths,
-        swizzle,
-        row,
-    )
+    walk(shard, flat.0, &mut base);
+    place_copies(&base, replica, lengths, swizzle, row)
 }
 
 // Check 9: whether a shape is admitted by this many elements. Its product is judged whole.
@@ -270,7 +276,7 @@ fn flatten(shape: Tuple, coordinates: Tuple) -> Found
     }
 }
 
-// The row of an element of an admitted card: the card is unpacked once and its numbers lent.
+// The row of an element of an admitted card: its numbers are unpacked once and lent.
 fn place_card(card: Card, flat: Flat, row: &mut [u32]) -> u64
     requires { ⌜ admission card ≡ Admitted ⌝ }
     ensures { λ r. ⌜ Row (spot card (flat .0)) (now (row .entry)) (now (row .exit)) r ⌝ }
@@ -279,27 +285,15 @@ fn place_card(card: Card, flat: Flat, row: &mut [u32]) -> u64
     let replica = card.replica;
     let offset = card.offset;
     let lengths = card.lengths;
-    let swizzle = card.swizzle;
-    let s = card::unpack(shard);
-    let r = card::unpack(replica);
-    let shard_extents = s.extents;
-    let shard_strides = s.strides;
-    let shard_axes = s.axes;
-    let replica_extents = r.extents;
-    let replica_strides = r.strides;
-    let replica_axes = r.axes;
+    let shard_numbers = lend(shard);
+    let replica_numbers = lend(replica);
+    let swizzle = [card.swizzle.m, card.swizzle.b, card.swizzle.s];
     place_row(
-        &shard_extents,
-        &shard_strides,
-        &shard_axes,
-        shard.count,
-        &replica_extents,
-        &replica_strides,
-        &replica_axes,
-        replica.count,
+        &shard_numbers,
+        &replica_numbers,
         &offset,
         &lengths,
-        swizzle,
+        &swizzle,
         flat,
         row,
     )

@@ -11,7 +11,7 @@ ghost use Rattle.claims.specs.Claims.{taken, occupied};
 ghost use Rattle.claims.specs.Rows.{Within, smaller, entryMet, cellWith, cellMet, written, RowClaim};
 ghost use Rattle.table.specs.Owners.{entryLimit, clashOf};
 
-// Every cell is nobody's.
+// Every cell is nobody's. Public for the crates above.
 pub fn clear(table: &mut [u32])
     ensures { λ r. ⌜ now (table .exit) ≡ replicate (length (now (table .entry))) 0 ⌝ }
 {
@@ -101,7 +101,7 @@ fn write_row(table: &mut [u32], row: &[u32], flat: Flat) -> u64
 }
 
 // Claims a row for an element and says how many cells it occupies newly. Where a cell of the row has
-// an owner already, it claims none.
+// an owner already, it claims none. Public, with a requires, for the crates above.
 pub fn claim_row(table: &mut [u32], row: &[u32], flat: Flat) -> u64
     requires { ⌜ Within (now row) (now table) ⌝ }
     requires { ⌜ 0 < length (now row) ⌝ }
@@ -115,7 +115,7 @@ pub fn claim_row(table: &mut [u32], row: &[u32], flat: Flat) -> u64
 }
 
 // Why an element's row can not be claimed: the smallest owner that it meets, and the smallest cell
-// that it shares with that owner.
+// that it shares with that owner. Public, with a requires, for the crates above.
 pub fn find_clash(table: &[u32], row: &[u32], flat: Flat) -> Refusal
     requires { ⌜ Within (now row) (now table) ⌝ }
     requires { ⌜ 0 < entryMet (now table) (now row) ⌝ }

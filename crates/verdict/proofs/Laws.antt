@@ -12,7 +12,8 @@ use Rattle.card.specs.declared.Card.{Card}
 use Rattle.card.specs.declared.Admission.the-variants.{Admitted}
 use Rattle.card.proofs.Admitted.{sized}
 use Rattle.placement.specs.Rules.{axes, spot}
-use Rattle.placement.specs.Placement.{cellOf, Row, cellsOf, outsideOf, copyCells, outsideAxis}
+use Rattle.placement.specs.Inside.{Row}
+use Rattle.placement.specs.Placement.{cellOf, cellsOf, outsideOf, copyCells, outsideAxis}
 use Rattle.placement.specs.declared.Spot.{Spot}
 use Rattle.placement.specs.declared.Spot.the-variants.{Inside, Outside}
 use Rattle.placement.proofs.Spots.{cell-below}

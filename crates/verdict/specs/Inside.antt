@@ -1,9 +1,8 @@
--- What the functions inside speak of: an admitted card's numbers lent as arrays of eight, and a row lent for the copies of one element.
+-- What the functions inside speak of: an admitted card's numbers lent as arrays, and a row lent for the copies of one element.
 use mathlib.Core.Path.{_≡_}
 use mathlib.Core.List.{List}
 use Prim.Native.Nat.{ℕ, _<_}
 use lib.ListN.{length, getD}
-use Rattle.swizzle.specs.declared.Swizzle.{Swizzle}
 use Rattle.card.specs.Card.{elements, copies, cells}
 use Rattle.card.specs.declared.Card.{Card}
 use Rattle.placement.specs.Placement.{copyCells}
@@ -16,18 +15,10 @@ use Rattle.verdict.specs.declared.Search.{Search}
 use Rattle.verdict.specs.declared.Search.the-variants.{Outside, NoneOutside}
 
 -- what a pass over the elements is lent: an admitted card's numbers, how many elements it has, and a row as long as its copies
-pub record Pass (shard-extents shard-strides shard-axes : List ℕ) (shard-count : ℕ) (replica-extents replica-strides replica-axes : List ℕ)
-    (replica-count : ℕ) (offset lengths : List ℕ) (swizzle : Swizzle) (count : ℕ) (row : List ℕ) : Type 0 where
-  pub lent :
-      LentCard shard-extents shard-strides shard-axes shard-count replica-extents replica-strides replica-axes replica-count offset lengths swizzle
-  pub all-elements :
-      count
-      ≡ elements
-      (cardOf shard-extents shard-strides shard-axes shard-count replica-extents replica-strides replica-axes replica-count offset lengths swizzle)
-  pub one-each :
-      length row
-      ≡ copies
-      (cardOf shard-extents shard-strides shard-axes shard-count replica-extents replica-strides replica-axes replica-count offset lengths swizzle)
+pub record Pass (shard replica offset lengths swizzle : List ℕ) (count : ℕ) (row : List ℕ) : Type 0 where
+  pub lent : LentCard shard replica offset lengths swizzle
+  pub all-elements : count ≡ elements (cardOf shard replica offset lengths swizzle)
+  pub one-each : length row ≡ copies (cardOf shard replica offset lengths swizzle)
 
 -- what the first pass finds
 abbrev pub Finds : Card → Search → Type 0

@@ -7,12 +7,12 @@ use card::Admission;
 use card::Card;
 use card::Sizes;
 use placement::Spot;
-use swizzle::Swizzle;
 use table::owners;
 ghost use mathlib.Core.Path.{_≡_};
 ghost use Prim.Native.Nat.{_<_};
 ghost use lib.ListN.{length, replicate};
-ghost use Rattle.card.specs.Card.{copies, cells, sizes as sizesOf};
+ghost use Rattle.card.specs.Card.{copies, cells};
+ghost use Rattle.card.specs.Inside.{sizes as sizesOf};
 ghost use Rattle.card.specs.Admission.{admission};
 ghost use Rattle.card.specs.declared.Admission.the-variants.{Admitted};
 ghost use Rattle.placement.specs.Inside.{cardOf, LentCard};
@@ -46,40 +46,20 @@ enum Search {
 
 // The first pass: the smallest element of which a copy lies outside the space.
 fn first_outside(
-    shard_extents: &[u64; 8],
-    shard_strides: &[u64; 8],
-    shard_axes: &[u64; 8],
-    shard_count: u64,
-    replica_extents: &[u64; 8],
-    replica_strides: &[u64; 8],
-    replica_axes: &[u64; 8],
-    replica_count: u64,
+    shard: &[u64; 25],
+    replica: &[u64; 25],
     offset: &[u64; 8],
     lengths: &[u64; 8],
-    swizzle: Swizzle,
+    swizzle: &[u64; 3],
     elements: u64,
     row: &mut [u32],
 ) -> Search
-    requires { ⌜ Pass (now «shard_extents») (now «shard_strides») (now «shard_axes») «shard_count» (now «replica_extents») (now «replica_strides») (now «replica_axes») «replica_count» (now offset) (now lengths) swizzle elements (now row) ⌝ }
-    ensures { λ r. ⌜ Finds (cardOf (now («shard_extents» .entry)) (now («shard_strides» .entry)) (now («shard_axes» .entry)) «shard_count» (now («replica_extents» .entry)) (now («replica_strides» .entry)) (now («replica_axes» .entry)) «replica_count» (now (offset .entry)) (now (lengths .entry)) swizzle) r ⌝ }
+    requires { ⌜ Pass (now shard) (now replica) (now offset) (now lengths) (now swizzle) elements (now row) ⌝ }
+    ensures { λ r. ⌜ Finds (cardOf (now (shard .entry)) (now (replica .entry)) (now (offset .entry)) (now (lengths .entry)) (now (swizzle .entry))) r ⌝ }
 {
     let mut flat: u64 = 0;
     while flat < elements {
-        let axis = placement::place_row(
-            shard_extents,
-            shard_strides,
-            shard_axes,
-            shard_count,
-            replica_extents,
-            replica_strides,
-            replica_axes,
-            replica_count,
-            offset,
-            lengths,
-            swizzle,
-            Flat(flat),
-            row,
-        );
+        let axis = placement::place_row(shard, replica, offset, lengths, swizzle, Flat(flat), row);
         if axis < placement::AXES {
             return Search::Outside {
                 flat: Flat(flat),
@@ -94,41 +74,21 @@ fn first_outside(
 // Places the copies of one element and claims their cells: how many are newly occupied, none where a
 // cell has an owner already.
 fn claim_element(
-    shard_extents: &[u64; 8],
-    shard_strides: &[u64; 8],
-    shard_axes: &[u64; 8],
-    shard_count: u64,
-    replica_extents: &[u64; 8],
-    replica_strides: &[u64; 8],
-    replica_axes: &[u64; 8],
-    replica_count: u64,
+    shard: &[u64; 25],
+    replica: &[u64; 25],
     offset: &[u64; 8],
     lengths: &[u64; 8],
-    swizzle: Swizzle,
+    swizzle: &[u64; 3],
     flat: Flat,
     row: &mut [u32],
     table: &mut [u32],
 ) -> u64
-    requires { ⌜ LentCard (now «shard_extents») (now «shard_strides») (now «shard_axes») «shard_count» (now «replica_extents») (now «replica_strides») (now «replica_axes») «replica_count» (now offset) (now lengths) swizzle ⌝ }
-    requires { ⌜ length (now row) ≡ copies (cardOf (now «shard_extents») (now «shard_strides») (now «shard_axes») «shard_count» (now «replica_extents») (now «replica_strides») (now «replica_axes») «replica_count» (now offset) (now lengths) swizzle) ⌝ }
-    requires { ⌜ Claimable (cardOf (now «shard_extents») (now «shard_strides») (now «shard_axes») «shard_count» (now «replica_extents») (now «replica_strides») (now «replica_axes») «replica_count» (now offset) (now lengths) swizzle) (flat .0) (now table) ⌝ }
-    ensures { λ r. ⌜ ElementClaim (cardOf (now («shard_extents» .entry)) (now («shard_strides» .entry)) (now («shard_axes» .entry)) «shard_count» (now («replica_extents» .entry)) (now («replica_strides» .entry)) (now («replica_axes» .entry)) «replica_count» (now (offset .entry)) (now (lengths .entry)) swizzle) (flat .0) r (now (row .exit)) (now (table .entry)) (now (table .exit)) ⌝ }
+    requires { ⌜ LentCard (now shard) (now replica) (now offset) (now lengths) (now swizzle) ⌝ }
+    requires { ⌜ length (now row) ≡ copies (cardOf (now shard) (now replica) (now offset) (now lengths) (now swizzle)) ⌝ }
+    requires { ⌜ Claimable (cardOf (now shard) (now replica) (now offset) (now lengths) (now swizzle)) (flat .0) (now table) ⌝ }
+    ensures { λ r. ⌜ ElementClaim (cardOf (now (shard .entry)) (now (replica .entry)) (now (offset .entry)) (now (lengths .entry)) (now (swizzle .entry))) (flat .0) r (now (row .exit)) (now (table .entry)) (now (table .exit)) ⌝ }
 {
-    placement::place_row(
-        shard_extents,
-        shard_strides,
-        shard_axes,
-        shard_count,
-        replica_extents,
-        replica_strides,
-        replica_axes,
-        replica_count,
-        offset,
-        lengths,
-        swizzle,
-        flat,
-        row,
-    );
+    placement::place_row(shard, replica, offset, lengths, swizzle, flat, row);
     owners::claim_row(table, row, flat)
 }
 
@@ -147,38 +107,25 @@ fn refuse_clash(table: &mut [u32], row: &[u32], flat: Flat) -> Refusal
 // The second pass: claims the cells of every element in the cleared table, which has exactly the
 // cells. The first element that meets an owner is refused.
 fn claim_all(
-    shard_extents: &[u64; 8],
-    shard_strides: &[u64; 8],
-    shard_axes: &[u64; 8],
-    shard_count: u64,
-    replica_extents: &[u64; 8],
-    replica_strides: &[u64; 8],
-    replica_axes: &[u64; 8],
-    replica_count: u64,
+    shard: &[u64; 25],
+    replica: &[u64; 25],
     offset: &[u64; 8],
     lengths: &[u64; 8],
-    swizzle: Swizzle,
+    swizzle: &[u64; 3],
     elements: u64,
     row: &mut [u32],
     table: &mut [u32],
 ) -> Verdict
-    requires { ⌜ Pass (now «shard_extents») (now «shard_strides») (now «shard_axes») «shard_count» (now «replica_extents») (now «replica_strides») (now «replica_axes») «replica_count» (now offset) (now lengths) swizzle elements (now row) ⌝ }
-    requires { ⌜ AllInside (cardOf (now «shard_extents») (now «shard_strides») (now «shard_axes») «shard_count» (now «replica_extents») (now «replica_strides») (now «replica_axes») «replica_count» (now offset) (now lengths) swizzle) ⌝ }
-    requires { ⌜ now table ≡ replicate (cells (cardOf (now «shard_extents») (now «shard_strides») (now «shard_axes») «shard_count» (now «replica_extents») (now «replica_strides») (now «replica_axes») «replica_count» (now offset) (now lengths) swizzle)) 0 ⌝ }
-    ensures { λ r. ⌜ VerdictPromise (cardOf (now («shard_extents» .entry)) (now («shard_strides» .entry)) (now («shard_axes» .entry)) «shard_count» (now («replica_extents» .entry)) (now («replica_strides» .entry)) (now («replica_axes» .entry)) «replica_count» (now (offset .entry)) (now (lengths .entry)) swizzle) (now (table .entry)) (now (table .exit)) r ⌝ }
+    requires { ⌜ Pass (now shard) (now replica) (now offset) (now lengths) (now swizzle) elements (now row) ⌝ }
+    requires { ⌜ AllInside (cardOf (now shard) (now replica) (now offset) (now lengths) (now swizzle)) × (now table ≡ replicate (cells (cardOf (now shard) (now replica) (now offset) (now lengths) (now swizzle))) 0) ⌝ }
+    ensures { λ r. ⌜ VerdictPromise (cardOf (now (shard .entry)) (now (replica .entry)) (now (offset .entry)) (now (lengths .entry)) (now (swizzle .entry))) (now (table .entry)) (now (table .exit)) r ⌝ }
 {
     let mut occupied: u64 = 0;
     let mut flat: u64 = 0;
     while flat < elements {
         let newly = claim_element(
-            shard_extents,
-            shard_strides,
-            shard_axes,
-            shard_count,
-            replica_extents,
-            replica_strides,
-            replica_axes,
-            replica_count,
+            shard,
+            replica,
             offset,
             lengths,
             swizzle,
@@ -201,53 +148,27 @@ fn claim_all(
 
 // The verdict on an admitted card whose numbers are lent, in a table of exactly its cells.
 fn judge_lent(
-    shard_extents: &[u64; 8],
-    shard_strides: &[u64; 8],
-    shard_axes: &[u64; 8],
-    shard_count: u64,
-    replica_extents: &[u64; 8],
-    replica_strides: &[u64; 8],
-    replica_axes: &[u64; 8],
-    replica_count: u64,
+    shard: &[u64; 25],
+    replica: &[u64; 25],
     offset: &[u64; 8],
     lengths: &[u64; 8],
-    swizzle: Swizzle,
+    swizzle: &[u64; 3],
     elements: u64,
     row: &mut [u32],
     table: &mut [u32],
 ) -> Verdict
-    requires { ⌜ Pass (now «shard_extents») (now «shard_strides») (now «shard_axes») «shard_count» (now «replica_extents») (now «replica_strides») (now «replica_axes») «replica_count» (now offset) (now lengths) swizzle elements (now row) ⌝ }
-    requires { ⌜ length (now table) ≡ cells (cardOf (now «shard_extents») (now «shard_strides») (now «shard_axes») «shard_count» (now «replica_extents») (now «replica_strides») (now «replica_axes») «replica_count» (now offset) (now lengths) swizzle) ⌝ }
-    ensures { λ r. ⌜ VerdictPromise (cardOf (now («shard_extents» .entry)) (now («shard_strides» .entry)) (now («shard_axes» .entry)) «shard_count» (now («replica_extents» .entry)) (now («replica_strides» .entry)) (now («replica_axes» .entry)) «replica_count» (now (offset .entry)) (now (lengths .entry)) swizzle) (now (table .entry)) (now (table .exit)) r ⌝ }
+    requires { ⌜ Pass (now shard) (now replica) (now offset) (now lengths) (now swizzle) elements (now row) ⌝ }
+    requires { ⌜ length (now table) ≡ cells (cardOf (now shard) (now replica) (now offset) (now lengths) (now swizzle)) ⌝ }
+    ensures { λ r. ⌜ VerdictPromise (cardOf (now (shard .entry)) (now (replica .entry)) (now (offset .entry)) (now (lengths .entry)) (now (swizzle .entry))) (now (table .entry)) (now (table .exit)) r ⌝ }
 {
     owners::clear(table);
-    let search = first_outside(
-        shard_extents,
-        shard_strides,
-        shard_axes,
-        shard_count,
-        replica_extents,
-        replica_strides,
-        replica_axes,
-        replica_count,
-        offset,
-        lengths,
-        swizzle,
-        elements,
-        row,
-    );
+    let search = first_outside(shard, replica, offset, lengths, swizzle, elements, row);
     if let Search::Outside { flat, axis } = search {
         return Verdict::Refused(Refusal::Outside { flat, axis });
     }
     claim_all(
-        shard_extents,
-        shard_strides,
-        shard_axes,
-        shard_count,
-        replica_extents,
-        replica_strides,
-        replica_axes,
-        replica_count,
+        shard,
+        replica,
         offset,
         lengths,
         swizzle,
@@ -269,28 +190,17 @@ fn judge_cells(card: Card, sizes: Sizes, table: &mut [u32]) -> Verdict
     let replica = card.replica;
     let offset = card.offset;
     let lengths = card.lengths;
-    let s = card::unpack(shard);
-    let r = card::unpack(replica);
-    let shard_extents = s.extents;
-    let shard_strides = s.strides;
-    let shard_axes = s.axes;
-    let replica_extents = r.extents;
-    let replica_strides = r.strides;
-    let replica_axes = r.axes;
+    let shard_numbers = placement::lend(shard);
+    let replica_numbers = placement::lend(replica);
+    let swizzle = [card.swizzle.m, card.swizzle.b, card.swizzle.s];
     let copies = sizes.copies as usize;
     let mut row = [0u32; card::MOST_COPIES as usize];
     judge_lent(
-        &shard_extents,
-        &shard_strides,
-        &shard_axes,
-        shard.count,
-        &replica_extents,
-        &replica_strides,
-        &replica_axes,
-        replica.count,
+        &shard_numbers,
+        &replica_numbers,
         &offset,
         &lengths,
-        card.swizzle,
+        &swizzle,
         sizes.elements,
         &mut row[..copies],
         table,

@@ -5,7 +5,8 @@ use Prim.Native.Nat.{ℕ}
 use native.Mathlib.Omega.{arith}
 use lib.Dec.{leb}
 use Rattle.laws.proofs.Capped.{capped-leb}
-use Rattle.card.specs.Limits.{beyond, mostElements, mostCopies}
+use Rattle.card.specs.Limits.{mostElements, mostCopies}
+use Rattle.card.specs.Inside.{beyond}
 use Rattle.card.specs.Card.{elements, copies}
 use Rattle.card.proofs.Listed.{counted}
 use Rattle.card.proofs.few_enough.Statement.{statement}

@@ -8,7 +8,7 @@ use borrow.Author.Needs.{needs}
 use lib.ListN.{take}
 use lib.Seq.{take-all}
 use Rattle.card.specs.Lists.{product}
-use Rattle.card.specs.Limits.{beyond}
+use Rattle.card.specs.Inside.{beyond}
 use Rattle.card.proofs.Listed.{Counted, counted}
 use Rattle.card.proofs.Admitted.{checked, sized}
 use Rattle.card.proofs.measure.Statement.{statement}

@@ -5,7 +5,7 @@ use native.Mathlib.Nat.{one-mul}
 use borrow.Author.Needs.{needs}
 use mathlib.Core.Path.{_≡_}
 use lib.ListN.{length}
-use Rattle.card.specs.Limits.{beyond}
+use Rattle.card.specs.Inside.{beyond}
 use Rattle.card.proofs.Lists.{Multiplied, multiplied-more, multiplied-all}
 use Rattle.card.proofs.product.Statement.{statement}
 use Rattle.card.proofs.product.Tie as tie

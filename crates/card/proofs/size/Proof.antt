@@ -2,7 +2,7 @@
 use mathlib.Core.Path.{ap, _∙_}
 use Prim.Native.Nat.{ℕ, min}
 use borrow.Author.Needs.{needs}
-use Rattle.card.specs.Limits.{beyond}
+use Rattle.card.specs.Inside.{beyond}
 use Rattle.card.specs.Card.{extentOf}
 use Rattle.card.specs.declared.Columns.{Columns}
 use Rattle.card.proofs.Listed.{listed-product}

@@ -11,7 +11,8 @@ use lib.ListN.{take}
 use lib.Seq.{take-all}
 use Rattle.laws.proofs.Capped.{capped-leb}
 use Rattle.card.specs.Lists.{all, within, product}
-use Rattle.card.specs.Limits.{beyond, mostLength, mostCells}
+use Rattle.card.specs.Limits.{mostLength, mostCells}
+use Rattle.card.specs.Inside.{beyond}
 use Rattle.card.proofs.space_fits.Statement.{statement}
 use Rattle.card.proofs.space_fits.Tie as tie
 

@@ -3,7 +3,7 @@ use Prim.Native.Nat.{ℕ, _*_, min}
 use mathlib.Core.Path.{ap}
 use native.Mathlib.Omega.{arith}
 use Rattle.laws.proofs.Capped.{capped-above, capped-within}
-use Rattle.card.specs.Limits.{beyond}
+use Rattle.card.specs.Inside.{beyond}
 use Rattle.card.proofs.times.Statement.{statement}
 use Rattle.card.proofs.times.Tie as tie
 

@@ -1,99 +1,36 @@
--- `placement::locate` numbers coordinates row-major: each turn passes one coordinate, and stops at the first that is not below its size.
-use Prim.Native.Nat.{_+_, _-_, _≤_}
-use native.Mathlib.Omega.{arith}
-use mathlib.Core.Path.{_≡_, sym}
-use mathlib.Core.List.{_∷_}
-use lib.ListN.{getD, take}
-use lib.Seq.{slice, slice-empty}
-use Rattle.laws.proofs.Lists.{slice-next}
-use Rattle.placement.proofs.Located.{Located, located-none, located-room, located-more, located-past, located-all}
+-- `placement::locate` tells the position from its number: which of the two it is, is seen of the number.
+use Prim.Native.Nat.{ℕ, _-_}
+use mathlib.Core.Path.{_≡_, sym, ap, _∙_}
+use borrow.Author.Needs.{needs}
+use lib.ListN.{take}
+use Rattle.card.specs.Inside.{beyond}
+use Rattle.placement.specs.RowMajor.{position}
+use Rattle.placement.specs.declared.Position.{Position}
+use Rattle.placement.specs.declared.Position.the-variants.{At, Past}
+use Rattle.placement.proofs.Numbers.{Small, position-small, number-at, number-past}
 use Rattle.placement.proofs.locate.Statement.{statement}
 use Rattle.placement.proofs.locate.Tie as tie
 
-abbrev Inv-loop : tie.InvT-loop
-Inv-loop sizes coordinates count number₀ k₀ number k =
-    (k ≤ count) × Located (take count sizes) (take count coordinates) (slice k count sizes) (slice k count coordinates) k number
+-- where the coordinates are
+abbrev where-at : tie.Start → Position
+where-at s = let a = s .args in position (take (a .count) (a .sizes .now)) (take (a .count) (a .coordinates .now))
 
-abbrev μ-loop : tie.MeasureT-loop
-μ-loop sizes coordinates count number₀ k₀ number k = count - k
+small : (s : tie.Start) → Small (where-at s)
+small s = position-small _ _ (s .pre .small)
 
-loop-holds : tie.Need-loop-holds Inv-loop μ-loop
-loop-holds c =
-    let a = c .args in
-    (omega arith, located-none (take (a .count) (a .sizes .now)) (take (a .count) (a .coordinates .now)) (c .pre .some))
+number-among-requires : tie.Need-number-among-requires
+number-among-requires c κs = search needs
 
-mul-size : tie.Need-mul-size Inv-loop μ-loop
-mul-size c = omega arith
+returns : tie.Need-returns
+returns c =
+    let n = c .before in
+    ap At (n .number-among .ensures) ∙ number-at (where-at (n .before)) (small (n .before)) (rw (n .number-among .ensures) at (c .if1 .taken))
 
-element-copy-out-size : tie.Need-element-copy-out-size Inv-loop μ-loop
-element-copy-out-size c = omega arith
-
-mul-coordinate : tie.Need-mul-coordinate Inv-loop μ-loop
-mul-coordinate c = omega arith
-
-element-copy-out-coordinate : tie.Need-element-copy-out-coordinate Inv-loop μ-loop
-element-copy-out-coordinate c = omega arith
-
--- the size and the coordinate of a turn, apart from those that are left after it
-turn : (c : tie.In-loop Inv-loop μ-loop)
-    → Located
-    (take (c .before .before .args .count) (c .before .before .args .sizes .now))
-    (take (c .before .before .args .count) (c .before .before .args .coordinates .now))
-    (getD (c .before .before .args .sizes .now) (c .before .loop .k) 0 ∷ slice (c .before .loop .k + 1) (c .before .before .args .count) (c .before .before .args .sizes .now))
-    (getD (c .before .before .args .coordinates .now) (c .before .loop .k) 0 ∷ slice (c .before .loop .k + 1) (c .before .before .args .count) (c .before .before .args .coordinates .now))
-    (c .before .loop .k)
-    (c .before .loop .number)
-turn c =
-    let a = c .before .before .args in
-    let k = c .before .loop .k in
-    let p = c .before .before .pre in
-    rw (
-      slice-next (a .sizes .now) k (a .count) 0 (c .loop-test .taken) (omega arith),
-      slice-next (a .coordinates .now) k (a .count) 0 (c .loop-test .taken) (omega arith),
-    ) at (c .before .loop .inv .1)
-
-returns : tie.Need-returns Inv-loop μ-loop
-returns c = sym (located-past _ _ _ _ _ _ (turn (c .before .before .before)) (c .if1 .taken))
-
-mul-number : tie.Need-mul-number Inv-loop μ-loop
-mul-number c = omega (arith, located-room _ _ _ _ _ _ (turn (c .before .before .before)) (c .if1 .left), c .before .before .before .before .before .pre .small)
-
-add-number : tie.Need-add-number Inv-loop μ-loop
-add-number c = omega (arith, located-room _ _ _ _ _ _ (turn (c .before .before .before)) (c .if1 .left), c .before .before .before .before .before .pre .small)
-
-add-k : tie.Need-add-k Inv-loop μ-loop
-add-k c = omega arith
-
-loop-less : tie.Need-loop-less Inv-loop μ-loop
-loop-less c = omega arith
-
-loop-again : tie.Need-loop-again Inv-loop μ-loop
-loop-again c = (omega arith, located-more _ _ _ _ _ _ (turn (c .before .before .before)) (c .if1 .left))
-
-returns-2 : tie.Need-returns-2 Inv-loop μ-loop
+returns-2 : tie.Need-returns-2
 returns-2 c =
-    let a = c .before .before .args in
-    let l = c .before .loop in
-    let end : l .k ≡ a .count = omega arith in
-    sym
-    (located-all (a .count) (l .number)
-    (rw (end, slice-empty (a .count) (a .sizes .now), slice-empty (a .count) (a .coordinates .now)) at (l .inv .1)))
+    let n = c .before in
+    ap (λ (m : ℕ). Past (m - beyond)) (n .number-among .ensures)
+    ∙ number-past (where-at (n .before)) (small (n .before)) (rw (n .number-among .ensures) at (c .if1 .left))
 
 pub locate-spec : {M : Type 1} → statement M
-locate-spec =
-    tie.close
-    (tie.spec
-    Inv-loop
-    μ-loop
-    loop-holds
-    mul-size
-    element-copy-out-size
-    mul-coordinate
-    element-copy-out-coordinate
-    returns
-    mul-number
-    add-number
-    add-k
-    loop-less
-    loop-again
-    returns-2)
+locate-spec = tie.close (tie.spec number-among-requires returns returns-2)

@@ -4,44 +4,37 @@ use mathlib.Core.Path.{_≡_, ap, _∙_}
 use native.Mathlib.Omega.{arith}
 use borrow.Author.Needs.{needs}
 use lib.ListN.{length}
-use Rattle.card.specs.Limits.{mostCells}
-use Rattle.placement.specs.Rules.{swizzledM}
-use Rattle.placement.specs.Placement.{cellOf, pastAxis}
-use Rattle.placement.specs.Inside.{itersOf, walked, spotFrom}
-use Rattle.placement.specs.declared.Spot.{Spot}
+use Rattle.placement.specs.Rules.{spotAt}
+use Rattle.placement.specs.Inside.{itersOf, swizzleOf, positionFrom, spotFrom}
+use Rattle.placement.specs.declared.Position.{Position}
 use Rattle.placement.proofs.Spaces.{roomed}
-use Rattle.placement.proofs.Spots.{cell-small}
+use Rattle.placement.proofs.Numbers.{Small, position-small, cell-from, axis-from}
 use Rattle.placement.proofs.Filling.{Filling, filling-none, filling-more, filling-all}
 use Rattle.placement.proofs.place_copies.Statement.{statement}
 use Rattle.placement.proofs.place_copies.Tie as tie
 
 abbrev Inv-loop : tie.InvT-loop
-Inv-loop base extents strides axes count lengths swizzle row₀ outside₀ combination₀ row outside combination =
-    (combination ≤ length row₀) × Filling (spotFrom lengths swizzle (itersOf extents strides axes count) base) row₀ row combination outside
+Inv-loop base replica lengths swizzle row₀ outside₀ combination₀ row outside combination =
+    (combination ≤ length row₀) × Filling (spotFrom lengths (swizzleOf swizzle) (itersOf replica) base) row₀ row combination outside
 
 abbrev μ-loop : tie.MeasureT-loop
-μ-loop base extents strides axes count lengths swizzle row₀ outside₀ combination₀ row outside combination =
-    length row₀ - combination
+μ-loop base replica lengths swizzle row₀ outside₀ combination₀ row outside combination = length row₀ - combination
 
 -- where each combination goes
-abbrev at : tie.Start Inv-loop μ-loop → ℕ → Spot
-at s =
-    let a = s .args in
-    spotFrom (a .lengths .now) (a .swizzle) (itersOf (a .extents .now) (a .strides .now) (a .axes .now) (a .count)) (a .base .now)
+abbrev at : tie.Start Inv-loop μ-loop → ℕ → Position
+at s = let a = s .args in positionFrom (a .lengths .now) (swizzleOf (a .swizzle .now)) (itersOf (a .replica .now)) (a .base .now)
+
+small : (s : tie.Start Inv-loop μ-loop) (combination : ℕ) → Small (at s combination)
+small s combination = let n = roomed (s .args .lengths .now) (s .pre .space) in position-small (s .args .lengths .now) _ (omega (arith, n .few))
 
 loop-holds : tie.Need-loop-holds Inv-loop μ-loop
-loop-holds c = (omega arith, filling-none (at (c .before)) (c .before .args .row .now))
+loop-holds c = (omega arith, filling-none (λ r. spotAt (at (c .before) r)) (c .before .args .row .now))
 
-copy-spot-requires : tie.Need-copy-spot-requires Inv-loop μ-loop
-copy-spot-requires c κs = c .before .before .before .pre
+copy-number-requires : tie.Need-copy-number-requires Inv-loop μ-loop
+copy-number-requires c κs = c .before .before .before .pre
 
-cell-number-requires : tie.Need-cell-number-requires Inv-loop μ-loop
-cell-number-requires c κs =
-    let s = c .before .before .before .before in
-    let a = s .args in
-    let n = roomed (a .lengths .now) (s .pre .space) in
-    let small = cell-small (a .lengths .now) (swizzledM (a .swizzle) (walked (itersOf (a .extents .now) (a .strides .now) (a .axes .now) (a .count)) (c .before .before .loop .combination) (a .base .now))) mostCells (n .some) (n .few) in
-    rw (c .copy-spot .ensures) (omega arith)
+cell-from-requires : tie.Need-cell-from-requires Inv-loop μ-loop
+cell-from-requires c κs = search needs
 
 mul-row : tie.Need-mul-row Inv-loop μ-loop
 mul-row c = omega arith
@@ -49,8 +42,8 @@ mul-row c = omega arith
 slice-write-row : tie.Need-slice-write-row Inv-loop μ-loop
 slice-write-row c = omega arith
 
-past-axis-requires : tie.Need-past-axis-requires Inv-loop μ-loop
-past-axis-requires c κs = search needs
+axis-from-requires : tie.Need-axis-from-requires Inv-loop μ-loop
+axis-from-requires c κs = search needs
 
 smaller-requires : tie.Need-smaller-requires Inv-loop μ-loop
 smaller-requires c κs = search needs
@@ -68,13 +61,13 @@ loop-again c =
     let t = n .before in
     let l = t .before .before .loop in
     let s = t .before .before .before .before in
-    let spot = t .copy-spot .ensures in (
+    let here = at s (l .combination) in (
       omega arith,
       rw (
-        c .smaller .ensures ∙ ap (min (l .outside)) (p .past-axis .ensures ∙ ap pastAxis spot),
-        n .cell-number .ensures ∙ ap cellOf spot,
+        c .smaller .ensures ∙ ap (min (l .outside)) (p .axis-from .ensures ∙ axis-from here (small s (l .combination)) (t .copy-number .ensures)),
+        n .cell-from .ensures ∙ cell-from here (small s (l .combination)) (t .copy-number .ensures),
       )
-          (filling-more (at s) (s .args .row .now) (l .combination) (omega arith) (l .inv .1)),
+          (filling-more (λ r. spotAt (at s r)) (s .args .row .now) (l .combination) (omega arith) (l .inv .1)),
     )
 
 same-length : tie.Need-same-length Inv-loop μ-loop
@@ -85,7 +78,7 @@ returns c =
     let l = c .before .loop in
     let s = c .before .before .before in
     let end : l .combination ≡ length (s .args .row .now) = omega arith in
-    filling-all (at s) (s .args .row .now) (rw end at (l .inv .1))
+    filling-all (λ r. spotAt (at s r)) (s .args .row .now) (rw end at (l .inv .1))
 
 pub place-copies-spec : {M : Type 1} → statement M
 place-copies-spec =
@@ -94,11 +87,11 @@ place-copies-spec =
     Inv-loop
     μ-loop
     loop-holds
-    copy-spot-requires
-    cell-number-requires
+    copy-number-requires
+    cell-from-requires
     mul-row
     slice-write-row
-    past-axis-requires
+    axis-from-requires
     smaller-requires
     add-combination
     loop-less

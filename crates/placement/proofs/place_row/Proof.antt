@@ -3,8 +3,7 @@ use Prim.Native.Nat.{ℕ}
 use mathlib.Core.Path.{sym, subst}
 use mathlib.Core.List.{List}
 use borrow.Author.Needs.{needs}
-use Rattle.placement.specs.Placement.{Row}
-use Rattle.placement.specs.Inside.{spotFrom, cardOf, Ready}
+use Rattle.placement.specs.Inside.{spotFrom, Row, cardOf, Ready}
 use Rattle.placement.proofs.Cards.{lent-shard, offset-sums, ready, row-of-card}
 use Rattle.placement.proofs.place_row.Statement.{statement}
 use Rattle.placement.proofs.place_row.Tie as tie
@@ -17,9 +16,7 @@ place-copies-requires c κs =
     let w = c .before .before in
     let s = w .before .before .before .before in
     let a = s .args in
-    subst
-    (λ (base : List ℕ). Ready base (a .replica-extents .now) (a .replica-strides .now) (a .replica-axes .now) (a .replica-count) (a .lengths .now) (a .swizzle))
-    (sym (w .walk .ensures)) (ready (s .pre) (a .flat .0))
+    subst (λ (base : List ℕ). Ready base (a .replica .now) (a .lengths .now) (a .swizzle .now)) (sym (w .walk .ensures)) (ready (s .pre) (a .flat .0))
 
 same-length : tie.Need-same-length
 same-length c = search needs
@@ -29,11 +26,9 @@ returns c =
     let p = c .before .before in
     let w = p .before .before .before in
     let a = w .before .before .before .before .args in
-    let card =
-    cardOf (a .shard-extents .now) (a .shard-strides .now) (a .shard-axes .now) (a .shard-count) (a .replica-extents .now) (a .replica-strides .now)
-    (a .replica-axes .now) (a .replica-count) (a .offset .now) (a .lengths .now) (a .swizzle) in
+    let card = cardOf (a .shard .now) (a .replica .now) (a .offset .now) (a .lengths .now) (a .swizzle .now) in
     row-of-card card (a .flat .0)
-    (subst (λ (base : List ℕ). Row (spotFrom (card .lengths) (card .swizzle) (card .replica) base) (a .row .now) (p .place-copies .last .1 .1 .1 .1 .1 .1 .1 .0) (p .place-copies .result))
+    (subst (λ (base : List ℕ). Row (spotFrom (card .lengths) (card .swizzle) (card .replica) base) (a .row .now) (p .place-copies .last .1 .1 .1 .1 .0) (p .place-copies .result))
     (w .walk .ensures) (p .place-copies .ensures))
 
 pub place-row-spec : {M : Type 1} → statement M

@@ -9,7 +9,8 @@ use lib.Dec.{ltb}
 use lib.ListN.{take, drop}
 use borrow.Author.Needs.{needs}
 use borrow.Author.Tests.{lt-ltb, le-ltb, not-true, not-false}
-use Rattle.card.specs.Limits.{lastAxis, beyond}
+use Rattle.card.specs.Limits.{lastAxis}
+use Rattle.card.specs.Inside.{beyond}
 use Rattle.card.specs.Lists.{product}
 use Rattle.card.specs.Admission.{spaceFits}
 use Rattle.placement.specs.RowMajor.{rowMajor, inside}

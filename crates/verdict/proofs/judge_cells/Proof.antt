@@ -1,4 +1,4 @@
--- `verdict::judge_cells` is the verdict of the card: its columns, lent, are the numbers of this card and no other.
+-- `verdict::judge_cells` is the verdict of the card: its numbers, lent, are those of this card and no other.
 use Prim.Native.Nat.{ℕ, _≤_}
 use mathlib.Core.Path.{_≡_, sym, ap, _∙_, subst}
 use native.Mathlib.Omega.{arith}
@@ -9,17 +9,17 @@ use Rattle.card.specs.declared.Card.{Card}
 use Rattle.card.specs.declared.Sizes.{Sizes}
 use Rattle.card.proofs.Admitted.{sized}
 use Rattle.card.proofs.Filled.{length-of}
-use Rattle.placement.proofs.Cards.{unpacked, lent-columns}
+use Rattle.placement.proofs.Cards.{unpacked, lent-numbers}
 use Rattle.verdict.specs.Verdict.{VerdictPromise}
 use borrow.Author.Needs.{needs}
 use Rattle.verdict.proofs.judge_cells.Statement.{statement}
 use Rattle.verdict.proofs.judge_cells.Tie as tie
 
--- both lists of iters are unpacked, and the function's start from there
-abbrev both : tie.After-lengths2 → tie.After-unpack2
-both c = c .before .before .before .before .before .before .before .before .before .before .before .before .before .before
+-- both lists of iters are numbers, and the function's start from there
+abbrev both : tie.After-swizzle → tie.After-lend2
+both c = c .before .before .before .before .before
 
-abbrev start : tie.After-lengths2 → tie.Start
+abbrev start : tie.After-swizzle → tie.Start
 start c = both c .before .before .before .before .before .before .before
 
 -- the card's arrays are of eight
@@ -33,11 +33,11 @@ few s = let n = sized (s .args .card) (s .pre .0) in let e = ap (λ (z : Sizes).
 long : (s : tie.Start) → length {A = ℕ} (take (s .args .sizes .copies) (replicate 64 0)) ≡ s .args .sizes .copies
 long s = length-take-le (s .args .sizes .copies) (replicate 64 0) (few s)
 
-unpack-requires : tie.Need-unpack-requires
-unpack-requires c κs = search needs
+lend-requires : tie.Need-lend-requires
+lend-requires c κs = search needs
 
-unpack-requires-2 : tie.Need-unpack-requires-2
-unpack-requires-2 c κs = search needs
+lend-requires-2 : tie.Need-lend-requires-2
+lend-requires-2 c κs = search needs
 
 array-borrow-prefix-row : tie.Need-array-borrow-prefix-row
 array-borrow-prefix-row c = few (start c)
@@ -49,11 +49,10 @@ judge-lent-requires : tie.Need-judge-lent-requires
 judge-lent-requires c κs =
     let l = c .before .before in
     let s = start l in
-    let n = eight s in
     let card = s .args .card in
-    let same = unpacked card (both l .before .unpack .ensures) (both l .unpack2 .ensures) in (
+    let same = unpacked card (both l .before .lend .ensures) (both l .lend2 .ensures) (eight s) in (
       record {
-        lent = lent-columns card (both l .before .unpack .ensures) (both l .unpack2 .ensures) (s .pre .0) (n .0) (n .1) (n .2) (n .3);
+        lent = lent-numbers card (both l .before .lend .ensures) (both l .lend2 .ensures) (eight s) (s .pre .0);
         all-elements = ap (λ (z : Sizes). z .elements) (s .pre .1 .0) ∙ ap elements (sym same);
         one-each = long s ∙ ap (λ (z : Sizes). z .copies) (s .pre .1 .0) ∙ ap copies (sym same);
       },
@@ -67,16 +66,17 @@ returns : tie.Need-returns
 returns c =
     let m = c .before .before .before in
     let l = m .before .before .before in
-    let a = start l .args in
-    subst (λ (card : Card). VerdictPromise card (a .table .now) (m .judge-lent .last .1 .1 .1 .1 .1 .1 .1 .1 .1 .1 .1 .1 .1 .0) (m .judge-lent .result))
-    (unpacked (a .card) (both l .before .unpack .ensures) (both l .unpack2 .ensures)) (m .judge-lent .ensures)
+    let s = start l in
+    let a = s .args in
+    subst (λ (card : Card). VerdictPromise card (a .table .now) (m .judge-lent .last .1 .1 .1 .1 .1 .1 .1 .0) (m .judge-lent .result))
+    (unpacked (a .card) (both l .before .lend .ensures) (both l .lend2 .ensures) (eight s)) (m .judge-lent .ensures)
 
 pub judge-cells-spec : {M : Type 1} → statement M
 judge-cells-spec =
     tie.close
     (tie.spec
-    unpack-requires
-    unpack-requires-2
+    lend-requires
+    lend-requires-2
     array-borrow-prefix-row
     slice-aggregate-judge-lent
     judge-lent-requires

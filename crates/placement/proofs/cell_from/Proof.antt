@@ -1,0 +1,18 @@
+-- `placement::cell_from` is the cell of the number: the test decides both.
+use borrow.Author.Needs.{needs}
+use borrow.Author.Tests.{lt-ltb, le-ltb}
+use Rattle.card.specs.Inside.{beyond}
+use Rattle.placement.proofs.cell_from.Statement.{statement}
+use Rattle.placement.proofs.cell_from.Tie as tie
+
+cast-result : tie.Need-cast-result
+cast-result c = search needs
+
+returns : tie.Need-returns
+returns c = rw (lt-ltb (c .before .args .number) beyond (c .if1 .taken))
+
+returns-2 : tie.Need-returns-2
+returns-2 c = rw (le-ltb (c .before .args .number) beyond (c .if1 .left))
+
+pub cell-from-spec : {M : Type 1} → statement M
+cell-from-spec = tie.close (tie.spec cast-result returns returns-2)
