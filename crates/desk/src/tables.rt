@@ -38,7 +38,7 @@ fn put(out: &mut [u8], at: usize, answer: Numbers, sum: u64) -> usize {
 
 fn ask_verdict(numbers: &[u64; 80], lent: &mut [u32]) -> Numbers {
     layouts::fill(lent);
-    verdict::verdict_numbers(verdict::judge(layouts::card(numbers), lent))
+    judgement::verdict_numbers(verdict::judge(layouts::card(numbers), lent))
 }
 
 fn put_verdict(numbers: &[u64; 80], lent: &mut [u32], out: &mut [u8], at: usize) -> usize {
@@ -60,7 +60,7 @@ pub fn verdict(numbers: &[u64; 80], out: &mut [u8], at: usize) -> usize {
 fn ask_owner(numbers: &[u64; 80], lent: &mut [u32]) -> Numbers {
     layouts::fill(lent);
     let coordinates = layouts::eight(numbers, 57);
-    verdict::owner_numbers(verdict::owner_of(layouts::card(numbers), coordinates, lent))
+    judgement::owner_numbers(verdict::owner_of(layouts::card(numbers), coordinates, lent))
 }
 
 fn put_owner(numbers: &[u64; 80], lent: &mut [u32], out: &mut [u8], at: usize) -> usize {

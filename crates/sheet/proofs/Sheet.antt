@@ -21,10 +21,10 @@ use Rattle.placement.specs.RowMajor.{position}
 use Rattle.placement.specs.Rules.{coordinates, spot}
 use Rattle.placement.specs.Placement.{copyCells, outsideAxis, placementAnswer, placementMemory}
 use Rattle.card.specs.declared.Card.{Card}
-use Rattle.verdict.specs.Verdict.{VerdictPromise, OwnerPromise, verdictNumbers, ownerNumbers}
-use Rattle.verdict.specs.declared.Verdict.{Verdict}
-use Rattle.verdict.specs.declared.Owner.{Owner}
-use Rattle.verdict.proofs.Run.{verdict-is-run, owner-is-run}
+use Rattle.judgement.specs.Verdict.{VerdictPromise, OwnerPromise, verdictNumbers, ownerNumbers}
+use Rattle.judgement.specs.declared.Verdict.{Verdict}
+use Rattle.judgement.specs.declared.Owner.{Owner}
+use Rattle.judgement.proofs.Run.{verdict-is-run, owner-is-run}
 use Rattle.sheet.specs.Questions.{Question, verdict, owner, Reply, reply, asked}
 use Rattle.sheet.specs.Loads.{Load, loads}
 

@@ -13,8 +13,8 @@ use Rattle.card.specs.declared.Card.{Card}
 use Rattle.placement.specs.Placement.{placementAnswer, placementMemory, placementNumbers}
 use Rattle.placement.specs.declared.Tuple.{Tuple}
 use Rattle.table.specs.Stretch.{stretchAnswer, stretchOf, stretchNumbers}
-use Rattle.verdict.specs.Verdict.{verdictOf, ownerOf, verdictNumbers, ownerNumbers}
-use Rattle.verdict.specs.Run.{judge, ownerRun}
+use Rattle.judgement.specs.Verdict.{verdictOf, ownerOf, verdictNumbers, ownerNumbers}
+use Rattle.judgement.specs.Run.{judge, ownerRun}
 
 pub data Question : Type 0 where
   -- M, B, S and the address

@@ -24,7 +24,7 @@ use Rattle.claims.specs.Rows.{Row as ClaimRow, Within, entryMet, cellMet}
 use Rattle.claims.proofs.Steps.{row-within, owners-none, claimed-owners, met-clash}
 use Rattle.claims.proofs.Rows.{occupied-none, occupied-most}
 use Rattle.table.specs.Owners.{entryLimit}
-use Rattle.verdict.specs.Judgement.{placed, LiesInside, AllInside, FirstOutside}
+use Rattle.judgement.specs.Judgement.{placed, LiesInside, AllInside, FirstOutside}
 use Rattle.verdict.specs.Inside.{Claimable, ElementClaim}
 
 -- every copy of the first n elements lies in the space

@@ -16,13 +16,13 @@ use Rattle.placement.specs.Placement.{cellOf}
 use Rattle.placement.specs.declared.Spot.{Spot}
 use Rattle.placement.specs.declared.Spot.the-variants.{Inside, Outside}
 use Rattle.placement.proofs.Spots.{cell-small}
-use Rattle.verdict.specs.Judgement.{LiesInside, Judgement, NotAdmitted, NoRoom, OutsideAt, Clashing, Passed, ComesTo}
-use Rattle.verdict.specs.Verdict.{verdictOf, tableAfter, VerdictPromise, askedSpot, NoCell, ByVerdict, readEntry, OwnerPromise}
+use Rattle.judgement.specs.Judgement.{LiesInside, Judgement, NotAdmitted, NoRoom, OutsideAt, Clashing, Passed, ComesTo}
+use Rattle.judgement.specs.Verdict.{verdictOf, tableAfter, VerdictPromise, askedSpot, NoCell, ByVerdict, readEntry, OwnerPromise}
 use Rattle.verdict.specs.Inside.{ReadAt}
-use Rattle.verdict.specs.declared.Verdict.{Verdict}
-use Rattle.verdict.specs.declared.Verdict.the-variants.{Approved}
-use Rattle.verdict.specs.declared.Owner.{Owner}
-use Rattle.verdict.specs.declared.Owner.the-variants.{Refused as NoOwner}
+use Rattle.judgement.specs.declared.Verdict.{Verdict}
+use Rattle.judgement.specs.declared.Verdict.the-variants.{Approved}
+use Rattle.judgement.specs.declared.Owner.{Owner}
+use Rattle.judgement.specs.declared.Owner.the-variants.{Refused as NoOwner}
 
 -- an approved verdict had room for the cells
 pub approved-room : {card : Card} {before after : List ℕ} {verdict : Verdict} {n count m : ℕ} → VerdictPromise card before after verdict

@@ -15,10 +15,10 @@ use Rattle.card.specs.declared.Admission.the-variants.{Admitted, Refused as NoC
 use Rattle.claims.specs.Claims.{FirstClash, Approved as Owned}
 use Rattle.claims.specs.Rows.{entryMet, cellMet}
 use Rattle.table.specs.Owners.{clashOf}
-use Rattle.verdict.specs.Judgement.{placed, AllInside, FirstOutside, Judgement, NotAdmitted, NoRoom, OutsideAt, Clashing, Passed, Judged, ComesTo}
-use Rattle.verdict.specs.Verdict.{tableAfter, VerdictPromise}
-use Rattle.verdict.specs.declared.Verdict.{Verdict}
-use Rattle.verdict.specs.declared.Verdict.the-variants.{Approved, Refused}
+use Rattle.judgement.specs.Judgement.{placed, AllInside, FirstOutside, Judgement, NotAdmitted, NoRoom, OutsideAt, Clashing, Passed, Judged, ComesTo}
+use Rattle.judgement.specs.Verdict.{tableAfter, VerdictPromise}
+use Rattle.judgement.specs.declared.Verdict.{Verdict}
+use Rattle.judgement.specs.declared.Verdict.the-variants.{Approved, Refused}
 
 -- nothing is past a table of exactly the cells
 none-past : (n : ℕ) (table : List ℕ) → length table ≡ n → (t : List ℕ) → t ≡ t ++ drop n table

@@ -8,9 +8,9 @@ use Rattle.card.specs.declared.Card.{Card}
 use Rattle.placement.specs.Placement.{copyCells}
 use Rattle.placement.specs.Inside.{cardOf, LentCard}
 use Rattle.claims.specs.Rows.{RowClaim}
-use Rattle.verdict.specs.Judgement.{AllInside, FirstOutside, Judgement, ComesTo}
-use Rattle.verdict.specs.Verdict.{verdictOf, tableAfter, readEntry}
-use Rattle.verdict.specs.declared.Owner.{Owner}
+use Rattle.judgement.specs.Judgement.{AllInside, FirstOutside, Judgement, ComesTo}
+use Rattle.judgement.specs.Verdict.{verdictOf, tableAfter, readEntry}
+use Rattle.judgement.specs.declared.Owner.{Owner}
 use Rattle.verdict.specs.declared.Search.{Search}
 use Rattle.verdict.specs.declared.Search.the-variants.{Outside, NoneOutside}
 

@@ -1,4 +1,1 @@
-pub mod Judgement
-pub mod Verdict
 pub mod Inside
-pub mod Run

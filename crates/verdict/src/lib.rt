@@ -1,11 +1,12 @@
 // The verdict on a layout card, and the owner of a cell.
 use answers::Cell;
 use answers::Flat;
-use answers::Numbers;
 use answers::Refusal;
 use card::Admission;
 use card::Card;
 use card::Sizes;
+use judgement::Owner;
+use judgement::Verdict;
 use placement::Spot;
 use table::owners;
 ghost use mathlib.Core.Path.{_≡_};
@@ -18,25 +19,9 @@ ghost use Rattle.card.specs.declared.Admission.the-variants.{Admitted};
 ghost use Rattle.placement.specs.Inside.{cardOf, LentCard};
 ghost use Rattle.claims.specs.Rows.{Within, entryMet};
 ghost use Rattle.table.specs.Owners.{clashOf};
-ghost use Rattle.verdict.specs.Judgement.{AllInside};
-ghost use Rattle.verdict.specs.Verdict.{VerdictPromise, OwnerPromise, verdictNumbers, ownerNumbers};
+ghost use Rattle.judgement.specs.Judgement.{AllInside};
+ghost use Rattle.judgement.specs.Verdict.{VerdictPromise, OwnerPromise};
 ghost use Rattle.verdict.specs.Inside.{Pass, Finds, Claimable, ElementClaim, ReadAt};
-
-// The answer to the verdict: elements, occupied cells and cells of an approved card.
-pub enum Verdict {
-    Approved {
-        elements: u64,
-        occupied: u64,
-        cells: u64,
-    },
-    Refused(Refusal),
-}
-
-// The answer to the owner of a cell: the entry read, the flat index plus 1, or 0 for nobody.
-pub enum Owner {
-    Entry(u64),
-    Refused(Refusal),
-}
 
 // What the first pass over the elements finds.
 enum Search {
@@ -255,29 +240,5 @@ pub fn owner_of(card: Card, coordinates: [u64; 8], table: &mut [u32]) -> Owner
     match spot {
         Spot::Inside(cell) => owner_at(card, cell, table),
         Spot::Outside(axis) => Owner::Refused(Refusal::CellOutside { axis }),
-    }
-}
-
-// The plain numbers of a verdict.
-pub fn verdict_numbers(verdict: Verdict) -> Numbers
-    ensures { λ r. ⌜ r ≡ verdictNumbers verdict ⌝ }
-{
-    match verdict {
-        Verdict::Approved {
-            elements,
-            occupied,
-            cells,
-        } => answers::answer(0, elements, occupied, cells),
-        Verdict::Refused(refusal) => answers::refusal_numbers(refusal),
-    }
-}
-
-// The plain numbers of an owner.
-pub fn owner_numbers(owner: Owner) -> Numbers
-    ensures { λ r. ⌜ r ≡ ownerNumbers owner ⌝ }
-{
-    match owner {
-        Owner::Entry(entry) => answers::answer(0, entry, 0, 0),
-        Owner::Refused(refusal) => answers::refusal_numbers(refusal),
     }
 }

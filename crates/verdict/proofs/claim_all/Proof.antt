@@ -8,7 +8,7 @@ use Rattle.card.specs.declared.Card.{Card}
 use Rattle.card.proofs.Admitted.{sized}
 use Rattle.placement.specs.Inside.{cardOf}
 use Rattle.claims.specs.Claims.{Approved}
-use Rattle.verdict.specs.Judgement.{placed}
+use Rattle.judgement.specs.Judgement.{placed}
 use Rattle.verdict.specs.Inside.{Claimable}
 use Rattle.verdict.proofs.Laws.{Ready, row-ready, claims-none, claims-count, claims-more, claims-met, claims-clash}
 use Rattle.verdict.proofs.Promises.{clash-promise, approved-promise}

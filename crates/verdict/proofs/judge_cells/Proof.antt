@@ -10,7 +10,7 @@ use Rattle.card.specs.declared.Sizes.{Sizes}
 use Rattle.card.proofs.Admitted.{sized}
 use Rattle.card.proofs.Filled.{length-of}
 use Rattle.placement.proofs.Cards.{unpacked, lent-numbers}
-use Rattle.verdict.specs.Verdict.{VerdictPromise}
+use Rattle.judgement.specs.Verdict.{VerdictPromise}
 use borrow.Author.Needs.{needs}
 use Rattle.verdict.proofs.judge_cells.Statement.{statement}
 use Rattle.verdict.proofs.judge_cells.Tie as tie

@@ -1,7 +1,7 @@
--- `verdict::owner_numbers` takes an owner to its number: in each arm the answer is the arm's own.
+-- `judgement::owner_numbers` takes an owner to its number: in each arm the answer is the arm's own.
 use borrow.Author.Needs.{needs}
-use Rattle.verdict.proofs.owner_numbers.Statement.{statement}
-use Rattle.verdict.proofs.owner_numbers.Tie as tie
+use Rattle.judgement.proofs.owner_numbers.Statement.{statement}
+use Rattle.judgement.proofs.owner_numbers.Tie as tie
 
 enum-known-owner : tie.Need-enum-known-owner
 enum-known-owner c = search needs

@@ -15,8 +15,8 @@ use Rattle.placement.specs.declared.Spot.the-variants.{Inside, Outside}
 use Rattle.claims.specs.Claims.{Outcome, Owned, Clash}
 use Rattle.claims.specs.Rows.{smaller}
 use Rattle.claims.specs.Run.{run}
-use Rattle.verdict.specs.Judgement.{placed, Judgement, NotAdmitted, NoRoom, OutsideAt, Clashing, Passed}
-use Rattle.verdict.specs.Verdict.{askedSpot, OwnerJudgement, NoCell, ByVerdict}
+use Rattle.judgement.specs.Judgement.{placed, Judgement, NotAdmitted, NoRoom, OutsideAt, Clashing, Passed}
+use Rattle.judgement.specs.Verdict.{askedSpot, OwnerJudgement, NoCell, ByVerdict}
 
 -- the axis on which a spot lies outside, plus 1, and 0 inside
 abbrev pub axisEntry : Spot → ℕ

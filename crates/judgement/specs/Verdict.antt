@@ -15,11 +15,11 @@ use Rattle.placement.specs.Rules.{spotAt}
 use Rattle.placement.specs.Placement.{cellOf}
 use Rattle.placement.specs.declared.Spot.{Spot}
 use Rattle.placement.specs.declared.Spot.the-variants.{Outside}
-use Rattle.verdict.specs.Judgement.{LiesInside, Judgement, NotAdmitted, NoRoom, OutsideAt, Clashing, Passed, ComesTo}
-use Rattle.verdict.specs.declared.Verdict.{Verdict}
-use Rattle.verdict.specs.declared.Verdict.the-variants.{Approved, Refused}
-use Rattle.verdict.specs.declared.Owner.{Owner}
-use Rattle.verdict.specs.declared.Owner.the-variants.{Entry, Refused as NoOwner}
+use Rattle.judgement.specs.Judgement.{LiesInside, Judgement, NotAdmitted, NoRoom, OutsideAt, Clashing, Passed, ComesTo}
+use Rattle.judgement.specs.declared.Verdict.{Verdict}
+use Rattle.judgement.specs.declared.Verdict.the-variants.{Approved, Refused}
+use Rattle.judgement.specs.declared.Owner.{Owner}
+use Rattle.judgement.specs.declared.Owner.the-variants.{Entry, Refused as NoOwner}
 
 -- the verdict that a judgement is
 abbrev pub verdictOf : Card → Judgement → Verdict

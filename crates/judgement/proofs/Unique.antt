@@ -10,9 +10,9 @@ use Rattle.card.specs.declared.Card.{Card}
 use Rattle.card.specs.declared.Admission.the-variants.{Admitted, Refused}
 use Rattle.claims.specs.Claims.{Outcome, Owned, Clash, ComesTo as Comes}
 use Rattle.claims.proofs.Theorems.{outcome-unique}
-use Rattle.verdict.specs.Judgement.{placed, LiesInside, AllInside, FirstOutside, Judgement, NotAdmitted, NoRoom, OutsideAt, Clashing, Passed, ComesTo}
-use Rattle.verdict.specs.Verdict.{OwnerJudgement, NoCell, ByVerdict, OwnerComesTo}
-use Rattle.verdict.specs.Run.{claimed}
+use Rattle.judgement.specs.Judgement.{placed, LiesInside, AllInside, FirstOutside, Judgement, NotAdmitted, NoRoom, OutsideAt, Clashing, Passed, ComesTo}
+use Rattle.judgement.specs.Verdict.{OwnerJudgement, NoCell, ByVerdict, OwnerComesTo}
+use Rattle.judgement.specs.Run.{claimed}
 
 module _ (card : Card) where
   -- a card is not both refused and admitted

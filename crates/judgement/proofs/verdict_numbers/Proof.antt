@@ -1,7 +1,7 @@
--- `verdict::verdict_numbers` takes a verdict to its number: in each arm the answer is the arm's own.
+-- `judgement::verdict_numbers` takes a verdict to its number: in each arm the answer is the arm's own.
 use borrow.Author.Needs.{needs}
-use Rattle.verdict.proofs.verdict_numbers.Statement.{statement}
-use Rattle.verdict.proofs.verdict_numbers.Tie as tie
+use Rattle.judgement.proofs.verdict_numbers.Statement.{statement}
+use Rattle.judgement.proofs.verdict_numbers.Tie as tie
 
 enum-known-verdict : tie.Need-enum-known-verdict
 enum-known-verdict c = search needs

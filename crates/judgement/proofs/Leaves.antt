@@ -18,12 +18,12 @@ use Rattle.card.specs.declared.Admission.the-variants.{Admitted, Refused}
 use Rattle.placement.specs.RowMajor.{position}
 use Rattle.placement.proofs.RowMajor.{FirstPast, first-past}
 use Rattle.placement.proofs.Spots.{position-past, outside-past}
-use Rattle.verdict.specs.Judgement.{Judgement, NotAdmitted, NoRoom, OutsideAt, Clashing, Passed, ComesTo}
-use Rattle.verdict.specs.Verdict.{verdictOf, cleared, tableAfter, VerdictPromise, OwnerJudgement, NoCell, ByVerdict, OwnerComesTo, readEntry, ownerTableAfter, ownerOf, OwnerPromise, verdictNumbers, ownerNumbers}
-use Rattle.verdict.specs.declared.Verdict.{Verdict}
-use Rattle.verdict.specs.declared.Verdict.the-variants.{Approved, Refused as NotApproved}
-use Rattle.verdict.specs.declared.Owner.{Owner}
-use Rattle.verdict.specs.declared.Owner.the-variants.{Refused as NoOwner}
+use Rattle.judgement.specs.Judgement.{Judgement, NotAdmitted, NoRoom, OutsideAt, Clashing, Passed, ComesTo}
+use Rattle.judgement.specs.Verdict.{verdictOf, cleared, tableAfter, VerdictPromise, OwnerJudgement, NoCell, ByVerdict, OwnerComesTo, readEntry, ownerTableAfter, ownerOf, OwnerPromise, verdictNumbers, ownerNumbers}
+use Rattle.judgement.specs.declared.Verdict.{Verdict}
+use Rattle.judgement.specs.declared.Verdict.the-variants.{Approved, Refused as NotApproved}
+use Rattle.judgement.specs.declared.Owner.{Owner}
+use Rattle.judgement.specs.declared.Owner.the-variants.{Refused as NoOwner}
 
 -- what an answer of this number leaves in the lent table
 pub record Leaves (card : Card) (before after : List ℕ) (number : ℕ) : Type 0 where

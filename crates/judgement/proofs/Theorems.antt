@@ -24,14 +24,14 @@ use Rattle.claims.specs.Claims.{Claims, occupied, Approved as Owned}
 use Rattle.claims.specs.Rows.{Row}
 use Rattle.claims.proofs.Rows.{Among, among-claims, claims-among}
 use Rattle.claims.proofs.Theorems.{owners-none-share, clash-shares, nobody-exactly}
-use Rattle.verdict.specs.Judgement.{placed, LiesInside, AllInside, NoTwoShare, Judgement, NotAdmitted, NoRoom, OutsideAt, Clashing, Passed, ComesTo}
-use Rattle.verdict.specs.Verdict.{verdictOf, tableAfter, VerdictPromise, askedSpot, OwnerJudgement, NoCell, ByVerdict, OwnerComesTo, readEntry, ownerTableAfter, ownerOf, OwnerPromise, verdictNumbers, ownerNumbers}
-use Rattle.verdict.specs.declared.Verdict.{Verdict}
-use Rattle.verdict.specs.declared.Verdict.the-variants.{Approved, Refused}
-use Rattle.verdict.specs.declared.Owner.{Owner}
-use Rattle.verdict.specs.declared.Owner.the-variants.{Entry, Refused as NoOwner}
-use Rattle.verdict.proofs.Unique.{not-both, inside-not-outside, judgement-unique, owner-judgement-unique}
-use Rattle.verdict.proofs.Run.{lies-inside}
+use Rattle.judgement.specs.Judgement.{placed, LiesInside, AllInside, NoTwoShare, Judgement, NotAdmitted, NoRoom, OutsideAt, Clashing, Passed, ComesTo}
+use Rattle.judgement.specs.Verdict.{verdictOf, tableAfter, VerdictPromise, askedSpot, OwnerJudgement, NoCell, ByVerdict, OwnerComesTo, readEntry, ownerTableAfter, ownerOf, OwnerPromise, verdictNumbers, ownerNumbers}
+use Rattle.judgement.specs.declared.Verdict.{Verdict}
+use Rattle.judgement.specs.declared.Verdict.the-variants.{Approved, Refused}
+use Rattle.judgement.specs.declared.Owner.{Owner}
+use Rattle.judgement.specs.declared.Owner.the-variants.{Entry, Refused as NoOwner}
+use Rattle.judgement.proofs.Unique.{not-both, inside-not-outside, judgement-unique, owner-judgement-unique}
+use Rattle.judgement.proofs.Run.{lies-inside}
 
 -- two outcomes that the promise of the verdict allows are equal
 pub verdict-settled : (card : Card) (before a b : List ℕ) (v w : Verdict) → VerdictPromise card before a v → VerdictPromise card before b w

@@ -24,12 +24,12 @@ use Rattle.claims.specs.Claims.{Inside as Within, Outcome, Owned, Clash, ComesT
 use Rattle.claims.specs.Rows.{smaller}
 use Rattle.claims.specs.Run.{run}
 use Rattle.claims.proofs.Run.{run-comes}
-use Rattle.verdict.specs.Judgement.{placed, LiesInside, AllInside, FirstOutside, Judgement, Judged, ComesTo}
-use Rattle.verdict.specs.Verdict.{verdictOf, tableAfter, VerdictPromise, askedSpot, OwnerJudgement, ByVerdict, OwnerComesTo, ownerTableAfter, ownerOf, OwnerPromise}
-use Rattle.verdict.specs.declared.Verdict.{Verdict}
-use Rattle.verdict.specs.declared.Owner.{Owner}
-use Rattle.verdict.specs.Run.{axisEntry, axisMet, claimed, judgeFrom, judgeWith, judgeAfter, judge, ownerAt, ownerAfter, ownerRun}
-use Rattle.verdict.proofs.Unique.{not-both, judgement-unique, owner-judgement-unique}
+use Rattle.judgement.specs.Judgement.{placed, LiesInside, AllInside, FirstOutside, Judgement, Judged, ComesTo}
+use Rattle.judgement.specs.Verdict.{verdictOf, tableAfter, VerdictPromise, askedSpot, OwnerJudgement, ByVerdict, OwnerComesTo, ownerTableAfter, ownerOf, OwnerPromise}
+use Rattle.judgement.specs.declared.Verdict.{Verdict}
+use Rattle.judgement.specs.declared.Owner.{Owner}
+use Rattle.judgement.specs.Run.{axisEntry, axisMet, claimed, judgeFrom, judgeWith, judgeAfter, judge, ownerAt, ownerAfter, ownerRun}
+use Rattle.judgement.proofs.Unique.{not-both, judgement-unique, owner-judgement-unique}
 
 -- a spot inside has its cell
 pub lies-inside : (s : Spot) → LiesInside s → s ≡ Inside (record { 0 = cellOf s })

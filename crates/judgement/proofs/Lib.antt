@@ -1,0 +1,4 @@
+pub mod Unique
+pub mod Run
+pub mod Theorems
+pub mod Leaves
