@@ -10,8 +10,8 @@ use Rattle.card.specs.declared.Admission.the-variants.{Admitted, Refused
 use Rattle.card.proofs.Admitted.{Checked}
 
 -- two outcomes that the promise of the admission allows are equal
-pub card-settled : (card : Card) (p q : Admission) → p ≡ admission card → q ≡ admission card → p ≡ q
-card-settled card p q e f = e ∙ sym f
+pub admission-settled : (card : Card) (p q : Admission) → p ≡ admission card → q ≡ admission card → p ≡ q
+admission-settled card p q e f = e ∙ sym f
 
 -- pinning the numbers pins the answer
 admission-back : (p : Admission) → readBack (λ n. Admitted) Refused (admissionNumbers p) ≡ p

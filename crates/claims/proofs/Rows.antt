@@ -13,7 +13,7 @@ use lib.ListN.{length, getD, set, drop, replicate, length-set, drop-of-length-le
 use lib.Seq.{drop-cons, getD-set-same, getD-set-other, lt-length-set}
 use borrow.Author.Tests.{eq-eqb, eqb-true, ltb-true, ltb-false}
 use Rattle.laws.proofs.Order.{le-or-lt}
-use Rattle.claims.specs.Claims.{Placement, Claims, taken, occupied}
+use Rattle.claims.specs.Claims.{Layout, Claims, taken, occupied}
 use Rattle.claims.specs.Rows.{Row, Within, smaller, least, entryMet, cellWith, cellMet, written}
 
 -- cell c is one of a row's
@@ -39,7 +39,7 @@ nowhere : (c : ℕ) → Among [] c → ⊥
 nowhere c a = not-suc-le-zero (a .below)
 
 -- the cells of an element's row are those that it claims
-module _ (p : Placement) (f : ℕ) (row : List ℕ) (is : Row p f row) (c : ℕ) where
+module _ (p : Layout) (f : ℕ) (row : List ℕ) (is : Row p f row) (c : ℕ) where
   pub among-claims : Among row c → Claims p f c
   among-claims a =
       let below : a .place < p .copies = omega (arith, is .size) in

@@ -8,7 +8,7 @@ use native.Mathlib.Nat.{eq-or-lt-of-le}
 use native.Mathlib.Omega.{arith}
 use lib.ListN.{length, getD, replicate}
 use Rattle.laws.proofs.Order.{le-or-lt}
-use Rattle.claims.specs.Claims.{Placement, Claims, Inside, Owners, occupied, FirstClash}
+use Rattle.claims.specs.Claims.{Layout, Claims, Inside, Owners, occupied, FirstClash}
 use Rattle.claims.specs.Rows.{Row, Within, entryMet, cellMet, written, RowClaim}
 use Rattle.claims.proofs.Rows.{Among, among-claims, claims-among, met-nobody, met-somebody, met-smallest, cell-met, written-at, occupied-claimed}
 
@@ -18,11 +18,11 @@ nobody (suc n) zero = refl
 nobody (suc n) (suc c) = nobody n c
 
 -- a cleared table has the owners of no element
-pub owners-none : (p : Placement) (cells : ℕ) → Owners p 0 (replicate cells 0)
+pub owners-none : (p : Layout) (cells : ℕ) → Owners p 0 (replicate cells 0)
 owners-none p cells = λ f c. (λ e. absurd (omega (arith, nobody cells c)), λ h. absurd (omega (arith, h .0)))
 
 -- where every copy lies in the cells, each element's row lies in the table of the cells
-pub row-within : (p : Placement) (n : ℕ) (table : List ℕ) → Inside p n (length table) → (y : ℕ) (row : List ℕ) → y < n → Row p y row → Within row table
+pub row-within : (p : Layout) (n : ℕ) (table : List ℕ) → Inside p n (length table) → (y : ℕ) (row : List ℕ) → y < n → Row p y row → Within row table
 row-within p n table inside y row h is = λ r k.
     let below : r < p .copies = omega (arith, is .size) in omega (arith, is .cells r below, inside y r h below)
 
@@ -36,7 +36,7 @@ claim-all row f newly before after w h free e counted =
     let more = rw (sym e) at (occupied-claimed (f + 1) row before (omega arith) w h free) in
     record { met = λ none. absurd (omega arith); claimed = λ k. (free, e); counted = counted }
 
-module _ (p : Placement) (y : ℕ) (table : List ℕ) (owners : Owners p y table) (row : List ℕ) (is : Row p y row) where
+module _ (p : Layout) (y : ℕ) (table : List ℕ) (owners : Owners p y table) (row : List ℕ) (is : Row p y row) where
   -- element y's row meets nobody: with the row written the table has the owners of one element more
   pub owners-more : Within row table → entryMet table row ≡ 0 → Owners p (y + 1) (written (y + 1) row table)
   owners-more w free f c =
@@ -89,7 +89,7 @@ module _ (p : Placement) (y : ℕ) (table : List ℕ) (owners : Owners p y table
       }
 
 -- the two steps of the loop over the elements, from what claiming row y ensures
-module _ (p : Placement) (y : ℕ) (before : List ℕ) (owners : Owners p y before) (row : List ℕ) (is : Row p y row) (newly : ℕ) (after : List ℕ)
+module _ (p : Layout) (y : ℕ) (before : List ℕ) (owners : Owners p y before) (row : List ℕ) (is : Row p y row) (newly : ℕ) (after : List ℕ)
     (claim : RowClaim row y newly before after) where
   pub claimed-owners : Within row before → 0 < newly → Owners p (y + 1) after
   claimed-owners w h =

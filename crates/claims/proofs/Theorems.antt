@@ -7,7 +7,7 @@ use native.Mathlib.Nat.{le-antisymm}
 use native.Mathlib.Omega.{arith}
 use lib.ListN.{length, getD}
 use lib.Seq.{ext-getD}
-use Rattle.claims.specs.Claims.{Placement, Claims, Inside, NoneShare, Owners, Approved, FirstClash, Outcome, Owned, Clash, ComesTo}
+use Rattle.claims.specs.Claims.{Layout, Claims, Inside, NoneShare, Owners, OwnedTable, FirstClash, Outcome, Owned, Clash, ClaimsComeTo}
 use Rattle.claims.specs.Run.{run}
 use Rattle.claims.proofs.Run.{run-comes}
 
@@ -17,7 +17,7 @@ same-entry zero zero to from = refl
 same-entry zero (suc b) to from = from b (omega arith) ∙ omega arith
 same-entry (suc a) b to from = omega (arith, to a (omega arith))
 
-module _ (p : Placement) (n : ℕ) where
+module _ (p : Layout) (n : ℕ) where
   -- one table of the cells has the owners
   pub owners-unique : (s t : List ℕ) → length s ≡ length t → Owners p n s → Owners p n t → s ≡ t
   owners-unique s t l o q =
@@ -49,7 +49,7 @@ module _ (p : Placement) (n : ℕ) where
     clash-unique = cc (same-x, same-y, same-cell)
 
 -- the outcome is unique: two that the claims come to are equal
-pub outcome-unique : (p : Placement) (n cells : ℕ) (a b : Outcome) → ComesTo p n cells a → ComesTo p n cells b → a ≡ b
+pub outcome-unique : (p : Layout) (n cells : ℕ) (a b : Outcome) → ClaimsComeTo p n cells a → ClaimsComeTo p n cells b → a ≡ b
 outcome-unique p n cells (Owned s i) (Owned t j) h k =
     let same : s ≡ t = owners-unique p n s t (h .size ∙ sym (k .size)) (h .owners) (k .owners) in
     cc (h .counted, k .counted, same)
@@ -60,30 +60,30 @@ outcome-unique p n cells (Clash x y cell) (Owned t j) h k =
 outcome-unique p n cells (Clash x y cell) (Clash x′ y′ cell′) h k = clash-unique p n x y cell x′ y′ cell′ h k
 
 -- an outcome is the one of the run, so a load that the run computes is a load of the claims
-pub outcome-is-run : (p : Placement) (n cells : ℕ) → Inside p n cells → (a : Outcome) → ComesTo p n cells a → a ≡ run p n cells
+pub outcome-is-run : (p : Layout) (n cells : ℕ) → Inside p n cells → (a : Outcome) → ClaimsComeTo p n cells a → a ≡ run p n cells
 outcome-is-run p n cells inside a h = outcome-unique p n cells a (run p n cells) h (run-comes p n cells inside)
 
 -- demand 3, over any placement whose copies lie in the cells: there is no clash exactly when no two different elements share a cell
-pub no-clash-exactly : (p : Placement) (n cells : ℕ) → Inside p n cells
+pub no-clash-exactly : (p : Layout) (n cells : ℕ) → Inside p n cells
     → ((x y cell : ℕ) → FirstClash p n x y cell → ⊥) ↔ NoneShare p n
 no-clash-exactly p n cells inside =
     (λ none. split none (run p n cells) (run-comes p n cells inside), λ none x y cell k. clash-shares p n x y cell k none)
   where
-    split : ((x y cell : ℕ) → FirstClash p n x y cell → ⊥) → (a : Outcome) → ComesTo p n cells a → NoneShare p n
+    split : ((x y cell : ℕ) → FirstClash p n x y cell → ⊥) → (a : Outcome) → ClaimsComeTo p n cells a → NoneShare p n
     split none (Owned table count) h = owners-none-share p n table (h .owners)
     split none (Clash x y cell) h = absurd (none x y cell h)
 
 -- and then, and only then, it is approved
-pub approved-exactly : (p : Placement) (n cells : ℕ) → Inside p n cells
-    → ((table : List ℕ) × (count : ℕ) × Approved p n cells table count) ↔ NoneShare p n
+pub approved-exactly : (p : Layout) (n cells : ℕ) → Inside p n cells
+    → ((table : List ℕ) × (count : ℕ) × OwnedTable p n cells table count) ↔ NoneShare p n
 approved-exactly p n cells inside =
     (λ a. owners-none-share p n (a .0) (a .2 .owners), λ none. split none (run p n cells) (run-comes p n cells inside))
   where
-    split : NoneShare p n → (a : Outcome) → ComesTo p n cells a → (table : List ℕ) × (count : ℕ) × Approved p n cells table count
+    split : NoneShare p n → (a : Outcome) → ClaimsComeTo p n cells a → (table : List ℕ) × (count : ℕ) × OwnedTable p n cells table count
     split none (Owned table count) h = (table, count, h)
     split none (Clash x y cell) h = absurd (clash-shares p n x y cell h none)
 
-module _ (p : Placement) (n : ℕ) (table : List ℕ) (owners : Owners p n table) (c : ℕ) where
+module _ (p : Layout) (n : ℕ) (table : List ℕ) (owners : Owners p n table) (c : ℕ) where
   -- a cell's owner is the one element placed there
   pub owner-placed : (f : ℕ) → f < n → Claims p f c → (getD table c 0 ≡ f + 1) × ((g : ℕ) → g < n → Claims p g c → g ≡ f)
   owner-placed f h k =
@@ -98,10 +98,10 @@ module _ (p : Placement) (n : ℕ) (table : List ℕ) (owners : Owners p n table
       split none (suc f) e = let o = owners f c .0 (omega arith) in absurd (none f (o .0) (o .1))
 
 -- two copies of one element in one cell are no clash: the two of a clash are different elements, so one alone has none
-pub clash-differs : (p : Placement) (n x y cell : ℕ) → FirstClash p n x y cell → x ≡ y → ⊥
+pub clash-differs : (p : Layout) (n x y cell : ℕ) → FirstClash p n x y cell → x ≡ y → ⊥
 clash-differs p n x y cell k e = omega (arith, k .smaller)
 
-pub copies-no-clash : (p : Placement) (x y cell : ℕ) → FirstClash p 1 x y cell → ⊥
+pub copies-no-clash : (p : Layout) (x y cell : ℕ) → FirstClash p 1 x y cell → ⊥
 copies-no-clash p x y cell k = omega (arith, k .smaller, k .element)
 
 -- two copies of element 0 in cell 1, and element 1 in cell 0: two occupied cells

@@ -1,36 +1,36 @@
--- Who claims which cell, over any placement: document 01's owner table and its refusal 8. A card enters only by naming its placement.
+-- Who claims which cell, over any layout: document 01's owner table and its refusal 8. A card enters only by naming where its copies go.
 use mathlib.Core.Path.{_≡_}
 use mathlib.Core.Logic.{_↔_}
 use mathlib.Core.List.{List, [], _∷_}
 use Prim.Native.Nat.{ℕ, zero, suc, _+_, _≤_, _<_}
 use lib.ListN.{length, getD}
 
--- a placement: copy r of element f goes to cell `at f r`, for each r below the copies
-pub record Placement : Type 0 where
+-- a layout: copy r of element f goes to cell `at f r`, for each r below the copies
+pub record Layout : Type 0 where
   pub copies : ℕ
   pub at : ℕ → ℕ → ℕ
 
 -- element f claims cell c: one of its copies goes there
-pub record Claims (p : Placement) (f c : ℕ) : Type 0 where
+pub record Claims (p : Layout) (f c : ℕ) : Type 0 where
   pub copy : ℕ
   pub below : copy < p .copies
   pub there : p .at f copy ≡ c
 
 -- elements x and y share cell c
-pub record Share (p : Placement) (x y c : ℕ) : Type 0 where
+pub record Share (p : Layout) (x y c : ℕ) : Type 0 where
   pub one : Claims p x c
   pub other : Claims p y c
 
 -- every copy of the n elements lies in the cells
-abbrev pub Inside : Placement → ℕ → ℕ → Type 0
+abbrev pub Inside : Layout → ℕ → ℕ → Type 0
 Inside p n cells = (f r : ℕ) → f < n → r < p .copies → p .at f r < cells
 
 -- no two different elements share a cell
-abbrev pub NoneShare : Placement → ℕ → Type 0
+abbrev pub NoneShare : Layout → ℕ → Type 0
 NoneShare p n = (x y c : ℕ) → x < n → y < n → Share p x y c → x ≡ y
 
 -- the owners of n elements: the entry of cell c is f + 1 exactly when f is one of the elements and claims c
-abbrev pub Owners : Placement → ℕ → List ℕ → Type 0
+abbrev pub Owners : Layout → ℕ → List ℕ → Type 0
 Owners p n table = (f c : ℕ) → (getD table c 0 ≡ f + 1) ↔ ((f < n) × Claims p f c)
 
 -- the occupied cells: how many entries are not 0
@@ -42,14 +42,14 @@ abbrev pub occupied : List ℕ → ℕ
 occupied [] = 0
 occupied (entry ∷ table) = taken entry + occupied table
 
--- approved: the table of all the cells has the owners, and so many cells are occupied
-pub record Approved (p : Placement) (n cells : ℕ) (table : List ℕ) (count : ℕ) : Type 0 where
+-- the table of all the cells has the owners, and so many cells are occupied
+pub record OwnedTable (p : Layout) (n cells : ℕ) (table : List ℕ) (count : ℕ) : Type 0 where
   pub size : length table ≡ cells
   pub owners : Owners p n table
   pub counted : count ≡ occupied table
 
--- refused: y is the smallest flat sharing a cell with a smaller one, x the smallest it shares with, and the cell the smallest they share
-pub record FirstClash (p : Placement) (n x y cell : ℕ) : Type 0 where
+-- y is the smallest flat sharing a cell with a smaller one, x the smallest it shares with, and the cell the smallest they share
+pub record FirstClash (p : Layout) (n x y cell : ℕ) : Type 0 where
   pub element : y < n
   pub smaller : x < y
   pub shared : Share p x y cell
@@ -62,6 +62,6 @@ pub data Outcome : Type 0 where
   Owned : (table : List ℕ) (count : ℕ) → Outcome
   Clash : (x y cell : ℕ) → Outcome
 
-abbrev pub ComesTo : Placement → ℕ → ℕ → Outcome → Type 0
-ComesTo p n cells (Owned table count) = Approved p n cells table count
-ComesTo p n cells (Clash x y cell) = FirstClash p n x y cell
+abbrev pub ClaimsComeTo : Layout → ℕ → ℕ → Outcome → Type 0
+ClaimsComeTo p n cells (Owned table count) = OwnedTable p n cells table count
+ClaimsComeTo p n cells (Clash x y cell) = FirstClash p n x y cell

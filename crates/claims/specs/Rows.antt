@@ -6,10 +6,10 @@ use mathlib.Core.List.{List, [], _∷_}
 use Prim.Native.Nat.{ℕ, zero, suc, _+_, _<_, min}
 use lib.Dec.{eqb}
 use lib.ListN.{length, getD, set}
-use Rattle.claims.specs.Claims.{Placement, occupied}
+use Rattle.claims.specs.Claims.{Layout, occupied}
 
 -- a row of element f: where its copies go
-pub record Row (p : Placement) (f : ℕ) (row : List ℕ) : Type 0 where
+pub record Row (p : Layout) (f : ℕ) (row : List ℕ) : Type 0 where
   pub size : length row ≡ p .copies
   pub cells : (r : ℕ) → r < p .copies → getD row r 0 ≡ p .at f r
 

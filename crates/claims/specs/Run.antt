@@ -3,7 +3,7 @@
 use mathlib.Core.List.{List, [], _∷_}
 use Prim.Native.Nat.{ℕ, zero, suc, _+_, _-_}
 use lib.ListN.{replicate}
-use Rattle.claims.specs.Claims.{Placement, Outcome, Owned, Clash, occupied}
+use Rattle.claims.specs.Claims.{Layout, Outcome, Owned, Clash, occupied}
 use Rattle.claims.specs.Rows.{entryMet, cellMet, written}
 
 -- where so many copies go, from copy r on
@@ -12,7 +12,7 @@ rowFrom at zero r = []
 rowFrom at (suc left) r = at r ∷ rowFrom at left (r + 1)
 
 -- claim so many elements, from y on, in the table of the smaller ones
-abbrev pub claimFrom : Placement → ℕ → ℕ → List ℕ → Outcome
+abbrev pub claimFrom : Layout → ℕ → ℕ → List ℕ → Outcome
 claimFrom p zero y table = Owned table (occupied table)
 claimFrom p (suc left) y table =
     let row = rowFrom (p .at y) (p .copies) 0 in
@@ -21,5 +21,5 @@ claimFrom p (suc left) y table =
       | suc x ↦ Clash (entryMet table row - 1) y (cellMet table (entryMet table row) row - 1)
     ]
 
-abbrev pub run : Placement → ℕ → ℕ → Outcome
+abbrev pub run : Layout → ℕ → ℕ → Outcome
 run p n cells = claimFrom p n 0 (replicate cells 0)

@@ -1,18 +1,18 @@
 // The word place, and the card of a line, with which the words on layouts begin.
-use crate::print;
 use answers::Numbers;
 use card::Card;
 use card::Iter;
 use card::Iters;
+use lines::lent::fill;
+use lines::numbers::eight;
+use lines::reply;
+use lines::reply::Reply;
 use placement::Tuple;
 use swizzle::Swizzle;
 ghost use Prim.Native.Nat.{_≤_};
 
 // The most entries that the program lends to a placement.
 const MOST_LENT: u64 = 64;
-
-// What lent entry 0 is before the question; each further one is one more.
-const LENT: u64 = 1000000;
 
 // The iter at a place of a line: extent, stride, axis.
 fn iter(numbers: &[u64; 80], from: usize) -> Iter
@@ -23,22 +23,6 @@ fn iter(numbers: &[u64; 80], from: usize) -> Iter
         stride: numbers[from + 1],
         axis: numbers[from + 2],
     }
-}
-
-// Eight numbers from a place of a line on, which has that many.
-pub fn eight(numbers: &[u64; 80], from: usize) -> [u64; 8]
-    requires { ⌜ from ≤ 72 ⌝ }
-{
-    [
-        numbers[from],
-        numbers[from + 1],
-        numbers[from + 2],
-        numbers[from + 3],
-        numbers[from + 4],
-        numbers[from + 5],
-        numbers[from + 6],
-        numbers[from + 7],
-    ]
 }
 
 // The shard of a card: its count and eight iters.
@@ -98,46 +82,31 @@ pub fn card(numbers: &[u64; 80]) -> Card {
     }
 }
 
-// The entries as they are lent.
-pub fn fill(lent: &mut [u32]) {
-    let mut i = 0;
-    while i < lent.len() {
-        lent[i] = (LENT + i as u64 % LENT) as u32;
-        i += 1;
+// A count and eight numbers, from a place of a line on.
+fn tuple(numbers: &[u64; 80], from: usize) -> Tuple
+    requires { ⌜ from ≤ 71 ⌝ }
+{
+    Tuple {
+        at: eight(numbers, from + 1),
+        count: numbers[from],
     }
 }
 
 // The placement that a line asks for, in entries as they are lent.
 fn ask_place(numbers: &[u64; 80], lent: &mut [u32]) -> Numbers {
     fill(lent);
-    let shape = Tuple {
-        at: eight(numbers, 58),
-        count: numbers[57],
-    };
-    let coordinates = Tuple {
-        at: eight(numbers, 67),
-        count: numbers[66],
-    };
-    let placed = placement::place(card(numbers), shape, coordinates, lent);
+    let placed = placement::place(card(numbers), tuple(numbers, 57), tuple(numbers, 66), lent);
     placement::placement_numbers(placed)
 }
 
-// Its answer and each lent entry.
-fn put_place(numbers: &[u64; 80], lent: &mut [u32], out: &mut [u8], at: usize) -> usize {
-    let answer = ask_place(numbers, lent);
-    let mut place = print::numbers(out, at, answer);
-    place = print::bar(out, place);
-    place = print::entries(out, place, lent);
-    print::byte(out, place, b'\n')
-}
-
 // place CARD dimensions, eight sizes, coordinates, eight coordinates, length
-pub fn place(numbers: &[u64; 80], out: &mut [u8], at: usize) -> usize {
+pub fn place(numbers: &[u64; 80]) -> Reply {
     let asked = numbers[75];
     if MOST_LENT < asked {
-        return print::unknown(out, at);
+        return reply::unknown();
     }
     let length = asked as usize;
     let mut lent = [0u32; 64];
-    put_place(numbers, &mut lent[0..length], out, at)
+    let answer = ask_place(numbers, &mut lent[0..length]);
+    reply::entries(answer, length, &lent)
 }

@@ -1,14 +1,15 @@
 // The words of the subject swizzle.
-use crate::print;
+use lines::reply;
+use lines::reply::Reply;
 
 // swizzle M B S address
-pub fn swizzle(numbers: &[u64; 80], out: &mut [u8], at: usize) -> usize {
+pub fn swizzle(numbers: &[u64; 80]) -> Reply {
     let swizzled = swizzle::swizzle_address(numbers[0], numbers[1], numbers[2], numbers[3]);
-    print::line(out, at, swizzle::swizzle_numbers(swizzled))
+    reply::plain(swizzle::swizzle_numbers(swizzled))
 }
 
 // mode bits mode
-pub fn mode(numbers: &[u64; 80], out: &mut [u8], at: usize) -> usize {
+pub fn mode(numbers: &[u64; 80]) -> Reply {
     let chosen = swizzle::swizzle_of_mode(numbers[0], numbers[1]);
-    print::line(out, at, swizzle::mode_numbers(chosen))
+    reply::plain(swizzle::mode_numbers(chosen))
 }

@@ -13,7 +13,7 @@ use Rattle.fragment.specs.declared.Held.the-variants.{Place as Holds, Re
 use Rattle.fragment.specs.declared.Holder.{Holder}
 use Rattle.fragment.specs.declared.Holder.the-variants.{Slot as HeldBy, Refused as HeldByNone}
 use Rattle.fragment.specs.Kinds.{at, place}
-use Rattle.fragment.specs.Fragment.{isSlot, isPlace, heldAnswer, HolderAnswer, fragmentNumbers, holderNumbers}
+use Rattle.fragment.specs.Fragment.{isSlot, isPlace, heldAnswer, HolderAnswer, heldNumbers, holderNumbers}
 use Rattle.fragment.proofs.Back.{by, back, slot-back, place-back}
 
 -- the first question answers that a register holds a place
@@ -88,13 +88,13 @@ each-kind-one-to-one kind =
 holds : Numbers → Held
 holds n = Holds (record { computation = n .a; row = n .b; column = n .c })
 
-held-back : (g : Held) → readBack holds HoldsNot (fragmentNumbers g) ≡ g
+held-back : (g : Held) → readBack holds HoldsNot (heldNumbers g) ≡ g
 unfolding holds
 held-back (Holds p) = refl
 held-back (HoldsNot r) = refused-back holds HoldsNot r
 
-pub held-one-to-one : (g h : Held) → fragmentNumbers g ≡ fragmentNumbers h → g ≡ h
-held-one-to-one = pinned holds HoldsNot fragmentNumbers held-back
+pub held-one-to-one : (g h : Held) → heldNumbers g ≡ heldNumbers h → g ≡ h
+held-one-to-one = pinned holds HoldsNot heldNumbers held-back
 
 held-by : Numbers → Holder
 held-by n = HeldBy (by (n .a) (n .b))

@@ -31,9 +31,9 @@ HolderAnswer kind p (HeldBy s) = heldAnswer kind (s .lane) (s .register) ≡ Hol
 HolderAnswer kind p (HeldByNone refusal) = (isPlace kind p ≡ false) × (refusal ≡ Fragment)
 
 -- at number 0 computation, row, column
-abbrev pub fragmentNumbers : Held → Numbers
-fragmentNumbers (Holds p) = answer 0 (p .computation) (p .row) (p .column)
-fragmentNumbers (HoldsNot refusal) = refusalNumbers refusal
+abbrev pub heldNumbers : Held → Numbers
+heldNumbers (Holds p) = answer 0 (p .computation) (p .row) (p .column)
+heldNumbers (HoldsNot refusal) = refusalNumbers refusal
 
 -- at number 0 lane and register
 abbrev pub holderNumbers : Holder → Numbers

@@ -7,7 +7,7 @@ ghost use mathlib.Core.Path.{_≡_};
 ghost use mathlib.Core.Bool.{true};
 ghost use Prim.Native.Nat.{_+_, _*_, _<_};
 ghost use Rattle.fragment.specs.Kinds.{high, at, place};
-ghost use Rattle.fragment.specs.Fragment.{isSlot, isPlace, heldAnswer, HolderAnswer, fragmentNumbers, holderNumbers};
+ghost use Rattle.fragment.specs.Fragment.{isSlot, isPlace, heldAnswer, HolderAnswer, heldNumbers, holderNumbers};
 
 // The kinds, and the lanes of a warp.
 const KINDS: u64 = 9;
@@ -177,8 +177,8 @@ pub fn holder_of(kind: u64, computation: u64, row: u64, column: u64) -> Holder
 }
 
 // The plain numbers of what a register holds.
-pub fn fragment_numbers(held: Held) -> Numbers
-    ensures { λ r. ⌜ r ≡ fragmentNumbers held ⌝ }
+pub fn held_numbers(held: Held) -> Numbers
+    ensures { λ r. ⌜ r ≡ heldNumbers held ⌝ }
 {
     match held {
         Held::Place(place) => answers::answer(0, place.computation, place.row, place.column),

@@ -20,7 +20,7 @@ use Rattle.placement.specs.Placement.{cellOf}
 use Rattle.placement.specs.declared.Spot.{Spot}
 use Rattle.placement.specs.declared.Spot.the-variants.{Inside, Outside}
 use Rattle.placement.proofs.Spots.{cell-below}
-use Rattle.claims.specs.Claims.{Inside as Within, Outcome, Owned, Clash, ComesTo as Comes}
+use Rattle.claims.specs.Claims.{Inside as Within, Outcome, Owned, Clash, ClaimsComeTo as Comes}
 use Rattle.claims.specs.Rows.{smaller}
 use Rattle.claims.specs.Run.{run}
 use Rattle.claims.proofs.Run.{run-comes}
@@ -185,35 +185,3 @@ module _ (card : Card) where
         h .answers ∙ ap (λ (j : OwnerJudgement). ownerOf card coordinates j before) same,
         h .leaves ∙ ap (λ (j : OwnerJudgement). ownerTableAfter card j before) same,
       )
-
--- a longer table comes to the same, so a load is computed once, for a table of exactly the cells
-module _ (card : Card) (room : ℕ) (long : cells card ≤ room) where
-  pub judge-long : judge card room ≡ judge card (cells card)
-  judge-long = split (admission card)
-    where
-      split : (a : Admission) → judgeAfter card room a ≡ judgeAfter card (cells card) a
-      split Admitted = ap (judgeWith card) (le-leb (cells card) room long ∙ sym (le-leb (cells card) (cells card) (le-refl (cells card))))
-      split (Refused refusal) = refl
-
-  pub owner-run-long : (coordinates : List ℕ) → ownerRun card coordinates room ≡ ownerRun card coordinates (cells card)
-  owner-run-long coordinates = split (admission card)
-    where
-      at-spot : (s : Spot) → ownerAt card room s ≡ ownerAt card (cells card) s
-      at-spot (Inside cell) = ap ByVerdict judge-long
-      at-spot (Outside axis) = refl
-
-      split : (a : Admission) → ownerAfter card coordinates room a ≡ ownerAfter card coordinates (cells card) a
-      split Admitted = at-spot (askedSpot card coordinates)
-      split (Refused refusal) = refl
-
--- a load of the run is a load of the promise, whatever long enough table is lent and whatever it held
-pub verdict-load : (card : Card) (before after : List ℕ) (v : Verdict) → cells card ≤ length before → VerdictPromise card before after v
-    → (v ≡ verdictOf card (judge card (cells card))) × (after ≡ tableAfter card (judge card (cells card)) before)
-verdict-load card before after v long h = rw (judge-long card (length before) long) at (verdict-is-run card before after v h)
-
-pub owner-load : (card : Card) (coordinates before after : List ℕ) (owner : Owner) → cells card ≤ length before
-    → OwnerPromise card coordinates before after owner
-    → (owner ≡ ownerOf card coordinates (ownerRun card coordinates (cells card)) before)
-    × (after ≡ ownerTableAfter card (ownerRun card coordinates (cells card)) before)
-owner-load card coordinates before after owner long h =
-    rw (owner-run-long card (length before) long coordinates) at (owner-is-run card coordinates before after owner h)

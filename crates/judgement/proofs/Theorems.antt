@@ -20,7 +20,7 @@ use Rattle.placement.specs.Rules.{spot}
 use Rattle.placement.specs.Placement.{cellOf, copyCells}
 use Rattle.placement.specs.declared.Spot.the-variants.{Inside}
 use Rattle.placement.proofs.Filling.{cells-length, cells-at}
-use Rattle.claims.specs.Claims.{Claims, occupied, Approved as Owned}
+use Rattle.claims.specs.Claims.{Claims, occupied, OwnedTable as Owned}
 use Rattle.claims.specs.Rows.{Row}
 use Rattle.claims.proofs.Rows.{Among, among-claims, claims-among}
 use Rattle.claims.proofs.Theorems.{owners-none-share, clash-shares, nobody-exactly}

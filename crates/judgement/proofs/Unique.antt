@@ -8,7 +8,7 @@ use Rattle.card.specs.Card.{elements, cells}
 use Rattle.card.specs.Admission.{admission}
 use Rattle.card.specs.declared.Card.{Card}
 use Rattle.card.specs.declared.Admission.the-variants.{Admitted, Refused}
-use Rattle.claims.specs.Claims.{Outcome, Owned, Clash, ComesTo as Comes}
+use Rattle.claims.specs.Claims.{Outcome, Owned, Clash, ClaimsComeTo as Comes}
 use Rattle.claims.proofs.Theorems.{outcome-unique}
 use Rattle.judgement.specs.Judgement.{placed, LiesInside, AllInside, FirstOutside, Judgement, NotAdmitted, NoRoom, OutsideAt, Clashing, Passed, ComesTo}
 use Rattle.judgement.specs.Verdict.{OwnerJudgement, NoCell, ByVerdict, OwnerComesTo}

@@ -11,10 +11,10 @@ use Rattle.placement.specs.Rules.{spot}
 use Rattle.placement.specs.Placement.{cellOf}
 use Rattle.placement.specs.declared.Spot.{Spot}
 use Rattle.placement.specs.declared.Spot.the-variants.{Inside, Outside}
-use Rattle.claims.specs.Claims.{Placement, NoneShare, Approved, FirstClash}
+use Rattle.claims.specs.Claims.{Layout, NoneShare, OwnedTable, FirstClash}
 
 -- where the copies of a card's elements go
-abbrev pub placed : Card → Placement
+abbrev pub placed : Card → Layout
 placed card = record { copies = copies card; at = λ flat combination. cellOf (spot card flat combination) }
 
 abbrev pub LiesInside : Spot → Type 0
@@ -56,4 +56,4 @@ ComesTo card room NoRoom = (admission card ≡ Admitted) × (room < cells card)
 ComesTo card room (OutsideAt flat axis) = Judged card room × FirstOutside card flat axis
 ComesTo card room (Clashing x y cell) = Judged card room × AllInside card × FirstClash (placed card) (elements card) x y cell
 ComesTo card room (Passed owners occupied) =
-    Judged card room × AllInside card × Approved (placed card) (elements card) (cells card) owners occupied
+    Judged card room × AllInside card × OwnedTable (placed card) (elements card) (cells card) owners occupied

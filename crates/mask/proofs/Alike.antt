@@ -7,9 +7,9 @@ use native.Mathlib.Nat.{div-lt-iff-lt-mul}
 use native.Mathlib.Omega.{arith}
 use lib.Dec.{ltb}
 use lib.ListN.{getD, drop}
-use Rattle.mask.specs.Descriptor.{fieldsOf, reserved}
+use Rattle.descriptor.specs.Descriptor.{fieldsOf, reserved}
 use Rattle.mask.specs.Mask.{maskSize, subMasks, subBits, column, columns, bytes, maskOf, maskAnswer, maskMemory}
-use Rattle.mask.specs.declared.Fields.{Fields}
+use Rattle.descriptor.specs.declared.Fields.{Fields}
 use Rattle.mask.specs.declared.Generated.{Generated}
 use Rattle.mask.specs.declared.Generated.the-variants.{Mask, Refused}
 use Rattle.mask.proofs.Numbers.{zeroed-same, first-same}

@@ -10,7 +10,7 @@ use native.Mathlib.Omega.{arith}
 use lib.ListN.{length, getD, drop, length-append, replicate, replicate-append-replicate, List·getD-append, set as store}
 use lib.Seq.{drop-cons, set-at, getD-at}
 use lib.Count.{ones, trailingZeros}
-use Rattle.mask.specs.Descriptor.{yes}
+use Rattle.descriptor.specs.Descriptor.{yes}
 use Rattle.mask.specs.Mask.{number, bytes, maskBit, zeroed, firstUsed, maskOf}
 use Rattle.mask.specs.declared.Generated.the-variants.{Mask}
 use Rattle.mask.proofs.Numbers.{number-bit, number-of, number-same, ones-zeroed, trailing-used, zeroed-append, zeroed-same, first-same}

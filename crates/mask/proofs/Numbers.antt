@@ -9,9 +9,9 @@ use native.Mathlib.Omega.{arith}
 use lib.Dec.{eqb}
 use lib.Pow.{pow-mono, shr-shr, mod-pow-add}
 use lib.Count.{ones, trailingZeros, under, ones-step}
-use Rattle.mask.specs.Descriptor.{bits, yes, bit}
+use Rattle.descriptor.specs.Descriptor.{bits, yes, bit}
 use Rattle.mask.specs.Mask.{number, zeroed, firstUsed}
-use Rattle.mask.proofs.Digits.{bit-below, yes-bit, bit-yes}
+use Rattle.descriptor.proofs.Digits.{bit-below, yes-bit, bit-yes}
 
 -- the bits above the lowest are those of the half
 yes-next : (k n : ℕ) → yes (suc k) n ≡ yes k (n / 2)

@@ -11,7 +11,7 @@ use lib.Arith.{digits-div, digits-mod}
 use lib.ListN.{getD}
 use Rattle.laws.proofs.Order.{le-or-lt}
 use Rattle.mask.specs.Mask.{endless, column}
-use Rattle.mask.specs.declared.Fields.{Fields}
+use Rattle.descriptor.specs.declared.Fields.{Fields}
 
 -- the remainder of a further on
 near : (P a q : ℕ) → a + q % P < P → (a + q) % P ≡ a + q % P

@@ -1,5 +1,5 @@
--- What the definitions mean, in plain for-alls: reading and writing undo each other, a mask is its pattern's columns, what does not count
--- changes nothing, and each promise settles its answer.
+-- What the definitions mean, in plain for-alls: a mask is its pattern's columns, what does not count changes nothing, and the promise settles
+-- the answer.
 use mathlib.Core.Path.{_≡_, refl, sym, ap, ap₂, _∙_}
 use mathlib.Core.Bool.{Bool, true, false, cond}
 use mathlib.Core.List.{List}
@@ -11,48 +11,24 @@ use lib.ListN.{length, getD, drop, replicate, List·getD-append}
 use lib.Seq.{drop-at}
 use Rattle.answers.specs.declared.Refusal.the-variants.{Reserved, Shift}
 use Rattle.answers.proofs.OneToOne.{readBack, refused-back, pinned}
-use Rattle.mask.specs.Descriptor.{yes, fieldsOf, noFields, reserved, readAnswer, descriptorOf, writeAnswer, readNumbers, writeNumbers}
+use Rattle.descriptor.specs.Descriptor.{yes, fieldsOf, noFields, reserved, readAnswer, descriptorOf, writeAnswer, readNumbers, writeNumbers}
 use Rattle.mask.specs.Mask.{maskSize, subBits, columns, bytes, maskBit, zeroed, maskOf, maskAnswer, maskMemory, maskNumbers}
-use Rattle.mask.specs.declared.Fields.{Fields}
-use Rattle.mask.specs.declared.Read.{Read}
-use Rattle.mask.specs.declared.Read.the-variants.{Done, Refused}
-use Rattle.mask.specs.declared.Reading.{Reading}
-use Rattle.mask.specs.declared.Written.{Written}
-use Rattle.mask.specs.declared.Written.the-variants.{Descriptor, Refused as NotWritten}
+use Rattle.descriptor.specs.declared.Fields.{Fields}
+use Rattle.descriptor.specs.declared.Read.{Read}
+use Rattle.descriptor.specs.declared.Read.the-variants.{Done, Refused}
+use Rattle.descriptor.specs.declared.Reading.{Reading}
+use Rattle.descriptor.specs.declared.Written.{Written}
+use Rattle.descriptor.specs.declared.Written.the-variants.{Descriptor, Refused as NotWritten}
 use Rattle.mask.specs.declared.Generated.{Generated}
 use Rattle.mask.specs.declared.Generated.the-variants.{Mask, Refused as NoMask}
 use Rattle.mask.proofs.Numbers.{zeroed-same, first-same}
 use Rattle.mask.proofs.Bytes.{bytes-length, none-zeroed, all-used, zero-bytes, bytes-same, bytes-bit}
 use Rattle.mask.proofs.Sizes.{sized}
 use Rattle.mask.proofs.Alike.{Alike, alike-same}
-use Rattle.mask.proofs.Digits.{Typed, fields-back, reserved-clear, descriptor-back}
+use Rattle.descriptor.proofs.Digits.{Typed, fields-back, reserved-clear, descriptor-back}
 -- the endless pattern runs in turns; a mask repeats from the start of each sub-mask; the first used column is the smallest that is clear
 pub use Rattle.mask.proofs.Pattern.{Turns, turns, all-clear, repeats}
 pub use Rattle.mask.proofs.Least.{Least, first-least, least-one}
-
--- reading what was written gives the same fields
-pub read-written : (limit d : ℕ) (f : Fields) → limit < 64 → Typed f → writeAnswer limit f ≡ Descriptor d → readAnswer d ≡ record { answer = Done; fields = f }
-read-written limit d f small t = split (ltb limit (f .shift)) refl
-  where
-    split : (b : Bool) → ltb limit (f .shift) ≡ b → cond b (NotWritten (Shift limit)) (Descriptor (descriptorOf f)) ≡ Descriptor d
-        → readAnswer d ≡ record { answer = Done; fields = f }
-    split true b e = let z : _≡_ {A = ℕ} 0 1 = cc in absurd (omega arith)
-    split false b e =
-        let same : descriptorOf f ≡ d = cc in
-        let below : f .shift < 64 = omega (arith, ltb-false limit (f .shift) b) in
-        rw (sym same, reserved-clear f t below, fields-back f t below)
-
--- writing what was read gives the same descriptor, for every descriptor that reading accepts and writing allows
-pub written-read : (limit d : ℕ) → d < 2 ^ 64 → readAnswer d .answer ≡ Done → readAnswer d .fields .shift ≤ limit
-    → writeAnswer limit (readAnswer d .fields) ≡ Descriptor d
-written-read limit d h = split (reserved d) refl
-  where
-    read : Bool → Reading
-    read b = cond b (record { answer = Refused Reserved; fields = noFields }) (record { answer = Done; fields = fieldsOf d })
-
-    split : (b : Bool) → reserved d ≡ b → read b .answer ≡ Done → read b .fields .shift ≤ limit → writeAnswer limit (read b .fields) ≡ Descriptor d
-    split true b e l = let z : _≡_ {A = ℕ} 0 1 = cc in absurd (omega arith)
-    split false b e l = rw (le-ltb limit (fieldsOf d .shift) l, descriptor-back d h b)
 
 -- a mask whose non-zero mask field is 0: no column is zeroed, and every byte is 0
 pub clear-mask : (M N d : ℕ) → fieldsOf d .«non_zero» ≡ false → (maskOf (columns M N d) N ≡ Mask 0 0) × (bytes (columns M N d) (N / 8) ≡ replicate (N / 8) 0)
@@ -121,15 +97,7 @@ unused-change-nothing limit M N d e lent r shift alike =
     let both = alike-same limit M N d e lent alike (length lent) r (ap (ltb limit) shift) in
     record { answer = both .0; memory = both .1 }
 
--- two outcomes that the promise of reading allows are equal
-pub read-settled : (d : ℕ) (p q : Reading) → p ≡ readAnswer d → q ≡ readAnswer d → p ≡ q
-read-settled d p q e f = e ∙ sym f
-
--- and so are two that the promise of writing allows
-pub write-settled : (limit : ℕ) (f : Fields) (p q : Written) → p ≡ writeAnswer limit f → q ≡ writeAnswer limit f → p ≡ q
-write-settled limit f p q e g = e ∙ sym g
-
--- and so are two that the promise of a mask allows, the lent memory too
+-- two outcomes that the promise of a mask allows are equal, the lent memory too
 pub mask-settled : (limit M N d : ℕ) (lent : List ℕ) (p q : Generated) (k l : List ℕ)
     → (p ≡ maskAnswer limit M N d (length lent)) × (k ≡ maskMemory p M N d lent)
     → (q ≡ maskAnswer limit M N d (length lent)) × (l ≡ maskMemory q M N d lent)
@@ -139,20 +107,6 @@ mask-settled limit M N d lent p q k l a b =
     (same, a .1 ∙ ap (λ (r : Generated). maskMemory r M N d lent) same ∙ sym (b .1))
 
 -- pinning the numbers pins the answer
-read-back : (p : Read) → readBack (λ n. Done) Refused (readNumbers p) ≡ p
-read-back Done = refl
-read-back (Refused r) = refused-back (λ n. Done) Refused r
-
-pub read-one-to-one : (p q : Read) → readNumbers p ≡ readNumbers q → p ≡ q
-read-one-to-one = pinned (λ n. Done) Refused readNumbers read-back
-
-write-back : (p : Written) → readBack (λ n. Descriptor (n .a)) NotWritten (writeNumbers p) ≡ p
-write-back (Descriptor d) = refl
-write-back (NotWritten r) = refused-back (λ n. Descriptor (n .a)) NotWritten r
-
-pub write-one-to-one : (p q : Written) → writeNumbers p ≡ writeNumbers q → p ≡ q
-write-one-to-one = pinned (λ n. Descriptor (n .a)) NotWritten writeNumbers write-back
-
 mask-back : (p : Generated) → readBack (λ n. Mask (n .a) (n .b)) NoMask (maskNumbers p) ≡ p
 mask-back (Mask zeroed used) = refl
 mask-back (NoMask r) = refused-back (λ n. Mask (n .a) (n .b)) NoMask r

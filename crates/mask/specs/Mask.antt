@@ -7,8 +7,8 @@ use lib.ListN.{getD, drop}
 use Rattle.answers.specs.Refusals.{answer, refusalNumbers}
 use Rattle.answers.specs.declared.Numbers.{Numbers}
 use Rattle.answers.specs.declared.Refusal.the-variants.{TooShort, MaskSize, Reserved, Shift}
-use Rattle.mask.specs.Descriptor.{yes, bit, fieldsOf, reserved}
-use Rattle.mask.specs.declared.Fields.{Fields}
+use Rattle.descriptor.specs.Descriptor.{yes, bit, fieldsOf, reserved}
+use Rattle.descriptor.specs.declared.Fields.{Fields}
 use Rattle.mask.specs.declared.Generated.{Generated}
 use Rattle.mask.specs.declared.Generated.the-variants.{Mask, Refused}
 
@@ -84,9 +84,9 @@ maskAnswer limit M N d room =
 
 -- the lent memory after this answer: refused it is untouched, at 0 the first N / 8 bytes are the mask and those past it as they were
 abbrev pub maskMemory : Generated → ℕ → ℕ → ℕ → List ℕ → List ℕ
-maskMemory (Mask zeroed used) M N d memory = bytes (columns M N d) (N / 8) ++ drop (N / 8) memory
+maskMemory (Mask zeroed first) M N d memory = bytes (columns M N d) (N / 8) ++ drop (N / 8) memory
 maskMemory (Refused refusal) M N d memory = memory
 
 abbrev pub maskNumbers : Generated → Numbers
-maskNumbers (Mask zeroed used) = answer 0 zeroed used 0
+maskNumbers (Mask zeroed first) = answer 0 zeroed first 0
 maskNumbers (Refused refusal) = refusalNumbers refusal

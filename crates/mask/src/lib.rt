@@ -1,184 +1,18 @@
-// Zero-column masks: descriptor to fields, fields to descriptor, and the mask itself.
+// Zero-column masks: the mask that M, N and a descriptor give.
 use answers::Numbers;
 use answers::Refusal;
+use descriptor::Fields;
 ghost use mathlib.Core.Path.{_≡_};
 ghost use mathlib.Core.Bool.{true};
 ghost use Prim.Native.Nat.{_+_, _*_, _^_, _<_, _≤_};
 ghost use lib.ListN.{length};
-ghost use Rattle.mask.specs.Descriptor.{fieldsOf, noFields, reserved, readAnswer, bit, countBits, spanBits, descriptorOf, writeAnswer, shiftLimit, readNumbers, writeNumbers};
+ghost use Rattle.descriptor.specs.Descriptor.{shiftLimit};
 ghost use Rattle.mask.specs.Mask.{maskSize, subMasks, subBits, endless, column, number, bytes, maskBit, zeroed, firstUsed, maskOf, maskAnswer, maskMemory, maskNumbers};
-
-// The largest shift that is allowed.
-const SHIFT_LIMIT: u64 = 32;
-
-// The fields of a descriptor; one start count and one first span for each of four sub-masks.
-pub struct Fields {
-    pub start_counts: [u8; 4],
-    pub first_spans: [bool; 4],
-    pub non_zero: bool,
-    pub skip_span: u8,
-    pub use_span: u8,
-    pub shift: u64,
-}
-
-// The answer to the reading of a descriptor.
-pub enum Read {
-    Done,
-    Refused(Refusal),
-}
-
-// What reading a descriptor gives: the answer, and the fields beside it.
-pub struct Reading {
-    pub answer: Read,
-    pub fields: Fields,
-}
-
-// The answer to the writing of a descriptor.
-pub enum Written {
-    Descriptor(u64),
-    Refused(Refusal),
-}
 
 // The answer to the generation of a mask: how many columns are zeroed, and the first that is used.
 pub enum Generated {
     Mask { zeroed: u64, first_used: u64 },
     Refused(Refusal),
-}
-
-// Whether a reserved bit, 36-38 or 62-63, is set.
-fn has_reserved(descriptor: u64) -> bool
-    ensures { λ r. ⌜ r ≡ reserved descriptor ⌝ }
-{
-    ((descriptor >> 36) % 8 != 0) | ((descriptor >> 62) % 4 != 0)
-}
-
-// The fields of a descriptor, reserved bits or not.
-fn fields_of(descriptor: u64) -> Fields
-    ensures { λ r. ⌜ r ≡ fieldsOf descriptor ⌝ }
-{
-    let start_counts = [
-        ((descriptor >> 0) % 256) as u8,
-        ((descriptor >> 8) % 256) as u8,
-        ((descriptor >> 16) % 256) as u8,
-        ((descriptor >> 24) % 256) as u8,
-    ];
-    let first_spans = [
-        (descriptor >> 32) % 2 == 1,
-        (descriptor >> 33) % 2 == 1,
-        (descriptor >> 34) % 2 == 1,
-        (descriptor >> 35) % 2 == 1,
-    ];
-    Fields {
-        start_counts,
-        first_spans,
-        non_zero: (descriptor >> 39) % 2 == 1,
-        skip_span: ((descriptor >> 40) % 256) as u8,
-        use_span: ((descriptor >> 48) % 256) as u8,
-        shift: (descriptor >> 56) % 64,
-    }
-}
-
-// A record of zeros.
-fn no_fields() -> Fields
-    ensures { λ r. ⌜ r ≡ noFields ⌝ }
-{
-    Fields {
-        start_counts: [0; 4],
-        first_spans: [false; 4],
-        non_zero: false,
-        skip_span: 0,
-        use_span: 0,
-        shift: 0,
-    }
-}
-
-// The fields of any descriptor.
-pub fn read_descriptor(descriptor: u64) -> Reading
-    ensures { λ r. ⌜ r ≡ readAnswer descriptor ⌝ }
-{
-    if has_reserved(descriptor) {
-        let fields = no_fields();
-        Reading {
-            answer: Read::Refused(Refusal::Reserved),
-            fields,
-        }
-    } else {
-        let fields = fields_of(descriptor);
-        Reading {
-            answer: Read::Done,
-            fields,
-        }
-    }
-}
-
-// A yes as the bit 1, a no as 0.
-fn bit(yes: bool) -> u64
-    ensures { λ r. ⌜ (r ≡ bit yes) × (r ≤ 1) ⌝ }
-{
-    if yes { 1 } else { 0 }
-}
-
-// The start counts at their bits.
-fn count_bits(counts: [u8; 4]) -> u64
-    ensures { λ r. ⌜ (r ≡ countBits counts) × (r < 2 ^ 32) ⌝ }
-{
-    (counts[0] as u64)
-        + ((counts[1] as u64) << 8)
-        + ((counts[2] as u64) << 16)
-        + ((counts[3] as u64) << 24)
-}
-
-// The first spans at their bits.
-fn span_bits(spans: [bool; 4]) -> u64
-    ensures { λ r. ⌜ (r ≡ spanBits spans) × (r < 2 ^ 36) ⌝ }
-{
-    (bit(spans[0]) << 32) + (bit(spans[1]) << 33) + (bit(spans[2]) << 34) + (bit(spans[3]) << 35)
-}
-
-// The descriptor of fields whose shift is allowed.
-fn descriptor_of(fields: Fields) -> u64
-    requires { ⌜ fields .shift < 64 ⌝ }
-    ensures { λ r. ⌜ r ≡ descriptorOf fields ⌝ }
-{
-    let counts = fields.start_counts;
-    let spans = fields.first_spans;
-    count_bits(counts)
-        + span_bits(spans)
-        + (bit(fields.non_zero) << 39)
-        + ((fields.skip_span as u64) << 40)
-        + ((fields.use_span as u64) << 48)
-        + (fields.shift << 56)
-}
-
-// The descriptor of any fields.
-pub fn write_descriptor(fields: Fields) -> Written
-    ensures { λ r. ⌜ r ≡ writeAnswer shiftLimit fields ⌝ }
-{
-    if SHIFT_LIMIT < fields.shift {
-        Written::Refused(Refusal::Shift { limit: SHIFT_LIMIT })
-    } else {
-        Written::Descriptor(descriptor_of(fields))
-    }
-}
-
-// The plain numbers of a reading's answer.
-pub fn read_numbers(read: Read) -> Numbers
-    ensures { λ r. ⌜ r ≡ readNumbers read ⌝ }
-{
-    match read {
-        Read::Done => answers::answer(0, 0, 0, 0),
-        Read::Refused(refusal) => answers::refusal_numbers(refusal),
-    }
-}
-
-// The plain numbers of a writing's answer.
-pub fn write_numbers(written: Written) -> Numbers
-    ensures { λ r. ⌜ r ≡ writeNumbers written ⌝ }
-{
-    match written {
-        Written::Descriptor(descriptor) => answers::answer(0, descriptor, 0, 0),
-        Written::Refused(refusal) => answers::refusal_numbers(refusal),
-    }
 }
 
 // Whether there are masks of this size: M is 128, 64 or 32, and N a multiple of 8 in 8 to 256.
@@ -219,7 +53,7 @@ fn mask_byte(size: u64, fields: Fields, j: u64) -> u8
     let mut k: u64 = 8;
     while 0 < k {
         k -= 1;
-        byte = bit(is_zeroed(size, fields, 8 * j + k)) + 2 * byte;
+        byte = descriptor::bit(is_zeroed(size, fields, 8 * j + k)) + 2 * byte;
     }
     byte as u8
 }
@@ -299,12 +133,14 @@ pub fn generate_mask(m: u64, n: u64, descriptor: u64, mask: &mut [u8]) -> Genera
     if !is_mask_size(m, n) {
         return Generated::Refused(Refusal::MaskSize);
     }
-    if has_reserved(descriptor) {
+    if descriptor::has_reserved(descriptor) {
         return Generated::Refused(Refusal::Reserved);
     }
-    let fields = fields_of(descriptor);
-    if SHIFT_LIMIT < fields.shift {
-        return Generated::Refused(Refusal::Shift { limit: SHIFT_LIMIT });
+    let fields = descriptor::fields_of(descriptor);
+    if descriptor::SHIFT_LIMIT < fields.shift {
+        return Generated::Refused(Refusal::Shift {
+            limit: descriptor::SHIFT_LIMIT,
+        });
     }
     let needed = n / 8;
     if (mask.len() as u64) < needed {

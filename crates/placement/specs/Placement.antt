@@ -76,8 +76,8 @@ abbrev pub flatten : Tuple → Tuple → ℕ
 flatten shape coordinates = rowMajor (entries shape) (entries coordinates)
 
 -- after checks 1 to 6: 9, 10, 11, then 7 for this element alone
-abbrev pub placed : Card → Tuple → Tuple → ℕ → Placement
-placed card shape coordinates room =
+abbrev pub elementAnswer : Card → Tuple → Tuple → ℕ → Placement
+elementAnswer card shape coordinates room =
     cond (not (shapeAdmitted shape (elements card))) (Refused Shape)
     (cond (not (coordinatesFit shape coordinates)) (Refused Coordinate)
     (cond (not (leb (copies card) room)) (Refused (TooShort (copies card)))
@@ -91,7 +91,7 @@ afterAdmission (NotAdmitted refusal) placement = Refused refusal
 
 -- the answer for any numbers and a lent memory of this length
 unfoldable pub placementAnswer : Card → Tuple → Tuple → ℕ → Placement
-placementAnswer card shape coordinates room = afterAdmission (admission card) (placed card shape coordinates room)
+placementAnswer card shape coordinates room = afterAdmission (admission card) (elementAnswer card shape coordinates room)
 
 -- the lent memory: the cells of the copies, entries past the last as they were; a refusal touches nothing
 abbrev pub written : Placement → List ℕ → List ℕ → List ℕ

@@ -14,7 +14,7 @@ use Rattle.answers.specs.declared.Numbers.{Numbers}
 use Rattle.swizzle.specs.Swizzle.{swizzled}
 use Rattle.swizzle.specs.Mode.{bitLength}
 use Rattle.fragment.specs.Kinds.{computation, registers, place}
-use Rattle.mask.specs.Descriptor.{descriptorOf}
+use Rattle.descriptor.specs.Descriptor.{descriptorOf}
 use Rattle.mask.specs.Mask.{column, number, bytes, zeroed, firstUsed}
 use Rattle.card.specs.Admission.{admission}
 use Rattle.placement.specs.RowMajor.{position}

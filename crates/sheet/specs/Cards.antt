@@ -48,7 +48,7 @@ unswizzled = swizzle 0 0 3
 abbrev pub none : List ℕ
 none = replicate 8 0
 
--- tile X with lengths warpid and a replica stride: its own are 11 and 4
+-- tile X with a length of warpid and a replica stride: its own are 11 and 4
 abbrev pub tile : ℕ → ℕ → Card
 tile warps stride =
     record {
@@ -66,6 +66,17 @@ tileX = tile 11 4
 abbrev pub onM : List Iter → ℕ → Swizzle → Card
 onM shard length w =
     record { shard = iters shard; replica = iters []; offset = none; lengths = 1 ∷ 1 ∷ 1 ∷ 1 ∷ 1 ∷ 1 ∷ 1 ∷ length ∷ []; swizzle = w }
+
+-- one element at an offset on m
+abbrev pub atM : ℕ → ℕ → Swizzle → Card
+atM offset length w =
+    record {
+      shard = iters (1 by 0 on m ∷ []);
+      replica = iters [];
+      offset = 0 ∷ 0 ∷ 0 ∷ 0 ∷ 0 ∷ 0 ∷ 0 ∷ offset ∷ [];
+      lengths = 1 ∷ 1 ∷ 1 ∷ 1 ∷ 1 ∷ 1 ∷ 1 ∷ length ∷ [];
+      swizzle = w;
+    }
 
 -- iters in tensor memory, with its lanes and columns
 abbrev pub inTensorMemory : List Iter → List Iter → ℕ → ℕ → Card

@@ -1,13 +1,14 @@
--- The test sheet: each load is a question and the answer that document 01, or the source document named beside it, states.
+-- The test sheet: each load is a question and its answer. Document 01, or the source document named beside it, states the answer; where neither
+-- does, as for a written descriptor's number, a placement of 004's formula and the stretches, it follows from their rules by hand.
 use Prim.Native.Nat.{ℕ}
 use mathlib.Core.Bool.{Bool, true, false}
 use mathlib.Core.List.{List, [], _∷_}
 use lib.ListN.{replicate}
 use Rattle.answers.specs.Refusals.{answer}
-use Rattle.mask.specs.Descriptor.{descriptorOf}
-use Rattle.mask.specs.declared.Fields.{Fields}
+use Rattle.descriptor.specs.Descriptor.{descriptorOf}
+use Rattle.descriptor.specs.declared.Fields.{Fields}
 use Rattle.sheet.specs.Questions.{Question, swizzle, mode, fragment, descriptor, mask, place, verdict, owner, stretch, Reply, reply}
-use Rattle.sheet.specs.Cards.{tuple, tile, tileX, onM, _by_on_, m, wideTile, scaleFactors, sixtyFive, figure189}
+use Rattle.sheet.specs.Cards.{tuple, tile, tileX, onM, atM, _by_on_, m, wideTile, scaleFactors, sixtyFive, figure189}
 use Rattle.sheet.specs.Cards.{swizzle as swizzleBy}
 
 pub record Load : Type 0 where
@@ -98,15 +99,23 @@ loads =
     ∷ (verdict (tile 10 4) (table 704) is reply (answer 7 8 1 0) [])
     ∷ (verdict (tile 11 1) (table 704) is reply (answer 8 0 8 384) [])
     ∷ (verdict tileX (table 703) is reply (answer 11 704 0 0) [])
-    -- the scale factors: cell 150, TLane 37 and TCol 2, belongs to element 22
+    -- the scale factors: TLane 37 and TCol 2 is cell 150, and belongs to element 22, which has four copies
+    ∷ (stretch (scaleFactors .lengths) 7 (0 ∷ 0 ∷ 0 ∷ 0 ∷ 0 ∷ 37 ∷ 2 ∷ 0 ∷ []) (table 512) is reply (answer 0 150 1 0) (1000000 ∷ []))
+    ∷ (place scaleFactors (tuple (32 ∷ 4 ∷ [])) (tuple (5 ∷ 2 ∷ [])) (table 4) is reply (answer 0 4 0 0) (22 ∷ 150 ∷ 278 ∷ 406 ∷ []))
     ∷ (owner scaleFactors (0 ∷ 0 ∷ 0 ∷ 0 ∷ 0 ∷ 37 ∷ 2 ∷ 0 ∷ []) (table 512) is reply (answer 0 23 0 0) [])
     -- the 65-element swizzle
     ∷ (verdict (sixtyFive 72) (table 72) is reply (answer 7 64 7 0) [])
     ∷ (verdict (sixtyFive 73) (table 73) is reply (answer 0 65 65 73) [])
+    -- m is judged after the swizzle: element 64 does not pass at length 65, and an m of 72, which goes to 64, does
+    ∷ (verdict (sixtyFive 65) (table 65) is reply (answer 7 64 7 0) [])
+    ∷ (verdict (atM 72 65 (swizzleBy 3 3 3)) (table 65) is reply (answer 0 1 1 65) [])
     -- Figure 189's layout
     ∷ (verdict figure189 (table 256) is reply (answer 8 8 16 8) [])
     -- the accumulator of 224 columns: 28,672 cells
     ∷ (verdict wideTile [] is reply (answer 4 0 0 0) [])
-    -- the stretch of tile X's table under warpid 6
+    -- the stretch of tile X's table under warpid 6; a table one entry too short; warpid 11, judged before the table; too many cells
     ∷ (stretch (tileX .lengths) 1 (0 ∷ 6 ∷ 99 ∷ 0 ∷ 0 ∷ 0 ∷ 0 ∷ 0 ∷ []) (table 704) is reply (answer 0 384 64 0) (replicate 64 1000000))
+    ∷ (stretch (tileX .lengths) 1 (0 ∷ 6 ∷ 99 ∷ 0 ∷ 0 ∷ 0 ∷ 0 ∷ 0 ∷ []) (table 703) is reply (answer 11 704 0 0) [])
+    ∷ (stretch (tileX .lengths) 1 (0 ∷ 11 ∷ 99 ∷ 0 ∷ 0 ∷ 0 ∷ 0 ∷ 0 ∷ []) [] is reply (answer 12 1 0 0) [])
+    ∷ (stretch (wideTile .lengths) 0 (replicate 8 0) [] is reply (answer 4 0 0 0) [])
     ∷ []

@@ -5,10 +5,10 @@ use Prim.Native.Nat.{ℕ}
 use Rattle.answers.specs.declared.Numbers.{Numbers}
 use Rattle.swizzle.specs.Swizzle.{swizzleAnswer, swizzleNumbers}
 use Rattle.swizzle.specs.Mode.{modeAnswer, modeNumbers}
-use Rattle.fragment.specs.Fragment.{heldAnswer, fragmentNumbers}
-use Rattle.mask.specs.Descriptor.{writeAnswer, shiftLimit, writeNumbers}
+use Rattle.fragment.specs.Fragment.{heldAnswer, heldNumbers}
+use Rattle.descriptor.specs.Descriptor.{writeAnswer, shiftLimit, writeNumbers}
 use Rattle.mask.specs.Mask.{maskAnswer, maskMemory, maskNumbers}
-use Rattle.mask.specs.declared.Fields.{Fields}
+use Rattle.descriptor.specs.declared.Fields.{Fields}
 use Rattle.card.specs.declared.Card.{Card}
 use Rattle.placement.specs.Placement.{placementAnswer, placementMemory, placementNumbers}
 use Rattle.placement.specs.declared.Tuple.{Tuple}
@@ -36,7 +36,8 @@ pub data Question : Type 0 where
   -- eight lengths, the axis, eight coordinates and the lent table; the values are the stretch
   stretch : List ℕ → ℕ → List ℕ → List ℕ → Question
 
--- a number with its details, and the values in lent memory where a question lends some
+-- a number with its details, and the values in lent memory of a mask or a placement, or the stretch; of a verdict and an owner the theorem
+-- that carries a load to the promise gives the table
 pub record Reply : Type 0 where
   pub numbers : Numbers
   pub values : List ℕ
@@ -47,7 +48,7 @@ reply n v = record { numbers = n; values = v }
 unfoldable pub asked : Question → Reply
 asked (swizzle M B S m) = reply (swizzleNumbers (swizzleAnswer M B S m)) []
 asked (mode bits n) = reply (modeNumbers (modeAnswer bits n)) []
-asked (fragment kind lane i) = reply (fragmentNumbers (heldAnswer kind lane i)) []
+asked (fragment kind lane i) = reply (heldNumbers (heldAnswer kind lane i)) []
 asked (descriptor fields) = reply (writeNumbers (writeAnswer shiftLimit fields)) []
 asked (mask M N d lent) =
     let generated = maskAnswer shiftLimit M N d (length lent) in

@@ -111,24 +111,3 @@ empty-refused table lengths axis coordinates =
         let w = answer-within lengths axis coordinates (length table) first long e in
         absurd (omega (arith, ap length q, length-take long (drop (first .0) table), length-drop (first .0) table))
     split (Refused r) e q = (r, refl)
-
--- document 01's tile X: the stretch of warpid 6, and the table one entry too short for it
-tile : List ℕ
-tile = 1 ∷ 11 ∷ 32 ∷ 1 ∷ 1 ∷ 1 ∷ 1 ∷ 2 ∷ []
-
-warp-six : stretchAnswer tile 1 (0 ∷ 6 ∷ 0 ∷ 0 ∷ 0 ∷ 0 ∷ 0 ∷ 0 ∷ []) 704 ≡ Stretch (record { 0 = 384 }) 64
-unfolding tile
-warp-six = refl
-
-one-short : stretchAnswer tile 1 (0 ∷ 6 ∷ 0 ∷ 0 ∷ 0 ∷ 0 ∷ 0 ∷ 0 ∷ []) 703 ≡ Refused (TooShort 704)
-unfolding tile
-one-short = refl
-
--- warpid 11 is outside, which is judged before the table's length
-warp-eleven : stretchAnswer tile 1 (0 ∷ 11 ∷ 0 ∷ 0 ∷ 0 ∷ 0 ∷ 0 ∷ 0 ∷ []) 0 ≡ Refused (CellOutside 1)
-unfolding tile
-warp-eleven = refl
-
--- 28,672 cells are too many
-too-many : stretchAnswer (1 ∷ 1 ∷ 1 ∷ 1 ∷ 1 ∷ 128 ∷ 224 ∷ 1 ∷ []) 0 (0 ∷ 0 ∷ 0 ∷ 0 ∷ 0 ∷ 0 ∷ 0 ∷ 0 ∷ []) 28672 ≡ Refused Space
-too-many = refl

@@ -26,12 +26,12 @@ stretchUnder lengths axis coordinates =
 
 -- the answer, for a table of so many entries
 abbrev pub stretchAnswer : List ℕ → ℕ → List ℕ → ℕ → Located
-stretchAnswer lengths axis coordinates entries =
+stretchAnswer lengths axis coordinates room =
     cond (ltb lastAxis axis) (Refused Axis)
     (cond (not (spaceFits lengths)) (Refused Space)
     (cond (not (inside (asked axis lengths) (asked axis coordinates)))
     (Refused (CellOutside (firstPast (asked axis lengths) (asked axis coordinates))))
-    (cond (ltb entries (product lengths)) (Refused (TooShort (product lengths)))
+    (cond (ltb room (product lengths)) (Refused (TooShort (product lengths)))
     (stretchUnder lengths axis coordinates))))
 
 -- the stretch of the table itself: empty where refused

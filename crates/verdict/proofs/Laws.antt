@@ -19,7 +19,7 @@ use Rattle.placement.specs.declared.Spot.the-variants.{Inside, Outside}
 use Rattle.placement.proofs.Spots.{cell-below}
 use Rattle.placement.proofs.Filling.{cells-length, cells-at}
 use Rattle.placement.proofs.Theorems.{outside-axis-smallest, outside-axis-none}
-use Rattle.claims.specs.Claims.{Approved, FirstClash, Inside as InCells}
+use Rattle.claims.specs.Claims.{OwnedTable, FirstClash, Inside as InCells}
 use Rattle.claims.specs.Rows.{Row as ClaimRow, Within, entryMet, cellMet}
 use Rattle.claims.proofs.Steps.{row-within, owners-none, claimed-owners, met-clash}
 use Rattle.claims.proofs.Rows.{occupied-none, occupied-most}
@@ -106,7 +106,7 @@ row-ready card flat table admitted claimable {row} e =
     }
 
 -- the claims so far: a cleared table has those of no element
-pub claims-none : (card : Card) → Approved (placed card) 0 (cells card) (replicate (cells card) 0) 0
+pub claims-none : (card : Card) → OwnedTable (placed card) 0 (cells card) (replicate (cells card) 0) 0
 claims-none card = record {
   size = length-replicate (cells card) 0;
   owners = owners-none (placed card) (cells card);
@@ -114,7 +114,7 @@ claims-none card = record {
 }
 
 -- element y's row is claimed after those of the smaller ones
-module _ (card : Card) (y newly count : ℕ) {row before after : List ℕ} (so-far : Approved (placed card) y (cells card) before count)
+module _ (card : Card) (y newly count : ℕ) {row before after : List ℕ} (so-far : OwnedTable (placed card) y (cells card) before count)
     (claim : ElementClaim card y newly row before after) where
   is-row : ClaimRow (placed card) y row
   is-row = rw (claim .placed) (copies-row card y)
@@ -123,7 +123,7 @@ module _ (card : Card) (y newly count : ℕ) {row before after : List ℕ} (so-f
   pub claims-count : length after ≡ cells card → count + newly ≤ cells card
   claims-count size = omega (arith, so-far .counted, claim .claim .counted, occupied-most after)
 
-  pub claims-more : Within row before → length after ≡ cells card → 0 < newly → Approved (placed card) (y + 1) (cells card) after (count + newly)
+  pub claims-more : Within row before → length after ≡ cells card → 0 < newly → OwnedTable (placed card) (y + 1) (cells card) after (count + newly)
   claims-more within size some = record {
     size = size;
     owners = claimed-owners (placed card) y before (so-far .owners) row is-row newly after (claim .claim) within some;

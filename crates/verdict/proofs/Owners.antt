@@ -56,8 +56,8 @@ module _ (card : Card) (coordinates before : List ℕ) where
   }
 
   module _ (admitted : admission card ≡ Admitted) where
-    pub owner-outside : {axis : ℕ} → askedSpot card coordinates ≡ Outside axis → OwnerPromise card coordinates before before (NoOwner (CellOutside axis))
-    owner-outside {axis} e = record { judgement = NoCell axis; comes = (admitted, e); answers = refl; leaves = refl }
+    pub no-cell-promise : {axis : ℕ} → askedSpot card coordinates ≡ Outside axis → OwnerPromise card coordinates before before (NoOwner (CellOutside axis))
+    no-cell-promise {axis} e = record { judgement = NoCell axis; comes = (admitted, e); answers = refl; leaves = refl }
 
     module _ {cell : Cell} (e : askedSpot card coordinates ≡ Inside cell) where
       -- the cell is one of the cells

@@ -12,7 +12,7 @@ use Rattle.card.specs.Card.{elements, cells}
 use Rattle.card.specs.Admission.{admission}
 use Rattle.card.specs.declared.Card.{Card}
 use Rattle.card.specs.declared.Admission.the-variants.{Admitted, Refused as NoCard}
-use Rattle.claims.specs.Claims.{FirstClash, Approved as Owned}
+use Rattle.claims.specs.Claims.{FirstClash, OwnedTable as Owned}
 use Rattle.claims.specs.Rows.{entryMet, cellMet}
 use Rattle.table.specs.Owners.{clashOf}
 use Rattle.judgement.specs.Judgement.{placed, AllInside, FirstOutside, Judgement, NotAdmitted, NoRoom, OutsideAt, Clashing, Passed, Judged, ComesTo}

@@ -8,9 +8,9 @@ use borrow.Author.Needs.{needs}
 use lib.Dec.{ltb}
 use lib.ListN.{length, take}
 use lib.Seq.{length-take-le}
-use Rattle.mask.specs.Descriptor.{fieldsOf, reserved, shiftLimit}
+use Rattle.descriptor.specs.Descriptor.{fieldsOf, reserved, shiftLimit}
 use Rattle.mask.specs.Mask.{maskSize, columns, maskOf}
-use Rattle.mask.specs.declared.Fields.{Fields}
+use Rattle.descriptor.specs.declared.Fields.{Fields}
 use Rattle.mask.proofs.Sizes.{sized}
 use Rattle.mask.proofs.generate_mask.Statement.{statement}
 use Rattle.mask.proofs.generate_mask.Tie as tie

@@ -7,7 +7,7 @@ use Rattle.card.specs.Card.{elements, cells}
 use Rattle.card.specs.declared.Card.{Card}
 use Rattle.card.proofs.Admitted.{sized}
 use Rattle.placement.specs.Inside.{cardOf}
-use Rattle.claims.specs.Claims.{Approved}
+use Rattle.claims.specs.Claims.{OwnedTable}
 use Rattle.judgement.specs.Judgement.{placed}
 use Rattle.verdict.specs.Inside.{Claimable}
 use Rattle.verdict.proofs.Laws.{Ready, row-ready, claims-none, claims-count, claims-more, claims-met, claims-clash}
@@ -18,7 +18,7 @@ use Rattle.verdict.proofs.claim_all.Tie as tie
 abbrev Inv-loop : tie.InvT-loop
 Inv-loop shard replica offset lengths swizzle elements row₀ table₀ occupied₀ flat₀ row table occupied flat =
     let card = cardOf shard replica offset lengths swizzle in
-    (flat ≤ elements) × (length row ≡ length row₀) × Approved (placed card) flat (cells card) table occupied
+    (flat ≤ elements) × (length row ≡ length row₀) × OwnedTable (placed card) flat (cells card) table occupied
 
 abbrev μ-loop : tie.MeasureT-loop
 μ-loop shard replica offset lengths swizzle elements row₀ table₀ occupied₀ flat₀ row table occupied flat =

@@ -4,7 +4,7 @@ use lib.ListN.{length}
 use Rattle.card.specs.Admission.{admission}
 use Rattle.card.specs.declared.Admission.the-variants.{Admitted}
 use Rattle.card.proofs.Admitted.{checked}
-use Rattle.verdict.proofs.Owners.{owner-refused, owner-outside, asked-below, owner-read}
+use Rattle.verdict.proofs.Owners.{owner-refused, no-cell-promise, asked-below, owner-read}
 use borrow.Author.Needs.{needs}
 use Rattle.verdict.proofs.owner_of.Statement.{statement}
 use Rattle.verdict.proofs.owner_of.Tie as tie
@@ -74,7 +74,7 @@ returns-3 c =
     let p = c .before .before .before in
     let k = told p in
     let a = start k .args in
-    owner-outside (a .card) (a .t2) (a .table .now) (admitted k) (sym (p .spot-at .ensures) ∙ c .before .spot2 .given .1)
+    no-cell-promise (a .card) (a .t2) (a .table .now) (admitted k) (sym (p .spot-at .ensures) ∙ c .before .spot2 .given .1)
 
 pub owner-of-spec : {M : Type 1} → statement M
 owner-of-spec =

@@ -1,0 +1,96 @@
+-- Descriptors of zero-column masks: document 01's fields, read from the 64 bits and written into them.
+use mathlib.Core.Bool.{Bool, false, cond, not, _||_}
+use mathlib.Core.List.{List, [], _∷_}
+use Prim.Native.Nat.{ℕ, _+_, _*_, _/_, _%_, _^_}
+use lib.Dec.{eqb, ltb}
+use lib.ListN.{getD}
+use Rattle.answers.specs.Refusals.{answer, refusalNumbers}
+use Rattle.answers.specs.declared.Numbers.{Numbers}
+use Rattle.answers.specs.declared.Refusal.the-variants.{Reserved, Shift}
+use Rattle.descriptor.specs.declared.Fields.{Fields}
+use Rattle.descriptor.specs.declared.Read.{Read}
+use Rattle.descriptor.specs.declared.Read.the-variants.{Done, Refused}
+use Rattle.descriptor.specs.declared.Reading.{Reading}
+use Rattle.descriptor.specs.declared.Written.{Written}
+use Rattle.descriptor.specs.declared.Written.the-variants.{Descriptor, Refused as NotWritten}
+
+-- so many bits of a descriptor, from this one on
+abbrev pub bits : ℕ → ℕ → ℕ → ℕ
+bits count from d = d / 2 ^ from % 2 ^ count
+
+-- one bit of it, as a yes or no
+abbrev pub yes : ℕ → ℕ → Bool
+yes at d = eqb (bits 1 at d) 1
+
+-- bits 0-31 start counts 0 to 3, a byte each; 32-35 first spans 0 to 3; 39 non-zero mask; 40-47 skip span; 48-55 use span; 56-61 shift
+abbrev pub fieldsOf : ℕ → Fields
+fieldsOf d =
+    record {
+      «start_counts» = bits 8 0 d ∷ bits 8 8 d ∷ bits 8 16 d ∷ bits 8 24 d ∷ [];
+      «first_spans» = yes 32 d ∷ yes 33 d ∷ yes 34 d ∷ yes 35 d ∷ [];
+      «non_zero» = yes 39 d;
+      «skip_span» = bits 8 40 d;
+      «use_span» = bits 8 48 d;
+      shift = bits 6 56 d;
+    }
+
+-- a record of zeros
+abbrev pub noFields : Fields
+noFields =
+    record {
+      «start_counts» = 0 ∷ 0 ∷ 0 ∷ 0 ∷ [];
+      «first_spans» = false ∷ false ∷ false ∷ false ∷ [];
+      «non_zero» = false;
+      «skip_span» = 0;
+      «use_span» = 0;
+      shift = 0;
+    }
+
+-- bits 36-38 or 62-63 are set
+abbrev pub reserved : ℕ → Bool
+reserved d = not (eqb (bits 3 36 d) 0) || not (eqb (bits 2 62 d) 0)
+
+-- reading refuses 15 only, whatever the shift; at 0 the fields stand beside the answer, refused a record of zeros
+abbrev pub readAnswer : ℕ → Reading
+readAnswer d =
+    cond (reserved d) (record { answer = Refused Reserved; fields = noFields }) (record { answer = Done; fields = fieldsOf d })
+
+-- a yes as the bit 1, a no as 0
+abbrev pub bit : Bool → ℕ
+bit b = cond b 1 0
+
+-- the start counts and the first spans, each at the bits where it is read
+abbrev pub countBits : List ℕ → ℕ
+countBits s = getD s 0 0 * 2 ^ 0 + getD s 1 0 * 2 ^ 8 + getD s 2 0 * 2 ^ 16 + getD s 3 0 * 2 ^ 24
+
+abbrev pub spanBits : List Bool → ℕ
+spanBits s =
+    bit (getD s 0 false) * 2 ^ 32 + bit (getD s 1 false) * 2 ^ 33 + bit (getD s 2 false) * 2 ^ 34 + bit (getD s 3 false) * 2 ^ 35
+
+-- the descriptor of these fields, unused sub-mask fields too; the reserved bits are clear
+unfoldable pub descriptorOf : Fields → ℕ
+descriptorOf f =
+    countBits (f .«start_counts»)
+    + spanBits (f .«first_spans»)
+    + bit (f .«non_zero») * 2 ^ 39
+    + f .«skip_span» * 2 ^ 40
+    + f .«use_span» * 2 ^ 48
+    + f .shift * 2 ^ 56
+
+-- writing refuses 16 only, exactly when the shift is above its limit
+abbrev pub writeAnswer : ℕ → Fields → Written
+writeAnswer limit f = cond (ltb limit (f .shift)) (NotWritten (Shift limit)) (Descriptor (descriptorOf f))
+
+-- for now one limit on the shift, for every M
+abbrev pub shiftLimit : ℕ
+shiftLimit = 32
+
+-- at number 0 the details of a reading are zero: its fields stand beside it
+abbrev pub readNumbers : Read → Numbers
+readNumbers Done = answer 0 0 0 0
+readNumbers (Refused refusal) = refusalNumbers refusal
+
+-- at number 0 writing gives the descriptor
+abbrev pub writeNumbers : Written → Numbers
+writeNumbers (Descriptor d) = answer 0 d 0 0
+writeNumbers (NotWritten refusal) = refusalNumbers refusal

@@ -1,0 +1,50 @@
+// The numbers of a line, several at once, and small values as numbers.
+ghost use mathlib.Core.Path.{_≡_};
+ghost use Prim.Native.Nat.{_≤_};
+
+// Eight numbers from a place of a line on, which has that many.
+pub fn eight(numbers: &[u64; 80], from: usize) -> [u64; 8]
+    requires { ⌜ from ≤ 72 ⌝ }
+{
+    let mut taken = [0u64; 8];
+    let mut i = 0;
+    while i < 8 {
+        taken[i] = numbers[from + i];
+        i += 1;
+    }
+    taken
+}
+
+// Whether the numbers from a place up to another, of the 80 of a line, are at most a limit.
+pub fn within(numbers: &[u64; 80], from: usize, to: usize, limit: u64) -> bool {
+    let mut i = from;
+    while i < to {
+        if limit < numbers[i % 80] {
+            return false;
+        }
+        i += 1;
+    }
+    true
+}
+
+// A number kept to a byte.
+pub fn byte(n: u64) -> u8 {
+    (n % 256) as u8
+}
+
+// A byte as a number.
+pub fn wide(b: u8) -> u64 {
+    b as u64
+}
+
+// An entry as a number.
+pub fn wide32(n: u32) -> u64
+    ensures { λ r. ⌜ r ≡ n ⌝ }
+{
+    n as u64
+}
+
+// A bit as a number.
+pub fn yes(b: bool) -> u64 {
+    if b { 1 } else { 0 }
+}

@@ -1,0 +1,94 @@
+// Replies to lines, before they are text.
+use crate::lent;
+use crate::numbers;
+use answers::Numbers;
+
+// How a reply is put.
+pub enum Form {
+    // `?`, to a line that is no question
+    Unknown,
+    // the number and the details
+    Plain,
+    // these, and after a bar the values
+    Barred,
+}
+
+// What a line is answered; the values are the first `count`.
+pub struct Reply {
+    pub form: Form,
+    pub answer: Numbers,
+    pub count: usize,
+    pub values: [u64; 64],
+}
+
+// The reply to a line that is no question.
+pub fn unknown() -> Reply {
+    Reply {
+        form: Form::Unknown,
+        answer: answers::answer(0, 0, 0, 0),
+        count: 0,
+        values: [0; 64],
+    }
+}
+
+// An answer with nothing after it.
+pub fn plain(answer: Numbers) -> Reply {
+    Reply {
+        form: Form::Plain,
+        answer,
+        count: 0,
+        values: [0; 64],
+    }
+}
+
+// An answer with values after it.
+fn barred(answer: Numbers, count: usize, values: [u64; 64]) -> Reply {
+    Reply {
+        form: Form::Barred,
+        answer,
+        count,
+        values,
+    }
+}
+
+// An answer and each lent byte.
+pub fn bytes(answer: Numbers, count: usize, from: &[u8; 64]) -> Reply {
+    let mut values = [0u64; 64];
+    let mut i = 0;
+    while i < 64 {
+        values[i] = numbers::wide(from[i]);
+        i += 1;
+    }
+    barred(answer, count, values)
+}
+
+// An answer and each lent entry.
+pub fn entries(answer: Numbers, count: usize, from: &[u32; 64]) -> Reply {
+    let mut values = [0u64; 64];
+    let mut i = 0;
+    while i < 64 {
+        values[i] = numbers::wide32(from[i]);
+        i += 1;
+    }
+    barred(answer, count, values)
+}
+
+// An answer and the digest of lent entries.
+pub fn digest(answer: Numbers, from: &[u32]) -> Reply {
+    let mut values = [0u64; 64];
+    values[0] = lent::digest(from);
+    barred(answer, 1, values)
+}
+
+// An answer and the twelve fields of a descriptor: start counts, first spans and what all share.
+pub fn fields(answer: Numbers, counts: [u8; 4], spans: [bool; 4], shared: [u64; 4]) -> Reply {
+    let mut values = [0u64; 64];
+    let mut i = 0;
+    while i < 4 {
+        values[i] = numbers::wide(counts[i]);
+        values[i + 4] = numbers::yes(spans[i]);
+        values[i + 8] = shared[i];
+        i += 1;
+    }
+    barred(answer, 12, values)
+}

@@ -1,0 +1,126 @@
+// The rule of a line: a word and then decimal numbers, parted by single spaces.
+
+// The most numbers that a line may have; no question has more.
+const MOST_NUMBERS: usize = 80;
+
+// What a line is: a question, with the end of its word and the count of its numbers, or none.
+pub enum Line {
+    Question(usize, usize),
+    Malformed,
+}
+
+// How far a line is read: whether no byte broke the rule, where the word ended, how many numbers
+// have begun, and of the last of them whether it has a digit and its value so far.
+struct Reading {
+    good: bool,
+    word: usize,
+    count: usize,
+    digit: bool,
+    value: u64,
+}
+
+// A space begins a number. It ends the word, or a number that has a digit.
+fn space(r: Reading, at: usize) -> Reading {
+    let count = r.count;
+    if count == 0 {
+        return Reading {
+            good: r.good,
+            word: at,
+            count: 1,
+            digit: false,
+            value: 0,
+        };
+    }
+    if count < MOST_NUMBERS {
+        return Reading {
+            good: r.good & r.digit,
+            word: r.word,
+            count: count + 1,
+            digit: false,
+            value: 0,
+        };
+    }
+    broken(r)
+}
+
+// One more digit of a number: none follows a zero that begins it, and the number is below 2^64.
+fn digit(r: Reading, d: u64) -> Reading {
+    let value = r.value;
+    if value <= (u64::MAX - d) / 10 {
+        return Reading {
+            good: r.good & !(r.digit & (value == 0)),
+            word: r.word,
+            count: r.count,
+            digit: true,
+            value: value * 10 + d,
+        };
+    }
+    broken(r)
+}
+
+// The line is no question, whatever follows.
+fn broken(r: Reading) -> Reading {
+    Reading {
+        good: false,
+        word: r.word,
+        count: r.count,
+        digit: r.digit,
+        value: r.value,
+    }
+}
+
+// One more byte, at this place of the line. The word may hold any byte but a space: it is compared
+// as a whole.
+fn step(r: Reading, b: u8, at: usize) -> Reading {
+    if b == b' ' {
+        return space(r, at);
+    }
+    if r.count == 0 {
+        return r;
+    }
+    if b < b'0' {
+        return broken(r);
+    }
+    if b'9' < b {
+        return broken(r);
+    }
+    digit(r, (b - b'0') as u64)
+}
+
+// Keeps the value so far of the last number begun.
+fn keep(numbers: &mut [u64; 80], count: usize, value: u64) {
+    if 1 <= count {
+        if count <= MOST_NUMBERS {
+            numbers[count - 1] = value;
+        }
+    }
+}
+
+// What the line is once all its bytes are read.
+fn finished(r: Reading, length: usize) -> Line {
+    if r.count == 0 {
+        return Line::Question(length, 0);
+    }
+    if r.good & r.digit {
+        return Line::Question(r.word, r.count);
+    }
+    Line::Malformed
+}
+
+// Reads a line of so many bytes, at most 4,096: its numbers are kept in their order.
+pub fn read(line: &[u8; 4096], held: usize, numbers: &mut [u64; 80]) -> Line {
+    let mut r = Reading {
+        good: true,
+        word: 0,
+        count: 0,
+        digit: false,
+        value: 0,
+    };
+    let mut i = 0;
+    while i < held {
+        r = step(r, line[i % 4096], i);
+        keep(numbers, r.count, r.value);
+        i += 1;
+    }
+    finished(r, held)
+}
