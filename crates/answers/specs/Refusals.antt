@@ -1,8 +1,6 @@
 -- Document 01's table of refusals: the number and the details of each.
 use Prim.Native.Nat.{ℕ}
 use Rattle.answers.specs.declared.Numbers.{Numbers}
-use Rattle.answers.specs.declared.Flat.{Flat}
-use Rattle.answers.specs.declared.Cell.{Cell}
 use Rattle.answers.specs.declared.Refusal.{Refusal}
 use Rattle.answers.specs.declared.Refusal.the-variants.{Counts, Limits, Axis, Space, TooMany, Swizzle, Outside, Shared, Shape, Coordinate, TooShort, CellOutside, MaskSize, Fragment, Reserved, Shift}
 

@@ -1,5 +1,5 @@
 -- What the admission means, in plain statements: it is settled, its numbers are one-to-one, and what stands past a count plays no part.
-use mathlib.Core.Path.{_≡_, refl, sym, ap, _∙_}
+use mathlib.Core.Path.{_≡_, refl, sym, _∙_}
 use Rattle.answers.proofs.OneToOne.{readBack, refused-back, pinned}
 use Rattle.card.specs.Card.{listed}
 use Rattle.card.specs.Admission.{admission, admissionNumbers}
@@ -31,9 +31,16 @@ pub record Alike (a b : Iters) : Type 0 where
   pub count : a .count ≡ b .count
   pub iters : listed a ≡ listed b
 
+-- two cards that differ past the counts of their iters alone
+pub record AlikeCards (a b : Card) : Type 0 where
+  pub shard : Alike (a .shard) (b .shard)
+  pub replica : Alike (a .replica) (b .replica)
+  pub offset : a .offset ≡ b .offset
+  pub lengths : a .lengths ≡ b .lengths
+  pub swizzle : a .swizzle ≡ b .swizzle
+
 -- iters past a count are ignored, whatever they hold
-pub past-the-count : (a b : Card) → Alike (a .shard) (b .shard) → Alike (a .replica) (b .replica) → a .offset ≡ b .offset
-    → a .lengths ≡ b .lengths → a .swizzle ≡ b .swizzle → admission a ≡ admission b
+pub past-the-count : (a b : Card) → AlikeCards a b → admission a ≡ admission b
 unfolding admission
-past-the-count a b s r o l w =
-    rw (s .iters, r .iters, s .count, r .count, o, l, w)
+past-the-count a b k =
+    rw (k .shard .iters, k .replica .iters, k .shard .count, k .replica .count, k .offset, k .lengths, k .swizzle)

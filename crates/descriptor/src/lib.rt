@@ -2,8 +2,7 @@
 use answers::Numbers;
 use answers::Refusal;
 ghost use mathlib.Core.Path.{_≡_};
-ghost use mathlib.Core.Bool.{true};
-ghost use Prim.Native.Nat.{_+_, _*_, _^_, _<_, _≤_};
+ghost use Prim.Native.Nat.{_+_, _^_, _<_, _≤_};
 ghost use Rattle.descriptor.specs.Descriptor.{fieldsOf, noFields, reserved, readAnswer, bit, countBits, spanBits, descriptorOf, writeAnswer, shiftLimit, readNumbers, writeNumbers};
 
 // The largest shift that is allowed. Public for the crates above.

@@ -12,7 +12,7 @@ use Rattle.fragment.specs.declared.Held.{Held}
 use Rattle.fragment.specs.declared.Held.the-variants.{Place as Holds, Refused as HoldsNot}
 use Rattle.fragment.specs.declared.Holder.{Holder}
 use Rattle.fragment.specs.declared.Holder.the-variants.{Slot as HeldBy, Refused as HeldByNone}
-use Rattle.fragment.specs.Kinds.{at, place}
+use Rattle.fragment.specs.Kinds.{place}
 use Rattle.fragment.specs.Fragment.{isSlot, isPlace, heldAnswer, HolderAnswer, heldNumbers, holderNumbers}
 use Rattle.fragment.proofs.Back.{by, back, slot-back, place-back}
 

@@ -2,3 +2,4 @@ pub mod Unique
 pub mod Run
 pub mod Theorems
 pub mod Leaves
+pub mod PastTheCount

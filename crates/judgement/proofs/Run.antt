@@ -8,7 +8,7 @@ use native.Mathlib.Nat.{eq-or-lt-of-le, le-refl, zero-add}
 use native.Mathlib.Omega.{arith}
 use lib.Dec.{leb}
 use lib.ListN.{length}
-use borrow.Author.Tests.{leb-true, leb-false, le-leb}
+use borrow.Author.Tests.{leb-true, leb-false}
 use Rattle.laws.proofs.Order.{le-or-lt}
 use Rattle.card.specs.Card.{elements, copies, cells}
 use Rattle.card.specs.Admission.{admission}
@@ -25,7 +25,7 @@ use Rattle.claims.specs.Rows.{smaller}
 use Rattle.claims.specs.Run.{run}
 use Rattle.claims.proofs.Run.{run-comes}
 use Rattle.judgement.specs.Judgement.{placed, LiesInside, AllInside, FirstOutside, Judgement, Judged, ComesTo}
-use Rattle.judgement.specs.Verdict.{verdictOf, tableAfter, VerdictPromise, askedSpot, OwnerJudgement, ByVerdict, OwnerComesTo, ownerTableAfter, ownerOf, OwnerPromise}
+use Rattle.judgement.specs.Verdict.{verdictOf, tableAfter, VerdictPromise, askedSpot, OwnerJudgement, OwnerComesTo, ownerTableAfter, ownerOf, OwnerPromise}
 use Rattle.judgement.specs.declared.Verdict.{Verdict}
 use Rattle.judgement.specs.declared.Owner.{Owner}
 use Rattle.judgement.specs.Run.{axisEntry, axisMet, claimed, judgeFrom, judgeWith, judgeAfter, judge, ownerAt, ownerAfter, ownerRun}

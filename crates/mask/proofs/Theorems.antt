@@ -1,31 +1,24 @@
 -- What the definitions mean, in plain for-alls: a mask is its pattern's columns, what does not count changes nothing, and the promise settles
 -- the answer.
 use mathlib.Core.Path.{_≡_, refl, sym, ap, ap₂, _∙_}
-use mathlib.Core.Bool.{Bool, true, false, cond}
+use mathlib.Core.Bool.{true, false}
 use mathlib.Core.List.{List}
-use Prim.Native.Nat.{ℕ, _+_, _/_, _%_, _^_, _≤_, _<_}
+use Prim.Native.Nat.{ℕ, _+_, _/_, _%_, _≤_, _<_}
 use native.Mathlib.Omega.{arith}
-use borrow.Author.Tests.{le-ltb, ltb-false}
+use borrow.Author.Tests.{le-ltb}
 use lib.Dec.{ltb}
 use lib.ListN.{length, getD, drop, replicate, List·getD-append}
 use lib.Seq.{drop-at}
-use Rattle.answers.specs.declared.Refusal.the-variants.{Reserved, Shift}
 use Rattle.answers.proofs.OneToOne.{readBack, refused-back, pinned}
-use Rattle.descriptor.specs.Descriptor.{yes, fieldsOf, noFields, reserved, readAnswer, descriptorOf, writeAnswer, readNumbers, writeNumbers}
+use Rattle.descriptor.specs.Descriptor.{yes, fieldsOf, reserved}
 use Rattle.mask.specs.Mask.{maskSize, subBits, columns, bytes, maskBit, zeroed, maskOf, maskAnswer, maskMemory, maskNumbers}
 use Rattle.descriptor.specs.declared.Fields.{Fields}
-use Rattle.descriptor.specs.declared.Read.{Read}
-use Rattle.descriptor.specs.declared.Read.the-variants.{Done, Refused}
-use Rattle.descriptor.specs.declared.Reading.{Reading}
-use Rattle.descriptor.specs.declared.Written.{Written}
-use Rattle.descriptor.specs.declared.Written.the-variants.{Descriptor, Refused as NotWritten}
 use Rattle.mask.specs.declared.Generated.{Generated}
 use Rattle.mask.specs.declared.Generated.the-variants.{Mask, Refused as NoMask}
 use Rattle.mask.proofs.Numbers.{zeroed-same, first-same}
 use Rattle.mask.proofs.Bytes.{bytes-length, none-zeroed, all-used, zero-bytes, bytes-same, bytes-bit}
 use Rattle.mask.proofs.Sizes.{sized}
 use Rattle.mask.proofs.Alike.{Alike, alike-same}
-use Rattle.descriptor.proofs.Digits.{Typed, fields-back, reserved-clear, descriptor-back}
 -- the endless pattern runs in turns; a mask repeats from the start of each sub-mask; the first used column is the smallest that is clear
 pub use Rattle.mask.proofs.Pattern.{Turns, turns, all-clear, repeats}
 pub use Rattle.mask.proofs.Least.{Least, first-least, least-one}

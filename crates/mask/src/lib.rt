@@ -3,11 +3,10 @@ use answers::Numbers;
 use answers::Refusal;
 use descriptor::Fields;
 ghost use mathlib.Core.Path.{_≡_};
-ghost use mathlib.Core.Bool.{true};
-ghost use Prim.Native.Nat.{_+_, _*_, _^_, _<_, _≤_};
+ghost use Prim.Native.Nat.{_+_, _*_, _<_, _≤_};
 ghost use lib.ListN.{length};
 ghost use Rattle.descriptor.specs.Descriptor.{shiftLimit};
-ghost use Rattle.mask.specs.Mask.{maskSize, subMasks, subBits, endless, column, number, bytes, maskBit, zeroed, firstUsed, maskOf, maskAnswer, maskMemory, maskNumbers};
+ghost use Rattle.mask.specs.Mask.{maskSize, subBits, endless, column, number, bytes, maskBit, zeroed, firstUsed, maskOf, maskAnswer, maskMemory, maskNumbers};
 
 // The answer to the generation of a mask: how many columns are zeroed, and the first that is used.
 pub enum Generated {

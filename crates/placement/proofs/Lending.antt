@@ -1,5 +1,5 @@
 -- Iters lent as numbers: slot by slot they are those iters, and eight iters are all slots.
-use mathlib.Core.Path.{_≡_, refl, sym, ap, _∙_}
+use mathlib.Core.Path.{_≡_, sym, ap, _∙_}
 use mathlib.Core.List.{List, map}
 use Prim.Native.Nat.{ℕ, _<_}
 use native.Mathlib.Omega.{arith}
@@ -7,7 +7,7 @@ use lib.ListN.{length, getD}
 use lib.Seq.{ext-getD}
 use Rattle.card.specs.declared.Iter.{Iter}
 use Rattle.card.specs.declared.Iters.{Iters}
-use Rattle.placement.specs.Inside.{iterAt, slots, itersOf, none, numbersOf}
+use Rattle.placement.specs.Inside.{slots, itersOf, none, numbersOf}
 use Rattle.placement.proofs.Along.{consecutive-at}
 
 pub slot-at : (f : ℕ → Iter) (k : ℕ) → k < 8 → getD (map f slots) k none ≡ f k

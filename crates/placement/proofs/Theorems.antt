@@ -1,5 +1,5 @@
 -- What rules 1 to 5 and the placement of one element mean, in plain for-alls.
-use mathlib.Core.Path.{_≡_, refl, sym, ap, _∙_}
+use mathlib.Core.Path.{_≡_, refl, sym, ap, _∙_, fun-ext}
 use mathlib.Core.Bool.{Bool, true, false, cond, not}
 use mathlib.Core.List.{List, _++_, map}
 use Prim.Native.Nat.{ℕ, _≤_, _<_}
@@ -20,6 +20,7 @@ use Rattle.card.specs.Admission.{admission}
 use Rattle.card.specs.declared.Card.{Card}
 use Rattle.card.specs.declared.Admission.{Admission}
 use Rattle.card.specs.declared.Admission.the-variants.{Admitted, Refused as NotAdmitted}
+use Rattle.card.proofs.Theorems.{AlikeCards, past-the-count}
 use Rattle.placement.specs.RowMajor.{rowMajor, components, inside}
 use Rattle.placement.specs.Rules.{axes, sum, coordinates, spot}
 use Rattle.placement.specs.Placement.{cellOf, pastAxis, copyCells, outsideAxis, entries, shapeAdmitted, coordinatesFit, flatten, afterAdmission, placementAnswer, written, placementMemory, placementNumbers, Placing}
@@ -173,3 +174,26 @@ unfolding outsideAxis
 outside-axis-none card flat eight h r below =
     let inside = spot-inside card flat r eight (omega (arith, outside-least (spot card flat) (copies card) r below)) in
     (inside, cell-below card flat r (record { 0 = cellOf (spot card flat r) }) inside)
+
+-- iters past a count play no part in where a copy goes
+pub past-the-count-placed : (a b : Card) → AlikeCards a b → (flat combination : ℕ) → spot a flat combination ≡ spot b flat combination
+unfolding spot coordinates
+past-the-count-placed a b k flat combination = rw (k .shard .iters, k .replica .iters, k .offset, k .lengths, k .swizzle)
+
+-- nor in the placement of an element
+module _ (a b : Card) (k : AlikeCards a b) (shape xs : Tuple) where
+  same-spot : spot a ≡ spot b
+  same-spot = fun-ext (λ flat. fun-ext (λ r. past-the-count-placed a b k flat r))
+
+  same-answer : (room : ℕ) → placementAnswer a shape xs room ≡ placementAnswer b shape xs room
+  unfolding placementAnswer outsideAxis
+  same-answer room = rw (past-the-count a b k, k .shard .iters, k .replica .iters, same-spot)
+
+  same-memory : (before : List ℕ) → placementMemory a shape xs before ≡ placementMemory b shape xs before
+  unfolding placementMemory copyCells
+  same-memory before = rw (same-answer (length before), k .replica .iters, same-spot)
+
+  pub past-the-count-placement : (before after : List ℕ) (placement : Placement) → Placing a shape xs before after placement
+      → Placing b shape xs before after placement
+  past-the-count-placement before after placement p =
+      record { answer-is = p .answer-is ∙ same-answer (length before); memory-is = p .memory-is ∙ same-memory before }

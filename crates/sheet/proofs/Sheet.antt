@@ -10,7 +10,6 @@ use lib.Dec.{eqb}
 use lib.Count.{leadingZeros}
 use lib.ListN.{length, getD}
 use Rattle.laws.proofs.Table.{every, every-at}
-use Rattle.answers.specs.declared.Numbers.{Numbers}
 use Rattle.swizzle.specs.Swizzle.{swizzled}
 use Rattle.swizzle.specs.Mode.{bitLength}
 use Rattle.fragment.specs.Kinds.{computation, registers, place}
@@ -25,7 +24,7 @@ use Rattle.judgement.specs.Verdict.{VerdictPromise, OwnerPromise, verdictNumber
 use Rattle.judgement.specs.declared.Verdict.{Verdict}
 use Rattle.judgement.specs.declared.Owner.{Owner}
 use Rattle.judgement.proofs.Run.{verdict-is-run, owner-is-run}
-use Rattle.sheet.specs.Questions.{Question, verdict, owner, Reply, reply, asked}
+use Rattle.sheet.specs.Questions.{verdict, owner, Reply, reply, asked}
 use Rattle.sheet.specs.Loads.{Load, loads}
 
 -- two replies are the same, tested

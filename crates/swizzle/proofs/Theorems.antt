@@ -8,7 +8,6 @@ use native.Mathlib.Omega.{arith}
 use borrow.Author.Tests.{le-leb}
 use lib.Pow.{shr-shr, field, mod-mod-pow}
 use lib.Count.{leading-length}
-use Rattle.answers.specs.Refusals.{refusalNumbers}
 use Rattle.answers.specs.declared.Numbers.{Numbers}
 use Rattle.answers.specs.declared.Refusal.the-variants.{Swizzle as NotPermitted}
 use Rattle.answers.proofs.OneToOne.{readBack, refused-back, pinned}

@@ -1,6 +1,6 @@
 -- `placement::locate` tells the position from its number: which of the two it is, is seen of the number.
 use Prim.Native.Nat.{ℕ, _-_}
-use mathlib.Core.Path.{_≡_, sym, ap, _∙_}
+use mathlib.Core.Path.{ap, _∙_}
 use borrow.Author.Needs.{needs}
 use lib.ListN.{take}
 use Rattle.card.specs.Inside.{beyond}

@@ -1,6 +1,5 @@
 -- `swizzle::swizzle_address` is the answer to any numbers: the branch taken is the one that `permitted` picks.
-use mathlib.Core.Path.{_≡_, sym, ap, _∙_}
-use mathlib.Core.Bool.{true, false}
+use mathlib.Core.Path.{sym, ap, _∙_}
 use Rattle.swizzle.specs.Swizzle.{permitted}
 use Rattle.swizzle.specs.declared.Swizzled.the-variants.{Address}
 use Rattle.swizzle.proofs.swizzle_address.Statement.{statement}

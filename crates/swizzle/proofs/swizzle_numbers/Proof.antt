@@ -1,5 +1,4 @@
 -- `swizzle::swizzle_numbers` is the definition's clause: in each arm the answer is the arm's own.
-use native.Mathlib.Omega.{arith}
 use borrow.Author.Needs.{needs}
 use Rattle.swizzle.proofs.swizzle_numbers.Statement.{statement}
 use Rattle.swizzle.proofs.swizzle_numbers.Tie as tie

@@ -1,6 +1,6 @@
 -- `swizzle::swizzle_of_mode` is the answer to any bits and mode: the branch taken is the one that `known` picks.
 use mathlib.Core.Path.{_≡_, sym, _∙_}
-use mathlib.Core.Bool.{true, false}
+use mathlib.Core.Bool.{true}
 use Rattle.swizzle.specs.Mode.{known}
 use Rattle.swizzle.proofs.Widths.{known-parts}
 use Rattle.swizzle.proofs.swizzle_of_mode.Statement.{statement}

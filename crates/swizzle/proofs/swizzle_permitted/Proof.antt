@@ -1,8 +1,7 @@
 -- `swizzle::swizzle_permitted` is the swizzle: a permitted swizzle's shifts stay within 64 bits, so that no bit is lost.
-use mathlib.Core.Path.{ap, _∙_, subst⁻¹}
-use Prim.Native.Nat.{ℕ, _<_, _/_, _%_, _*_, _^_}
+use mathlib.Core.Path.{subst⁻¹}
+use Prim.Native.Nat.{ℕ, _<_}
 use native.Mathlib.Omega.{arith}
-use lib.Bits.{bitXor}
 use lib.Pow.{pow-pos}
 use Rattle.swizzle.proofs.Laws.{Permitted, permitted-numbers, one-shifted, swizzled-shifted}
 use Rattle.swizzle.proofs.swizzle_permitted.Statement.{statement}
