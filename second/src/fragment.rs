@@ -165,16 +165,8 @@ pub fn exhaustive() -> Vec<u8> {
 #[cfg(test)]
 mod tests {
     use super::*;
-    use crate::lines::{answer_line, answers};
+    use crate::lines::{answers, says};
     use std::collections::BTreeSet;
-
-    fn says(line: &str, answer: &str) {
-        assert_eq!(
-            answer_line(line.as_bytes()).as_deref(),
-            Some(answer),
-            "{line}"
-        );
-    }
 
     #[test]
     fn the_sheet() {

@@ -97,6 +97,16 @@ pub fn answers(input: &[u8]) -> impl Iterator<Item = String> + '_ {
         })
 }
 
+/// For the tests: a line has this answer.
+#[cfg(test)]
+pub fn says(line: &str, answer: &str) {
+    assert_eq!(
+        answer_line(line.as_bytes()).as_deref(),
+        Some(answer),
+        "{line}"
+    );
+}
+
 #[cfg(test)]
 mod tests {
     use super::*;

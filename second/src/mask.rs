@@ -280,15 +280,7 @@ pub fn mask_numbers(random: &mut Random) -> Vec<u64> {
 #[cfg(test)]
 mod tests {
     use super::*;
-    use crate::lines::answer_line;
-
-    fn says(line: &str, answer: &str) {
-        assert_eq!(
-            answer_line(line.as_bytes()).as_deref(),
-            Some(answer),
-            "{line}"
-        );
-    }
+    use crate::lines::says;
 
     /// The bits of a mask, highest first, as 003 prints them.
     fn printed(bits: &[bool]) -> String {

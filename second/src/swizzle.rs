@@ -142,15 +142,7 @@ pub fn mode_numbers(random: &mut Random) -> Vec<u64> {
 #[cfg(test)]
 mod tests {
     use super::*;
-    use crate::lines::answer_line;
-
-    fn says(line: &str, answer: &str) {
-        assert_eq!(
-            answer_line(line.as_bytes()).as_deref(),
-            Some(answer),
-            "{line}"
-        );
-    }
+    use crate::lines::says;
 
     #[test]
     fn the_sheet() {

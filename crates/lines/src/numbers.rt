@@ -2,7 +2,8 @@
 ghost use mathlib.Core.Path.{_≡_};
 ghost use Prim.Native.Nat.{_≤_};
 
-// Eight numbers from a place of a line on, which has that many.
+// Eight numbers from a place of a line on, which has that many. Public, with a requires, for the
+// program above.
 pub fn eight(numbers: &[u64; 80], from: usize) -> [u64; 8]
     requires { ⌜ from ≤ 72 ⌝ }
 {
