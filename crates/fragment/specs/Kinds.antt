@@ -14,10 +14,11 @@ _&_ = bitAnd
 abbrev pub at : ℕ → ℕ → ℕ → Place
 at computation row column = record { computation = computation; row = row; column = column }
 
--- for kinds 0 to 5 the computation is (lane mod 16) / 4, numbered 0 to 3; for .f64 it is 0
+-- the computations of a kind, numbered from 0
 unfoldable pub computations : ℕ → ℕ
 computations kind = getD (4 ∷ 4 ∷ 4 ∷ 4 ∷ 4 ∷ 4 ∷ 1 ∷ 1 ∷ 1 ∷ []) kind 0
 
+-- for kinds 0 to 5 the computation is (lane mod 16) / 4; for .f64 it is 0
 unfoldable pub computation : ℕ → ℕ → ℕ
 computation kind lane = cond (leb kind 5) (lane % 16 / 4) 0
 
@@ -29,7 +30,7 @@ high lane = cond {A = ℕ} (leb 16 lane) 4 0
 unfoldable pub registers : ℕ → ℕ
 registers kind = getD (4 ∷ 4 ∷ 4 ∷ 4 ∷ 8 ∷ 8 ∷ 1 ∷ 1 ∷ 2 ∷ []) kind 0
 
--- row and column, in its computation, of what register i of a lane holds; 0 0 0 stands for an unknown kind
+-- computation, row and column of what register i of a lane holds; 0 0 0 stands for an unknown kind
 unfoldable pub place : ℕ → ℕ → ℕ → Place
 place kind lane i =
     let c : ℕ = computation kind lane in

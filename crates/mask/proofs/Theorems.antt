@@ -11,7 +11,7 @@ use lib.ListN.{length, getD, drop, replicate, List·getD-append}
 use lib.Seq.{drop-at}
 use Rattle.answers.proofs.OneToOne.{readBack, refused-back, pinned}
 use Rattle.descriptor.specs.Descriptor.{yes, fieldsOf, reserved}
-use Rattle.mask.specs.Mask.{maskSize, subBits, columns, bytes, maskBit, zeroed, maskOf, maskAnswer, maskMemory, maskNumbers}
+use Rattle.mask.specs.Mask.{maskSize, subBits, columns, bColumn, bytes, maskBit, zeroed, maskOf, maskAnswer, maskMemory, maskNumbers}
 use Rattle.descriptor.specs.declared.Fields.{Fields}
 use Rattle.mask.specs.declared.Generated.{Generated}
 use Rattle.mask.specs.declared.Generated.the-variants.{Mask, Refused as NoMask}
@@ -67,6 +67,10 @@ withShift f shift =
       «use_span» = f .«use_span»;
       shift = shift;
     }
+
+-- the mask of N columns speaks of B columns shift to N - 1 + shift: with N = 128 and shift 2, as source document 003 has it, of 2 to 129
+pub b-columns : (f : Fields) (N p : ℕ) → p < N → (f .shift ≤ bColumn f p) × (bColumn f p < N + f .shift)
+b-columns f N p h = (omega arith, omega arith)
 
 -- descriptors that differ only in an allowed shift
 pub shift-changes-nothing : (limit M N d e : ℕ) (lent : List ℕ) → reserved d ≡ reserved e → fieldsOf d .shift ≤ limit → fieldsOf e .shift ≤ limit

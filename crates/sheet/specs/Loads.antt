@@ -69,8 +69,19 @@ loads =
     -- fragments
     ∷ (fragment 5 5 6 is reply (answer 0 1 3 4) [])
     ∷ (fragment 5 18 3 is reply (answer 0 0 6 3) [])
-    -- masks, with source document 003's four examples: its example 4
+    -- one of each other kind, by source document 002's formulas: lane 22 has q 2, h 4 and computation 1
+    ∷ (fragment 0 22 3 is reply (answer 0 1 6 3) [])
+    ∷ (fragment 1 22 3 is reply (answer 0 1 7 2) [])
+    ∷ (fragment 2 22 3 is reply (answer 0 1 2 7) [])
+    ∷ (fragment 3 22 3 is reply (answer 0 1 3 6) [])
+    ∷ (fragment 4 22 5 is reply (answer 0 1 6 5) [])
+    ∷ (fragment 6 22 0 is reply (answer 0 0 5 2) [])
+    ∷ (fragment 7 22 0 is reply (answer 0 0 2 5) [])
+    ∷ (fragment 8 21 1 is reply (answer 0 0 5 3) [])
+    -- masks, with source document 003's four examples: its example 4, and with sub-masks as long as printed
     ∷ (mask 32 32 0x0203028301020100 four is reply (answer 0 14 3 0) (0x87 ∷ 0xc3 ∷ 0x1c ∷ 0x38 ∷ []))
+    ∷ (mask 32 64 0x0203028301020100 (replicate 8 165)
+    is reply (answer 0 28 3 0) (0x87 ∷ 0xc3 ∷ 0xc3 ∷ 0xe1 ∷ 0x1c ∷ 0x0e ∷ 0x38 ∷ 0x1c ∷ []))
     -- example 1: the non-zero mask is 0
     ∷ (mask 128 16 (descriptorOf (plain false false 4 3 0)) two is reply (answer 0 0 0 0) (0 ∷ 0 ∷ []))
     -- example 2, and with the shift at its limit and past it
@@ -81,6 +92,8 @@ loads =
     ∷ (descriptor (plain false true 2 3 33) is reply (answer 16 32 0 0) [])
     -- example 3
     ∷ (mask 64 32 (descriptorOf (plain true true 2 3 0)) four is reply (answer 0 14 3 0) (0x87 ∷ 0xc3 ∷ 0x70 ∷ 0x38 ∷ []))
+    ∷ (mask 64 40 (descriptorOf (plain true true 2 3 0)) (replicate 5 165)
+    is reply (answer 0 17 3 0) (0x87 ∷ 0xc3 ∷ 0x01 ∷ 0x87 ∷ 0xc3 ∷ []))
     -- placement: element 127 of tile X, then the table of source document 004
     ∷ (elementX 7 15 is reply (answer 0 2 0 0) (447 ∷ 703 ∷ []))
     ∷ (elementX 0 0 is reply (answer 0 2 0 0) (320 ∷ 576 ∷ []))
