@@ -1,4 +1,4 @@
--- What the definitions mean, in plain for-alls, over any placement: the outcome is unique, and which it is goes by demand 3's words.
+-- What the definitions mean, in plain for-alls, over any layout: the outcome is unique, and which it is goes by demand 3's words.
 use mathlib.Core.Path.{_≡_, refl, sym, _∙_}
 use mathlib.Core.Logic.{_↔_}
 use mathlib.Core.List.{List, [], _∷_}
@@ -63,7 +63,7 @@ outcome-unique p n cells (Clash x y cell) (Clash x′ y′ cell′) h k = clash-
 pub outcome-is-run : (p : Layout) (n cells : ℕ) → Inside p n cells → (a : Outcome) → ClaimsComeTo p n cells a → a ≡ run p n cells
 outcome-is-run p n cells inside a h = outcome-unique p n cells a (run p n cells) h (run-comes p n cells inside)
 
--- demand 3, over any placement whose copies lie in the cells: there is no clash exactly when no two different elements share a cell
+-- demand 3, over any layout whose copies lie in the cells: there is no clash exactly when no two different elements share a cell
 pub no-clash-exactly : (p : Layout) (n cells : ℕ) → Inside p n cells
     → ((x y cell : ℕ) → FirstClash p n x y cell → ⊥) ↔ NoneShare p n
 no-clash-exactly p n cells inside =

@@ -29,7 +29,8 @@ Inside p n cells = (f r : ℕ) → f < n → r < p .copies → p .at f r < cells
 abbrev pub NoneShare : Layout → ℕ → Type 0
 NoneShare p n = (x y c : ℕ) → x < n → y < n → Share p x y c → x ≡ y
 
--- the owners of n elements: the entry of cell c is f + 1 exactly when f is one of the elements and claims c
+-- the owners of n elements: the entry of cell c is f + 1 exactly when f is one of the elements and claims c; past the table there is no entry, so
+-- no element claims a cell there
 abbrev pub Owners : Layout → ℕ → List ℕ → Type 0
 Owners p n table = (f c : ℕ) → (getD table c 0 ≡ f + 1) ↔ ((f < n) × Claims p f c)
 

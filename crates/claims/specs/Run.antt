@@ -1,4 +1,4 @@
--- The verdict's claims run over any placement, so that loads compute. Nothing here has to be believed: proofs/Run.antt shows that the
+-- The verdict's claims run over any layout, so that loads compute. Nothing here has to be believed: proofs/Run.antt shows that the
 -- run comes to the one outcome that Claims.antt allows.
 use mathlib.Core.List.{List, [], _∷_}
 use Prim.Native.Nat.{ℕ, zero, suc, _+_, _-_}

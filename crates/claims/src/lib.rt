@@ -1,1 +1,1 @@
-// Who claims which cell, over any placement: definitions in specs/, laws in proofs/. There are no functions.
+// Who claims which cell, over any layout: definitions in specs/, laws in proofs/. There are no functions.

@@ -20,11 +20,11 @@ use Rattle.placement.specs.Rules.{spot}
 use Rattle.placement.specs.Placement.{cellOf, copyCells}
 use Rattle.placement.specs.declared.Spot.the-variants.{Inside}
 use Rattle.placement.proofs.Filling.{cells-length, cells-at}
-use Rattle.claims.specs.Claims.{Claims, occupied, OwnedTable as Owned}
+use Rattle.claims.specs.Claims.{Claims, NoneShare, occupied, OwnedTable as Owned}
 use Rattle.claims.specs.Rows.{Row}
 use Rattle.claims.proofs.Rows.{Among, among-claims, claims-among}
 use Rattle.claims.proofs.Theorems.{owners-none-share, clash-shares, nobody-exactly}
-use Rattle.judgement.specs.Judgement.{placed, LiesInside, AllInside, NoTwoShare, Judgement, NotAdmitted, NoRoom, OutsideAt, Clashing, Passed, ComesTo}
+use Rattle.judgement.specs.Judgement.{placed, LiesInside, AllInside, Judgement, NotAdmitted, NoRoom, OutsideAt, Clashing, Passed, ComesTo}
 use Rattle.judgement.specs.Verdict.{verdictOf, tableAfter, VerdictPromise, askedSpot, OwnerJudgement, NoCell, ByVerdict, OwnerComesTo, readEntry, ownerTableAfter, ownerOf, OwnerPromise, verdictNumbers, ownerNumbers}
 use Rattle.judgement.specs.declared.Verdict.{Verdict}
 use Rattle.judgement.specs.declared.Verdict.the-variants.{Approved, Refused}
@@ -91,8 +91,8 @@ module _ (card : Card) where
         there = rw (sym (k .there)) (lies-inside (spot card f (k .copy)) (inside f (k .copy) h (k .below)));
       }
 
-  -- where every copy lies inside, this is what the definition says: no two different elements share a cell
-  pub one-element-exactly : AllInside card → OneElementACell card ↔ NoTwoShare card
+  -- where every copy lies inside, this is what the theory of claims says: no two different elements share a cell
+  pub one-element-exactly : AllInside card → OneElementACell card ↔ NoneShare (placed card) (elements card)
   one-element-exactly inside = (
     λ one x y c hx hy s.
         let a = claims-copy inside x c hx (s .one) in

@@ -11,9 +11,9 @@ use Rattle.placement.specs.Rules.{spot}
 use Rattle.placement.specs.Placement.{cellOf}
 use Rattle.placement.specs.declared.Spot.{Spot}
 use Rattle.placement.specs.declared.Spot.the-variants.{Inside, Outside}
-use Rattle.claims.specs.Claims.{Layout, NoneShare, OwnedTable, FirstClash}
+use Rattle.claims.specs.Claims.{Layout, OwnedTable, FirstClash}
 
--- where the copies of a card's elements go
+-- where the copies of a card's elements go; one outside counts as cell 0, so a layout is asked only where every copy lies inside
 abbrev pub placed : Card → Layout
 placed card = record { copies = copies card; at = λ flat combination. cellOf (spot card flat combination) }
 
@@ -24,10 +24,6 @@ LiesInside (Outside axis) = ⊥
 -- every copy of every element lies in the space
 abbrev pub AllInside : Card → Type 0
 AllInside card = (flat combination : ℕ) → flat < elements card → combination < copies card → LiesInside (spot card flat combination)
-
--- no two different elements share a cell
-abbrev pub NoTwoShare : Card → Type 0
-NoTwoShare card = NoneShare (placed card) (elements card)
 
 -- 7: the smallest flat of which a copy lies outside the space, and the smallest axis for it
 pub record FirstOutside (card : Card) (flat axis : ℕ) : Type 0 where

@@ -32,7 +32,7 @@ abbrev pub pastAxis : Spot → ℕ
 pastAxis (Inside cell) = length axes
 pastAxis (Outside axis) = axis
 
--- n combinations from c on, by number: the last replica iter runs fastest
+-- n combinations from c on, by number
 abbrev pub combinations : ℕ → ℕ → List ℕ
 combinations c zero = []
 combinations c (suc n) = c ∷ combinations (c + 1) n
@@ -49,7 +49,7 @@ smallest (n ∷ ns) = min n (smallest ns)
 abbrev pub outsideOf : (ℕ → Spot) → ℕ → ℕ
 outsideOf at n = smallest (map (λ combination. pastAxis (at combination)) (combinations 0 n))
 
--- the cells of all copies of an element, and the smallest axis on which a copy lies outside
+-- the cells of all copies of an element, 0 for one outside, and the smallest axis on which a copy lies outside
 unfoldable pub copyCells : Card → ℕ → List ℕ
 copyCells card flat = cellsOf (spot card flat) (copies card)
 

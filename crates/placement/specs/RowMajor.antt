@@ -7,7 +7,7 @@ use Rattle.card.specs.Lists.{product}
 use Rattle.placement.specs.declared.Position.{Position}
 use Rattle.placement.specs.declared.Position.the-variants.{At, Past}
 
--- row-major: each coordinate times the product of the sizes after it, all added up
+-- row-major: each coordinate times the product of the sizes after it, all added up; coordinates that are not given count as 0
 abbrev pub rowMajor : List ℕ → List ℕ → ℕ
 rowMajor [] xs = 0
 rowMajor (n ∷ after) [] = 0
@@ -25,7 +25,7 @@ inside [] (x ∷ xs) = false
 inside (n ∷ after) [] = false
 inside (n ∷ after) (x ∷ xs) = ltb x n && inside after xs
 
--- the smallest place at which a coordinate is not below its size, or the number of sizes
+-- the smallest place at which a coordinate is missing or not below its size, or the number of sizes
 abbrev pub firstPast : List ℕ → List ℕ → ℕ
 firstPast [] xs = 0
 firstPast (n ∷ after) [] = 0

@@ -93,6 +93,17 @@ inTensorMemory shard replica lanes columns =
 abbrev pub wideTile : Card
 wideTile = inTensorMemory (2 by 112 on TCol ∷ 128 by 1 on TLane ∷ 112 by 1 on TCol ∷ []) [] 128 224
 
+-- two elements, of which each has its two copies in one cell
+abbrev pub doubled : Card
+doubled =
+    record {
+      shard = iters (2 by 1 on m ∷ []);
+      replica = iters (2 by 0 on m ∷ []);
+      offset = none;
+      lengths = 1 ∷ 1 ∷ 1 ∷ 1 ∷ 1 ∷ 1 ∷ 1 ∷ 2 ∷ [];
+      swizzle = unswizzled;
+    }
+
 -- 004's scale factors: 32 rows, routed to the four warps of a warpgroup
 abbrev pub scaleFactors : Card
 scaleFactors = inTensorMemory (32 by 1 on TLane ∷ 4 by 1 on TCol ∷ []) (4 by 32 on TLane ∷ []) 128 4

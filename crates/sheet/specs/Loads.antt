@@ -8,7 +8,7 @@ use Rattle.answers.specs.Refusals.{answer}
 use Rattle.descriptor.specs.Descriptor.{descriptorOf}
 use Rattle.descriptor.specs.declared.Fields.{Fields}
 use Rattle.sheet.specs.Questions.{Question, swizzle, mode, fragment, descriptor, mask, place, verdict, owner, stretch, Reply, reply}
-use Rattle.sheet.specs.Cards.{tuple, tile, tileX, onM, atM, _by_on_, m, wideTile, scaleFactors, sixtyFive, figure189}
+use Rattle.sheet.specs.Cards.{tuple, tile, tileX, onM, atM, _by_on_, m, wideTile, doubled, scaleFactors, sixtyFive, figure189}
 use Rattle.sheet.specs.Cards.{swizzle as swizzleBy}
 
 pub record Load : Type 0 where
@@ -112,6 +112,8 @@ loads =
     ∷ (verdict (tile 10 4) (table 704) is reply (answer 7 8 1 0) [])
     ∷ (verdict (tile 11 1) (table 704) is reply (answer 8 0 8 384) [])
     ∷ (verdict tileX (table 703) is reply (answer 11 704 0 0) [])
+    -- two copies of one element in one cell are no clash
+    ∷ (verdict doubled (table 2) is reply (answer 0 2 2 2) [])
     -- the scale factors: TLane 37 and TCol 2 is cell 150, and belongs to element 22, which has four copies
     ∷ (stretch (scaleFactors .lengths) 7 (0 ∷ 0 ∷ 0 ∷ 0 ∷ 0 ∷ 37 ∷ 2 ∷ 0 ∷ []) (table 512) is reply (answer 0 150 1 0) (1000000 ∷ []))
     ∷ (place scaleFactors (tuple (32 ∷ 4 ∷ [])) (tuple (5 ∷ 2 ∷ [])) (table 4) is reply (answer 0 4 0 0) (22 ∷ 150 ∷ 278 ∷ 406 ∷ []))

@@ -32,7 +32,7 @@ permitted-numbers M B S p =
     }
 
 -- x with its bits S to S+B-1 XORed into bits 0 to B-1
-abbrev crossed : ℕ → ℕ → ℕ → ℕ
+abbrev pub crossed : ℕ → ℕ → ℕ → ℕ
 crossed B S x = bitXor x (picked B S x)
 
 picked-below : (B S x : ℕ) → picked B S x < 2 ^ B
@@ -60,7 +60,8 @@ module _ (M B S m : ℕ) where
   unfolding swizzled
   swizzled-low = low (crossed B S (m / 2 ^ M)) M rest-below
 
-  swizzled-high : swizzled M B S m / 2 ^ M ≡ crossed B S (m / 2 ^ M)
+  -- above them x is crossed
+  pub swizzled-high : swizzled M B S m / 2 ^ M ≡ crossed B S (m / 2 ^ M)
   unfolding swizzled
   swizzled-high = high (crossed B S (m / 2 ^ M)) M rest-below
 

@@ -1,5 +1,5 @@
 -- What the definitions of the swizzle and of the modes mean, in plain for-alls, each from the laws with the widths as parameters.
-use mathlib.Core.Path.{_≡_, refl, sym, ap, _∙_}
+use mathlib.Core.Path.{_≡_, refl, sym, ap, ap₂, _∙_}
 use mathlib.Core.Bool.{Bool, true, false, cond}
 use mathlib.Core.Logic.{_⊎_, ⊎-elim}
 use Prim.Native.Nat.{ℕ, _+_, _-_, _*_, _/_, _%_, _^_, _≤_, _<_}
@@ -7,18 +7,19 @@ use native.Mathlib.Nat.{add-sub-of-le, sub-add-cancel}
 use native.Mathlib.Omega.{arith}
 use borrow.Author.Tests.{le-leb}
 use lib.Pow.{shr-shr, field, mod-mod-pow}
+use lib.Bits.{bitXor, xor-shr, xor-mod}
 use lib.Count.{leading-length}
 use Rattle.answers.specs.declared.Numbers.{Numbers}
 use Rattle.answers.specs.declared.Refusal.the-variants.{Swizzle as NotPermitted}
 use Rattle.answers.proofs.OneToOne.{readBack, refused-back, pinned}
-use Rattle.swizzle.specs.Swizzle.{permitted, swizzled, swizzleAnswer, swizzleNumbers}
+use Rattle.swizzle.specs.Swizzle.{permitted, picked, swizzled, swizzleAnswer, swizzleNumbers}
 use Rattle.swizzle.specs.Mode.{known, bitLength, modeAnswer, modeNumbers}
 use Rattle.swizzle.specs.declared.Swizzled.{Swizzled}
 use Rattle.swizzle.specs.declared.Swizzled.the-variants.{Address, Refused}
 use Rattle.swizzle.specs.declared.Swizzle.{Swizzle}
 use Rattle.swizzle.specs.declared.Chosen.{Chosen}
 use Rattle.swizzle.specs.declared.Chosen.the-variants.{Parameters, Refused as NotChosen}
-use Rattle.swizzle.proofs.Laws.{permitted-numbers, swizzled-low, swizzled-block, swizzle-twice}
+use Rattle.swizzle.proofs.Laws.{permitted-numbers, swizzled-low, swizzled-high, swizzled-block, swizzle-twice}
 use Rattle.swizzle.proofs.Widths.{known-parts, zeros-known}
 
 -- bit i of a number
@@ -49,6 +50,20 @@ outer-bits-stay M B S m i =
     ∙ ap (bit (i - (M + B))) (swizzled-block M B S m)
     ∙ sym (high-bit (M + B) i m h))
 
+-- and rule 4 says how those change: bit M+i is XORed with bit M+S+i, for each i below B
+pub inner-bits-crossed : (M B S m i : ℕ) → i < B → bit (M + i) (swizzled M B S m) ≡ bitXor (bit (M + i) m) (bit (M + S + i) m)
+inner-bits-crossed M B S m i h =
+    let x = m / 2 ^ M in
+    let own : bit i x ≡ bit (M + i) m = ap (λ (n : ℕ). n % 2) (shr-shr m M i) in
+    let other : bit i (picked B S x) ≡ bit (M + S + i) m =
+    sym (low-bit B i (x / 2 ^ S) h)
+    ∙ ap (λ (n : ℕ). n % 2) (shr-shr x S i ∙ shr-shr m M (S + i) ∙ ap (λ (k : ℕ). m / 2 ^ k) (omega arith)) in
+    ap (λ (n : ℕ). n % 2) (sym (shr-shr (swizzled M B S m) M i))
+    ∙ ap (bit i) (swizzled-high M B S m)
+    ∙ ap (λ (n : ℕ). n % 2) (xor-shr x (picked B S x) i)
+    ∙ xor-mod (x / 2 ^ i) (picked B S x / 2 ^ i) 1
+    ∙ ap₂ bitXor own other
+
 -- address m lies in the aligned block of 2^(M+B) addresses that has the number m / 2^(M+B)
 abbrev pub block : ℕ → ℕ → ℕ → ℕ
 block M B m = m / 2 ^ (M + B)
@@ -76,7 +91,7 @@ demand-3-swizzle M B S p =
       twice = back;
     }
 
--- the bit length of a 64-bit number is the length of the shortest power of two above it
+-- the bit length of a 64-bit number is the smallest exponent whose power of two is above it
 pub bit-length : (n : ℕ) → n < 2 ^ 64 → (n < 2 ^ bitLength n) × (2 ^ bitLength n ≤ 2 * n + 1)
 unfolding bitLength
 bit-length n h =

@@ -19,7 +19,7 @@ use Rattle.table.specs.declared.Located.the-variants.{Stretch, Refused}
 abbrev pub asked : ℕ → List ℕ → List ℕ
 asked axis numbers = take (axis + 1) numbers
 
--- the first cell under the asked coordinates, and as many cells as the axes after the asked one have
+-- the first cell under the asked coordinates, where those not asked count as 0, and as many cells as the axes after the asked one have
 abbrev pub stretchUnder : List ℕ → ℕ → List ℕ → Located
 stretchUnder lengths axis coordinates =
     Stretch (record { 0 = rowMajor lengths (asked axis coordinates) }) (product (drop (axis + 1) lengths))
