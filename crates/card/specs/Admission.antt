@@ -15,33 +15,33 @@ use Rattle.card.specs.declared.Card.{Card}
 use Rattle.card.specs.declared.Admission.{Admission}
 use Rattle.card.specs.declared.Admission.the-variants.{Admitted, Refused}
 
--- 1: shard and replica iter count within limits
+-- check 1: shard and replica iter count within limits
 abbrev pub countsFit : Card → Bool
 countsFit card = within 1 mostShard (card .shard .count) && leb (card .replica .count) mostReplica
 
--- 2: every extent, stride and offset within limits
+-- check 2: every extent, stride and offset within limits
 abbrev pub itersFit : Iters → Bool
 itersFit iters = all (within 1 mostExtent) (map extentOf (listed iters)) && all (within 0 mostStride) (map strideOf (listed iters))
 
 abbrev pub numbersFit : Card → Bool
 numbersFit card = itersFit (card .shard) && itersFit (card .replica) && all (within 0 mostStride) (card .offset)
 
--- 3: no axis above 7
+-- check 3: no axis above 7
 abbrev pub itersOnAxes : Iters → Bool
 itersOnAxes iters = all (within 0 lastAxis) (map axisOf (listed iters))
 
 abbrev pub axesFit : Card → Bool
 axesFit card = itersOnAxes (card .shard) && itersOnAxes (card .replica)
 
--- 4: every length within limits, and not too many cells
+-- check 4: every length within limits, and not too many cells
 abbrev pub spaceFits : List ℕ → Bool
 spaceFits lengths = all (within 1 mostLength) lengths && leb (product lengths) mostCells
 
--- 5: not too many elements or copies
+-- check 5: not too many elements or copies
 abbrev pub fewEnough : Card → Bool
 fewEnough card = leb (elements card) mostElements && leb (copies card) mostCopies
 
--- 6: the swizzle numbers are permitted
+-- check 6: the swizzle numbers are permitted
 abbrev pub swizzleFits : Card → Bool
 swizzleFits card = permitted (card .swizzle .m) (card .swizzle .b) (card .swizzle .s)
 

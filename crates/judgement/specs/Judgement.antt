@@ -25,7 +25,7 @@ LiesInside (Outside axis) = ⊥
 abbrev pub AllInside : Card → Type 0
 AllInside card = (flat combination : ℕ) → flat < elements card → combination < copies card → LiesInside (spot card flat combination)
 
--- 7: the smallest flat of which a copy lies outside the space, and the smallest axis for it
+-- check 7: the smallest flat of which a copy lies outside the space, and the smallest axis for it
 pub record FirstOutside (card : Card) (flat axis : ℕ) : Type 0 where
   pub element : flat < elements card
   pub combination : ℕ

@@ -60,14 +60,14 @@ outsideAxis card flat = outsideOf (spot card flat) (copies card)
 abbrev pub entries : Tuple → List ℕ
 entries tuple = take (tuple .count) (tuple .at)
 
--- 9: a shape has 1 to 8 dimensions and is admitted when its product equals the elements
+-- check 9: a shape has 1 to 8 dimensions and is admitted when its product equals the elements
 abbrev pub mostDimensions : ℕ
 mostDimensions = 8
 
 abbrev pub shapeAdmitted : Tuple → ℕ → Bool
-shapeAdmitted shape elements = within 1 mostDimensions (shape .count) && eqb (product (entries shape)) elements
+shapeAdmitted shape n = within 1 mostDimensions (shape .count) && eqb (product (entries shape)) n
 
--- 10: as many coordinates as dimensions, each inside its own
+-- check 10: as many coordinates as dimensions, each inside its own
 abbrev pub coordinatesFit : Tuple → Tuple → Bool
 coordinatesFit shape coordinates = eqb (coordinates .count) (shape .count) && inside (entries shape) (entries coordinates)
 

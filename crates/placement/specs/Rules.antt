@@ -21,7 +21,7 @@ use Rattle.placement.specs.declared.Spot.the-variants.{Inside, Outside}
 abbrev pub axes : List ℕ
 axes = 0 ∷ 1 ∷ 2 ∷ 3 ∷ 4 ∷ 5 ∷ 6 ∷ 7 ∷ []
 
--- 3: each component times its stride is added to its axis
+-- rule 3: each component times its stride is added to its axis
 abbrev pub added : ℕ → List Iter → List ℕ → ℕ
 added axis [] cs = 0
 added axis (iter ∷ iters) [] = 0
@@ -45,14 +45,14 @@ replicaPart card combination axis = part (card .replica) combination axis
 abbrev pub sum : Card → ℕ → ℕ → ℕ → ℕ
 sum card flat combination axis = shardPart card flat axis + offsetPart card axis + replicaPart card combination axis
 
--- 4: the swizzle acts on the finished m coordinate, that of the last axis
+-- rule 4: the swizzle acts on the finished m coordinate, that of the last axis
 abbrev pub swizzledM : Swizzle → List ℕ → List ℕ
 swizzledM w sums = set sums lastAxis (swizzled (w .m) (w .b) (w .s) (getD sums lastAxis 0))
 
 unfoldable pub coordinates : Card → ℕ → ℕ → List ℕ
 coordinates card flat combination = swizzledM (card .swizzle) (map (sum card flat combination) axes)
 
--- 5: the cell number is row-major over the axes, pid first, m last
+-- rule 5: the cell number is row-major over the axes, pid first, m last
 abbrev pub spotAt : Position → Spot
 spotAt (At number) = Inside (record { 0 = number })
 spotAt (Past axis) = Outside axis
