@@ -4,12 +4,8 @@ use mathlib.Core.List.{List, [], _∷_, _++_, map, map-append}
 use Prim.Native.Nat.{ℕ, _+_, _≤_, _<_}
 use native.Mathlib.Numerals.{add-one}
 use native.Mathlib.Omega.{arith}
-use lib.ListN.{length, getD, take, set, length-set, length-map}
+use lib.ListN.{length, getD, take, set, length-set}
 use lib.Seq.{take-suc, take-suc-set, take-all}
-
--- of an array of structs the number of elements is told of its images
-pub length-of : (A : Type 0) (B : Type 0) (f : A → B) (l : List A) (n : ℕ) → length (map f l) ≡ n → length l ≡ n
-length-of A B f l n e = sym (length-map l f) ∙ e
 
 -- the first k entries of the column are those of the list
 pub record Filled {A : Type 0} (f : A → ℕ) (l : List A) (k : ℕ) (column : List ℕ) : Type 0 where

@@ -2,4 +2,5 @@ pub mod Table
 pub mod Below
 pub mod Order
 pub mod Lists
+pub mod Products
 pub mod Capped

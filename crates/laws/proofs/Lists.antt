@@ -1,10 +1,11 @@
--- Lists by parts: one more element of a part, and `map` of a part.
-use mathlib.Core.Path.{_≡_, refl, ap, _∙_}
+-- Lists by parts: one more element of a part, `map` of a part, and the part that is the whole; how long a list is by its images.
+use mathlib.Core.Path.{_≡_, refl, sym, ap, _∙_}
 use mathlib.Core.List.{List, [], _∷_, map}
 use Prim.Native.Nat.{ℕ, zero, suc, _+_, _≤_, _<_}
+use native.Mathlib.Nat.{le-of-eq}
 use native.Mathlib.Numerals.{add-one}
-use lib.ListN.{length, getD, take}
-use lib.Seq.{slice, slice-cons}
+use lib.ListN.{length, getD, take, length-map}
+use lib.Seq.{slice, slice-cons, take-all}
 
 -- the elements from k to n, the one at k apart
 pub slice-next : {A : Type 0} (l : List A) (k n : ℕ) (other : A) → k < n → n ≤ length l → slice k n l ≡ getD l k other ∷ slice (k + 1) n l
@@ -14,3 +15,11 @@ pub map-take : {A : Type 0} {B : Type 0} (f : A → B) (n : ℕ) (l : List A) �
 map-take f zero l = refl
 map-take f (suc n) [] = refl
 map-take f (suc n) (x ∷ l) = ap (λ t. f x ∷ t) (map-take f n l)
+
+-- as many as there are is all
+pub take-whole : {A : Type 0} (n : ℕ) (l : List A) → length l ≡ n → take n l ≡ l
+take-whole n l e = take-all n l (le-of-eq e)
+
+-- of an array of structs the number of elements is told of its images
+pub length-of : (A : Type 0) (B : Type 0) (f : A → B) (l : List A) (n : ℕ) → length (map f l) ≡ n → length l ≡ n
+length-of A B f l n e = sym (length-map l f) ∙ e

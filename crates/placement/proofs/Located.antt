@@ -9,7 +9,7 @@ use borrow.Author.Tests.{lt-ltb, le-ltb}
 use Rattle.card.specs.Lists.{product}
 use Rattle.placement.specs.RowMajor.{rowMajor, inside, firstPast, position}
 use Rattle.placement.specs.declared.Position.the-variants.{At, Past}
-use Rattle.placement.proofs.RowMajor.{factors}
+use Rattle.laws.proofs.Products.{factors}
 
 -- where numbering stands that has passed k coordinates and has these sizes and coordinates left
 pub record Located (sizes xs left-sizes left-xs : List ℕ) (k number : ℕ) : Type 0 where

@@ -3,21 +3,16 @@ use mathlib.Core.Path.{_≡_, refl, sym, ap, ap₂, _∙_}
 use mathlib.Core.Bool.{Bool, true, false, cond, _&&_, false≢true, and-eq-true-iff}
 use mathlib.Core.List.{List, [], _∷_}
 use Prim.Native.Nat.{ℕ, zero, suc, _+_, _*_, _/_, _%_, _≤_, _<_, suc-le-suc}
-use native.Mathlib.Nat.{mod-lt, mod-eq-of-lt, mod-one, mul-zero, zero-mul, not-suc-le-zero, le-of-suc-le-suc, suc-inj}
+use native.Mathlib.Nat.{mod-lt, mod-eq-of-lt, mod-one, not-suc-le-zero, le-of-suc-le-suc, suc-inj}
 use native.Mathlib.Numerals.{add-one}
 use native.Mathlib.Omega.{arith}
 use lib.Arith.{digits-lt, digits-div, digits-mod, mod-mul}
 use lib.Dec.{ltb}
 use lib.ListN.{length, getD}
 use borrow.Author.Tests.{ltb-true, ltb-false, lt-ltb}
+use Rattle.laws.proofs.Products.{factors}
 use Rattle.card.specs.Lists.{product}
 use Rattle.placement.specs.RowMajor.{rowMajor, components, inside, firstPast}
-
--- a product that is not 0 has no factor 0
-pub factors : (n m : ℕ) → 0 < n * m → (0 < n) × (0 < m)
-factors zero m h = absurd (omega (arith, zero-mul m))
-factors (suc n) zero h = absurd (omega (arith, mul-zero (suc n)))
-factors (suc n) (suc m) h = (omega arith, omega arith)
 
 -- the first coordinate below its size, and the rest below theirs
 pub inside-parts : (n : ℕ) (ns : List ℕ) (x : ℕ) (xs : List ℕ) → inside (n ∷ ns) (x ∷ xs) ≡ true → (x < n) × (inside ns xs ≡ true)

@@ -3,19 +3,16 @@ use mathlib.Core.Path.{_≡_, ap}
 use mathlib.Core.Bool.{and-eq-true-iff}
 use mathlib.Core.List.{List}
 use Prim.Native.Nat.{ℕ, _≤_}
-use native.Mathlib.Nat.{le-of-eq, le-refl}
+use native.Mathlib.Nat.{le-refl}
 use native.Mathlib.Omega.{arith}
 use borrow.Author.Tests.{leb-true}
 use lib.Dec.{leb}
 use lib.ListN.{length, take}
-use lib.Seq.{take-all}
+use Rattle.laws.proofs.Lists.{take-whole}
 use Rattle.card.specs.Lists.{all, within, product}
 use Rattle.card.specs.Limits.{mostLength, mostCells}
 use Rattle.card.proofs.Lists.{product-positive}
 use Rattle.placement.specs.Inside.{Space, Locatable}
-
-pub whole : (l : List ℕ) → length l ≡ 8 → take 8 l ≡ l
-whole l e = take-all 8 l (le-of-eq e)
 
 -- the cells of a space that fits
 pub record Roomed (lengths : List ℕ) : Type 0 where
@@ -30,5 +27,5 @@ roomed lengths s =
 pub space-locatable : (lengths coordinates : List ℕ) → Space lengths → length coordinates ≡ 8 → Locatable lengths coordinates 8
 space-locatable lengths coordinates s h =
     let n = roomed lengths s in
-    let same : product (take 8 lengths) ≡ product lengths = ap product (whole lengths (s .eight-lengths)) in
+    let same : product (take 8 lengths) ≡ product lengths = ap product (take-whole 8 lengths (s .eight-lengths)) in
     record { eight-sizes = s .eight-lengths; eight-coordinates = h; few = le-refl 8; some = omega arith; small = omega arith }

@@ -15,7 +15,7 @@ use Rattle.card.specs.Lists.{all, within, product}
 use Rattle.card.specs.Admission.{spaceFits}
 use Rattle.card.proofs.Lists.{product-positive}
 use Rattle.placement.specs.RowMajor.{rowMajor, inside}
-use Rattle.placement.proofs.RowMajor.{factors}
+use Rattle.laws.proofs.Products.{factors}
 use Rattle.placement.proofs.Prefixes.{product-parts, prefix-within}
 use Rattle.table.specs.Stretch.{asked, stretchAnswer}
 use Rattle.table.specs.declared.Located.{Located}

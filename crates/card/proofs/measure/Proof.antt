@@ -2,11 +2,11 @@
 use mathlib.Core.Path.{_≡_, ap, _∙_}
 use mathlib.Core.List.{List}
 use Prim.Native.Nat.{ℕ, min}
-use native.Mathlib.Nat.{le-of-eq, min-eq-left}
+use native.Mathlib.Nat.{min-eq-left}
 use native.Mathlib.Omega.{arith}
 use borrow.Author.Needs.{needs}
 use lib.ListN.{take}
-use lib.Seq.{take-all}
+use Rattle.laws.proofs.Lists.{take-whole}
 use Rattle.card.specs.Lists.{product}
 use Rattle.card.specs.Inside.{beyond}
 use Rattle.card.proofs.Listed.{Counted, counted}
@@ -18,7 +18,7 @@ counts : (s : tie.Start) → Counted (s .args .card)
 counts s = counted (s .args .card) (checked (s .args .card) (s .pre) .counts)
 
 whole : (s : tie.Start) → take 8 (s .args .card .lengths) ≡ s .args .card .lengths
-whole s = take-all 8 (s .args .card .lengths) (le-of-eq (search needs))
+whole s = take-whole 8 (s .args .card .lengths) (search needs)
 
 size-requires : tie.Need-size-requires
 size-requires c κs = counts (c .before .before .before) .shard

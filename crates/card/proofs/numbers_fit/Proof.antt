@@ -3,9 +3,8 @@ use mathlib.Core.Path.{_≡_, ap, ap₂, _∙_}
 use mathlib.Core.Bool.{_&&_}
 use native.Mathlib.Omega.{arith}
 use borrow.Author.Needs.{needs}
-use native.Mathlib.Nat.{le-of-eq}
 use lib.ListN.{length}
-use lib.Seq.{take-all}
+use Rattle.laws.proofs.Lists.{take-whole}
 use Rattle.card.specs.Lists.{all, within}
 use Rattle.card.specs.Limits.{mostStride}
 use Rattle.card.proofs.Listed.{counted}
@@ -29,7 +28,7 @@ returns : tie.Need-returns
 returns c =
     let s = c .before .before .before .before .before .before in
     ap₂ _&&_ (ap₂ _&&_ (c .before .before .iters-fit .ensures) (c .before .iters-fit2 .ensures))
-    (c .all-within .ensures ∙ ap (all (within 0 mostStride)) (take-all 8 (s .args .card .offset) (le-of-eq (eight s))))
+    (c .all-within .ensures ∙ ap (all (within 0 mostStride)) (take-whole 8 (s .args .card .offset) (eight s)))
 
 pub numbers-fit-spec : {M : Type 1} → statement M
 numbers-fit-spec =

@@ -3,12 +3,11 @@ use mathlib.Core.Path.{_≡_, ap, ap₂, _∙_}
 use mathlib.Core.Bool.{_&&_}
 use mathlib.Core.List.{List}
 use Prim.Native.Nat.{ℕ, min}
-use native.Mathlib.Nat.{le-of-eq}
 use native.Mathlib.Omega.{arith}
 use borrow.Author.Needs.{needs}
 use lib.Dec.{leb}
 use lib.ListN.{take}
-use lib.Seq.{take-all}
+use Rattle.laws.proofs.Lists.{take-whole}
 use Rattle.laws.proofs.Capped.{capped-leb}
 use Rattle.card.specs.Lists.{all, within, product}
 use Rattle.card.specs.Limits.{mostLength, mostCells}
@@ -17,7 +16,7 @@ use Rattle.card.proofs.space_fits.Statement.{statement}
 use Rattle.card.proofs.space_fits.Tie as tie
 
 whole : (s : tie.Start) → take 8 (s .args .lengths) ≡ s .args .lengths
-whole s = take-all 8 (s .args .lengths) (le-of-eq (search needs))
+whole s = take-whole 8 (s .args .lengths) (search needs)
 
 all-within-requires : tie.Need-all-within-requires
 all-within-requires c κs = search needs

@@ -4,9 +4,10 @@ use native.Mathlib.Omega.{arith}
 use mathlib.Core.Path.{_≡_, refl}
 use lib.ListN.{length}
 use borrow.Author.Needs.{needs}
+use Rattle.laws.proofs.Lists.{length-of}
 use Rattle.card.specs.Card.{extentOf, strideOf, axisOf}
 use Rattle.card.specs.declared.Iter.{Iter}
-use Rattle.card.proofs.Filled.{Filled, filled-more, filled-all, length-of}
+use Rattle.card.proofs.Filled.{Filled, filled-more, filled-all}
 use Rattle.card.proofs.unpack.Statement.{statement}
 use Rattle.card.proofs.unpack.Tie as tie
 use Rattle.card.proofs.unpack.Reads as reads

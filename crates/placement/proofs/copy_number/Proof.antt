@@ -7,7 +7,8 @@ use borrow.Author.Needs.{needs}
 use Rattle.placement.specs.RowMajor.{position}
 use Rattle.placement.specs.Rules.{swizzledM}
 use Rattle.placement.specs.Inside.{swizzleOf, numberOf, walked}
-use Rattle.placement.proofs.Spaces.{whole, space-locatable}
+use Rattle.laws.proofs.Lists.{take-whole}
+use Rattle.placement.proofs.Spaces.{space-locatable}
 use Rattle.placement.proofs.copy_number.Statement.{statement}
 use Rattle.placement.proofs.copy_number.Tie as tie
 
@@ -57,7 +58,7 @@ returns c =
     let w = walking p in
     let a = start w .args in
     c .number-among .ensures
-    ∙ ap numberOf (ap₂ position (whole (a .lengths .now) (start w .pre .space .eight-lengths)) (whole (set (sums w) 7 _) (eight w _)))
+    ∙ ap numberOf (ap₂ position (take-whole 8 (a .lengths .now) (start w .pre .space .eight-lengths)) (take-whole 8 (set (sums w) 7 _) (eight w _)))
     ∙ ap (λ (m : ℕ). numberOf (position (a .lengths .now) (set (sums w) 7 m))) (p .swizzle-permitted .ensures)
     ∙ ap (λ (l : List ℕ). numberOf (position (a .lengths .now) (swizzledM (swizzleOf (a .swizzle .now)) l))) (w .walk .ensures)
 

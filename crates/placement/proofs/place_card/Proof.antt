@@ -3,7 +3,7 @@ use mathlib.Core.Path.{_≡_, subst}
 use borrow.Author.Needs.{needs}
 use lib.ListN.{length}
 use Rattle.card.specs.declared.Card.{Card}
-use Rattle.card.proofs.Filled.{length-of}
+use Rattle.laws.proofs.Lists.{length-of}
 use Rattle.placement.specs.Rules.{spot}
 use Rattle.placement.specs.Inside.{Row}
 use Rattle.placement.proofs.Cards.{unpacked, lent-numbers}

@@ -2,7 +2,8 @@
 use mathlib.Core.Path.{_≡_, sym, ap₂, _∙_}
 use borrow.Author.Needs.{needs}
 use Rattle.placement.specs.RowMajor.{position}
-use Rattle.placement.proofs.Spaces.{whole, space-locatable}
+use Rattle.laws.proofs.Lists.{take-whole}
+use Rattle.placement.proofs.Spaces.{space-locatable}
 use Rattle.placement.proofs.spot_at.Statement.{statement}
 use Rattle.placement.proofs.spot_at.Tie as tie
 
@@ -12,7 +13,7 @@ locate-requires c κs = space-locatable (c .args .lengths .now) (c .args .coordi
 found : (c : tie.After-locate) → position (c .before .args .lengths .now) (c .before .args .coordinates .now) ≡ c .locate .result
 found c =
     let s = c .before in
-    sym (c .locate .ensures ∙ ap₂ position (whole (s .args .lengths .now) (s .pre .0 .eight-lengths)) (whole (s .args .coordinates .now) (s .pre .1)))
+    sym (c .locate .ensures ∙ ap₂ position (take-whole 8 (s .args .lengths .now) (s .pre .0 .eight-lengths)) (take-whole 8 (s .args .coordinates .now) (s .pre .1)))
 
 enum-known-number : tie.Need-enum-known-number
 enum-known-number c = search needs

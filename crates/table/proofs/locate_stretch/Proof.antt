@@ -14,7 +14,7 @@ use Rattle.card.specs.Inside.{beyond}
 use Rattle.card.specs.Lists.{product}
 use Rattle.card.specs.Admission.{spaceFits}
 use Rattle.placement.specs.RowMajor.{rowMajor, inside}
-use Rattle.placement.proofs.Spaces.{whole}
+use Rattle.laws.proofs.Lists.{take-whole}
 use Rattle.placement.proofs.Spots.{Numbered, position-at, position-past}
 use Rattle.placement.proofs.Prefixes.{row-major-prefix, prefix-within}
 use Rattle.table.specs.Stretch.{asked}
@@ -92,7 +92,7 @@ cells-are c =
     let two = fitting (located (c .before)) in
     let p = parts two in
     c .product .ensures
-    ∙ ap (λ (l : List ℕ). min (product l) beyond) (whole (start two .args .t2) (search needs))
+    ∙ ap (λ (l : List ℕ). min (product l) beyond) (take-whole 8 (start two .args .t2) (search needs))
     ∙ min-eq-left (omega arith)
 
 returns-4 : tie.Need-returns-4

@@ -8,7 +8,7 @@ use Rattle.card.specs.Card.{elements, copies}
 use Rattle.card.specs.declared.Card.{Card}
 use Rattle.card.specs.declared.Sizes.{Sizes}
 use Rattle.card.proofs.Admitted.{sized}
-use Rattle.card.proofs.Filled.{length-of}
+use Rattle.laws.proofs.Lists.{length-of}
 use Rattle.placement.proofs.Cards.{unpacked, lent-numbers}
 use Rattle.judgement.specs.Verdict.{VerdictPromise}
 use borrow.Author.Needs.{needs}
