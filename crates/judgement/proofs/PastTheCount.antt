@@ -1,5 +1,5 @@
 -- Iters past a count play no part in the verdict and in the owner: two cards that differ there alone have the same numbers and the same spots.
-use mathlib.Core.Path.{_≡_, refl, sym, ap, _∙_, subst, fun-ext}
+use mathlib.Core.Path.{_≡_, refl, sym, ap, _∙_, subst}
 use mathlib.Core.List.{List, map}
 use Prim.Native.Nat.{ℕ}
 use lib.ListN.{length}
@@ -9,7 +9,7 @@ use Rattle.card.specs.declared.Card.{Card}
 use Rattle.card.proofs.Theorems.{AlikeCards, past-the-count}
 use Rattle.placement.specs.RowMajor.{position}
 use Rattle.placement.specs.Rules.{spotAt, spot}
-use Rattle.placement.proofs.Theorems.{past-the-count-placed}
+use Rattle.placement.proofs.Theorems.{same-spot}
 use Rattle.judgement.specs.Judgement.{placed, LiesInside, AllInside, FirstOutside, Judgement, NotAdmitted, NoRoom, OutsideAt, Clashing, Passed, Judged, ComesTo}
 use Rattle.judgement.specs.Verdict.{verdictOf, tableAfter, VerdictPromise, askedSpot, OwnerJudgement, NoCell, ByVerdict, OwnerComesTo, ownerTableAfter, ownerOf, OwnerPromise}
 use Rattle.judgement.specs.declared.Verdict.{Verdict}
@@ -25,26 +25,23 @@ module _ (a b : Card) (alike : AlikeCards a b) where
   same-cells : cells a ≡ cells b
   same-cells = ap product (alike .lengths)
 
-  same-spot : spot a ≡ spot b
-  same-spot = fun-ext (λ flat. fun-ext (λ r. past-the-count-placed a b alike flat r))
-
   same-layout : placed a ≡ placed b
-  same-layout = rw (same-copies, same-spot)
+  same-layout = rw (same-copies, same-spot a b alike)
 
   judged : {room : ℕ} → Judged a room → Judged b room
   judged h = record { admitted = sym (past-the-count a b alike) ∙ h .admitted; enough = rw same-cells at (h .enough) }
 
   all-inside : AllInside a → AllInside b
-  all-inside h = rw (same-elements, same-copies, same-spot) at h
+  all-inside h = rw (same-elements, same-copies, same-spot a b alike) at h
 
   first-outside : {flat axis : ℕ} → FirstOutside a flat axis → FirstOutside b flat axis
   first-outside h = record {
     element = rw same-elements at (h .element);
     combination = h .combination;
     copy = rw same-copies at (h .copy);
-    outside = rw same-spot at (h .outside);
-    smallest-axis = rw (same-copies, same-spot) at (h .smallest-axis);
-    smallest-flat = rw (same-copies, same-spot) at (h .smallest-flat);
+    outside = rw (same-spot a b alike) at (h .outside);
+    smallest-axis = rw (same-copies, same-spot a b alike) at (h .smallest-axis);
+    smallest-flat = rw (same-copies, same-spot a b alike) at (h .smallest-flat);
   }
 
   comes-alike : (room : ℕ) (j : Judgement) → ComesTo a room j → ComesTo b room j

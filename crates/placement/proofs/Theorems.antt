@@ -180,18 +180,18 @@ pub past-the-count-placed : (a b : Card) → AlikeCards a b → (flat combinatio
 unfolding spot coordinates
 past-the-count-placed a b k flat combination = rw (k .shard .iters, k .replica .iters, k .offset, k .lengths, k .swizzle)
 
+pub same-spot : (a b : Card) → AlikeCards a b → spot a ≡ spot b
+same-spot a b k = fun-ext (λ flat. fun-ext (λ r. past-the-count-placed a b k flat r))
+
 -- nor in the placement of an element
 module _ (a b : Card) (k : AlikeCards a b) (shape xs : Tuple) where
-  same-spot : spot a ≡ spot b
-  same-spot = fun-ext (λ flat. fun-ext (λ r. past-the-count-placed a b k flat r))
-
   same-answer : (room : ℕ) → placementAnswer a shape xs room ≡ placementAnswer b shape xs room
   unfolding placementAnswer outsideAxis
-  same-answer room = rw (past-the-count a b k, k .shard .iters, k .replica .iters, same-spot)
+  same-answer room = rw (past-the-count a b k, k .shard .iters, k .replica .iters, same-spot a b k)
 
   same-memory : (before : List ℕ) → placementMemory a shape xs before ≡ placementMemory b shape xs before
   unfolding placementMemory copyCells
-  same-memory before = rw (same-answer (length before), k .replica .iters, same-spot)
+  same-memory before = rw (same-answer (length before), k .replica .iters, same-spot a b k)
 
   pub past-the-count-placement : (before after : List ℕ) (placement : Placement) → Placing a shape xs before after placement
       → Placing b shape xs before after placement

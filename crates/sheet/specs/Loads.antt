@@ -8,7 +8,7 @@ use Rattle.answers.specs.Refusals.{answer}
 use Rattle.descriptor.specs.Descriptor.{descriptorOf}
 use Rattle.descriptor.specs.declared.Fields.{Fields}
 use Rattle.sheet.specs.Questions.{Question, swizzle, mode, fragment, descriptor, mask, place, verdict, owner, stretch, Reply, reply}
-use Rattle.sheet.specs.Cards.{tuple, tile, tileX, onM, atM, _by_on_, m, wideTile, doubled, scaleFactors, sixtyFive, figure189}
+use Rattle.sheet.specs.Cards.{tuple, tile, tileX, unswizzled, onM, atM, _by_on_, m, wideTile, doubled, scaleFactors, sixtyFive, figure189}
 use Rattle.sheet.specs.Cards.{swizzle as swizzleBy}
 
 pub record Load : Type 0 where
@@ -133,4 +133,16 @@ loads =
     ∷ (stretch (tileX .lengths) 1 (0 ∷ 6 ∷ 99 ∷ 0 ∷ 0 ∷ 0 ∷ 0 ∷ 0 ∷ []) (table 703) is reply (answer 11 704 0 0) [])
     ∷ (stretch (tileX .lengths) 1 (0 ∷ 11 ∷ 99 ∷ 0 ∷ 0 ∷ 0 ∷ 0 ∷ 0 ∷ []) [] is reply (answer 12 1 0 0) [])
     ∷ (stretch (wideTile .lengths) 0 (replicate 8 0) [] is reply (answer 4 0 0 0) [])
+    -- the rows of document 01's refusal table that no load above meets: no iter, an extent above its limit, an axis above 7, too many elements
+    ∷ (verdict (onM [] 1 unswizzled) [] is reply (answer 1 0 0 0) [])
+    ∷ (verdict (onM (16385 by 0 on m ∷ []) 1 unswizzled) [] is reply (answer 2 0 0 0) [])
+    ∷ (verdict (onM (1 by 0 on 8 ∷ []) 1 unswizzled) [] is reply (answer 3 0 0 0) [])
+    ∷ (verdict (onM (16384 by 0 on m ∷ 2 by 0 on m ∷ []) 1 unswizzled) [] is reply (answer 5 0 0 0) [])
+    -- a shape of other than the elements, a coordinate that equals its dimension
+    ∷ (place tileX (tuple (8 ∷ 15 ∷ [])) (tuple (0 ∷ 0 ∷ [])) [] is reply (answer 9 0 0 0) [])
+    ∷ (place tileX (tuple (8 ∷ 16 ∷ [])) (tuple (8 ∷ 0 ∷ [])) [] is reply (answer 10 0 0 0) [])
+    -- a mask of M 96, an unknown kind, a reserved bit
+    ∷ (mask 96 32 0 [] is reply (answer 13 0 0 0) [])
+    ∷ (fragment 9 0 0 is reply (answer 14 0 0 0) [])
+    ∷ (mask 128 8 0x1000000000 [] is reply (answer 15 0 0 0) [])
     ∷ []
