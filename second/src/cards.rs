@@ -6,10 +6,11 @@ use crate::layout::{
     Card, Flat, Iter, Spot, AXES, MOST_CELLS, MOST_COPIES, MOST_EXTENT, MOST_LENGTH, MOST_STRIDE,
     M_AXIS, REPLICA_SLOTS, SHARD_SLOTS,
 };
+use crate::lines::{whole, Number};
 use crate::random::Random;
 use crate::swizzle::{from_mode, random_swizzle, Swizzle, MOST_B, MOST_M, MOST_S};
 
-const NO_SWIZZLE: Swizzle = Swizzle { m: 0, b: 0, s: 3 };
+pub const NO_SWIZZLE: Swizzle = Swizzle { m: 0, b: 0, s: 3 };
 
 /// A card of these iters, without offset, in the smallest space that holds
 /// every coordinate before the swizzle.
@@ -28,13 +29,14 @@ pub fn card_of(shard: &[Iter], replica: &[Iter]) -> Card {
     card
 }
 
-/// The lengths that hold every coordinate before the swizzle.
-fn fit(card: &mut Card) {
+/// The lengths that hold every coordinate before the swizzle, unless one is
+/// below zero.
+pub fn fit(card: &mut Card) {
     let mut largest = card.offset;
     for iter in [card.shard(), card.replica()].concat() {
-        largest[iter.axis as usize] += (iter.extent - 1) * iter.stride;
+        largest[iter.axis as usize] += Number::from(iter.extent - 1) * iter.stride.max(0);
     }
-    card.space = largest.map(|coordinate| coordinate + 1);
+    card.space = largest.map(|coordinate| coordinate.max(0) as u64 + 1);
 }
 
 pub fn shuffle<T>(random: &mut Random, things: &mut [T]) {
@@ -67,11 +69,7 @@ fn orderly_iters(random: &mut Random, axes: &[u64]) -> Vec<Iter> {
         let gap = u64::from(random.once_in(8));
         reached[axis as usize] = stride * extent + gap;
         room /= extent;
-        iters.push(Iter {
-            extent,
-            stride,
-            axis,
-        });
+        iters.push(iter(extent, stride, axis));
     }
     shuffle(random, &mut iters);
     iters
@@ -92,11 +90,7 @@ fn dealt(random: &mut Random, iters: &[Iter]) -> (Vec<Iter>, Vec<Iter>) {
     }
     if replica.len() < REPLICA_SLOTS && copies * 2 <= MOST_COPIES && random.once_in(8) {
         // Two copies of one element in one cell are no clash.
-        replica.push(Iter {
-            extent: 2,
-            stride: 0,
-            axis: random.below(AXES as u64),
-        });
+        replica.push(iter(2, 0, random.below(AXES as u64)));
     }
     (shard, replica)
 }
@@ -104,13 +98,13 @@ fn dealt(random: &mut Random, iters: &[Iter]) -> (Vec<Iter>, Vec<Iter>) {
 fn some_offsets(random: &mut Random, card: &mut Card) {
     for offset in &mut card.offset {
         if random.once_in(6) {
-            *offset = random.below(6);
+            *offset = random.below(6).into();
         }
     }
 }
 
 /// No swizzle, one of a mode, or one whose bits small addresses reach.
-fn some_swizzle(random: &mut Random, card: &mut Card) {
+pub fn some_swizzle(random: &mut Random, card: &mut Card) {
     card.swizzle = match random.below(8) {
         0..=3 => NO_SWIZZLE,
         4 => {
@@ -158,12 +152,11 @@ fn loose(random: &mut Random) -> Card {
     let axes = random_axes(random);
     let strides = 24 >> axes.len();
     let iters = |random: &mut Random, count: u64, most: u64| -> Vec<Iter> {
-        let iter = |_| Iter {
-            extent: random.between(1, most),
-            stride: random.below(strides),
-            axis: random.pick(&axes),
+        let loose = |_| {
+            let extent = random.between(1, most);
+            iter(extent, random.below(strides), random.pick(&axes))
         };
-        (0..count).map(iter).collect()
+        (0..count).map(loose).collect()
     };
     let shard_count = random.between(1, 4);
     let shard = iters(random, shard_count, 6);
@@ -182,12 +175,12 @@ fn memory_tile(random: &mut Random) -> Card {
     let mut iters = orderly_iters(random, &[M_AXIS as u64, M_AXIS as u64, M_AXIS as u64 - 1]);
     if random.once_in(3) {
         let at = random.index(iters.len());
-        iters[at].stride *= random.between(1, 9);
+        iters[at].stride *= Number::from(random.between(1, 9));
     }
     let (shard, replica) = dealt(random, &iters);
     let mut card = card_of(&shard, &replica);
     if random.once_in(2) {
-        card.offset[M_AXIS] = random.below(64);
+        card.offset[M_AXIS] = random.below(64).into();
     }
     fit(&mut card);
     let reached = u64::from(card.space[M_AXIS].ilog2());
@@ -211,7 +204,7 @@ fn memory_tile(random: &mut Random) -> Card {
 fn largest_m(card: &Card) -> u64 {
     let flats = (0..card.elements() as u64).map(Flat);
     let copies = flats.flat_map(|flat| card.copies_of(flat));
-    copies.map(|copy| copy[M_AXIS]).max().unwrap_or(0)
+    copies.map(|copy| copy[M_AXIS]).max().unwrap_or(0) as u64
 }
 
 /// Element 2 shares one cell with element 0 and a smaller one with element
@@ -222,7 +215,7 @@ fn tangled(random: &mut Random) -> Card {
     let scale = random.between(1, 3);
     let small = random.between(1, 4);
     let large = 3 * small + random.between(1, 8);
-    let on_axis = |stride| iter(2, stride * scale, axis);
+    let on_axis = |stride: u64| iter(2, stride * scale, axis);
     let mut shard = vec![on_axis(large - small), on_axis(large - 2 * small)];
     if random.once_in(2) {
         shard.insert(
@@ -258,10 +251,10 @@ fn spread(random: &mut Random) -> Card {
     card
 }
 
-pub fn iter(extent: u64, stride: u64, axis: u64) -> Iter {
+pub fn iter(extent: u64, stride: impl Into<Number>, axis: u64) -> Iter {
     Iter {
         extent,
-        stride,
+        stride: stride.into(),
         axis,
     }
 }
@@ -316,7 +309,7 @@ fn of_the_sheet(random: &mut Random) -> Card {
 }
 
 /// Fills the slots past the counts with things that must be ignored.
-fn clutter(random: &mut Random, card: &mut Card) {
+pub fn clutter(random: &mut Random, card: &mut Card) {
     let sort = random.below(4);
     let mut fill = |slot: &mut Iter| {
         *slot = match sort {
@@ -332,7 +325,7 @@ fn clutter(random: &mut Random, card: &mut Card) {
 }
 
 /// One of the used iters; the shard has at least one.
-fn some_iter<'a>(random: &mut Random, card: &'a mut Card) -> &'a mut Iter {
+pub fn some_iter<'a>(random: &mut Random, card: &'a mut Card) -> &'a mut Iter {
     let shard = (card.shard_count as usize).clamp(1, SHARD_SLOTS);
     let replica = (card.replica_count as usize).min(REPLICA_SLOTS);
     let at = random.index(shard + replica);
@@ -345,6 +338,7 @@ fn some_iter<'a>(random: &mut Random, card: &'a mut Card) -> &'a mut Iter {
 
 /// Changes one number a little, so that the card is just no longer, or just
 /// still, what it was.
+/// For strides that are not below zero.
 fn nudge(random: &mut Random, card: &mut Card) {
     let axis = random.index(AXES);
     match random.below(10) {
@@ -354,7 +348,7 @@ fn nudge(random: &mut Random, card: &mut Card) {
         }
         1 | 2 => {
             let iter = some_iter(random, card);
-            iter.stride = random.around(iter.stride);
+            iter.stride = random.around(iter.stride as u64).into();
         }
         3 => some_iter(random, card).axis = axis as u64,
         4 => card.offset[axis] += 1,
@@ -443,15 +437,20 @@ fn at_limit(random: &mut Random, least: u64, most: u64) -> u64 {
     }
 }
 
+/// At the upper limit of strides and offsets.
+fn stride_at_limit(random: &mut Random) -> Number {
+    at_limit(random, 0, MOST_STRIDE as u64).into()
+}
+
 /// Breaks, or just does not break, one limit of the card.
-fn spoil(random: &mut Random, card: &mut Card) {
+pub fn spoil(random: &mut Random, card: &mut Card) {
     let axis = random.index(AXES);
     match random.below(17) {
         0 => card.shard_count = random.pick(&[0, 8, 9, 10, 1 << 32, u64::MAX]),
         1 => card.replica_count = random.pick(&[0, 4, 5, 6, 1 << 32, u64::MAX]),
         2 => some_iter(random, card).extent = at_limit(random, 1, MOST_EXTENT),
-        3 | 4 => some_iter(random, card).stride = at_limit(random, 0, MOST_STRIDE),
-        5 => card.offset[axis] = at_limit(random, 0, MOST_STRIDE),
+        3 | 4 => some_iter(random, card).stride = stride_at_limit(random),
+        5 => card.offset[axis] = stride_at_limit(random),
         6 | 7 => some_iter(random, card).axis = at_limit(random, 0, AXES as u64 - 1),
         8 => card.space[axis] = at_limit(random, 1, MOST_LENGTH),
         9 => many_cells(random, card),
@@ -462,22 +461,27 @@ fn spoil(random: &mut Random, card: &mut Card) {
         _ => {
             let at = random.index(Card::NUMBERS);
             let mut numbers = card.numbers();
-            numbers[at] = random.hostile();
+            numbers[at] = random.hostile().into();
             *card = Card::of(&numbers).unwrap_or(*card);
         }
     }
 }
 
-/// A card for one line.
-pub fn random_card(random: &mut Random) -> Card {
-    let mut card = match random.below(16) {
+/// A card before anything is nudged or spoiled.
+pub fn sound_card(random: &mut Random) -> Card {
+    match random.below(16) {
         0..=4 => orderly(random),
         5..=7 => loose(random),
         8 => tangled(random),
         9..=12 => memory_tile(random),
         13 => spread(random),
         _ => of_the_sheet(random),
-    };
+    }
+}
+
+/// A card for one line.
+pub fn random_card(random: &mut Random) -> Card {
+    let mut card = sound_card(random);
     clutter(random, &mut card);
     match random.below(16) {
         0..=7 => {}
@@ -575,10 +579,13 @@ fn random_spot(random: &mut Random, elements: u64) -> Spot {
     spot
 }
 
-pub fn place_numbers(random: &mut Random) -> Vec<u64> {
-    let card = random_card(random);
-    let elements = card.elements().min(1 << 20) as u64;
-    let spot = random_spot(random, elements);
+/// A shape of this card's elements and a coordinate in it, mostly.
+pub fn spot_on(random: &mut Random, card: &Card) -> Spot {
+    random_spot(random, card.elements().min(1 << 20) as u64)
+}
+
+/// The numbers of a placement on this card, with room enough, mostly.
+pub fn place_on(random: &mut Random, card: &Card, spot: &Spot) -> Vec<Number> {
     let copies = card.copies().min(MOST_COPIES.into()) as u64;
     let length = match random.below(12) {
         0..=5 => copies,
@@ -587,7 +594,13 @@ pub fn place_numbers(random: &mut Random) -> Vec<u64> {
         10 => random.below(65),
         _ => random.pick(&[0, 1, 63, 64, 64, 65, 66, 1 << 32, u64::MAX]),
     };
-    [card.numbers(), spot.numbers(), vec![length]].concat()
+    [card.numbers(), whole(&spot.numbers()), whole(&[length])].concat()
+}
+
+pub fn place_numbers(random: &mut Random) -> Vec<Number> {
+    let card = random_card(random);
+    let spot = spot_on(random, &card);
+    place_on(random, &card, &spot)
 }
 
 #[cfg(test)]

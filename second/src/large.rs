@@ -2,8 +2,10 @@
 
 use crate::cards::{card_of, iter, shuffle};
 use crate::layout::{Card, Coordinates, Iter, AXES, MOST_CELLS, M_AXIS};
+use crate::lines::{whole, Number};
 use crate::malformed::Question;
 use crate::random::Random;
+use crate::signed::turn_some;
 use crate::swizzle::Swizzle;
 
 pub const LARGE_SEED: u64 = 0x6c61_7267_6500_0001;
@@ -70,30 +72,72 @@ fn without_copies(random: &mut Random) -> Vec<Card> {
     ]
 }
 
-fn line(word: &str, parts: &[&[u64]]) -> Vec<u8> {
+/// Cards that run backwards: all cells taken, the last element outside, all
+/// but the first outside, a clash in the middle, rows of 64 copies of which
+/// the last lies outside or none, and iters turned round at random.
+fn backwards(random: &mut Random) -> Vec<Card> {
+    let mut all = in_memory(&[iter(16_384, -1, 7)], &[], [3, 3, 3]);
+    all.offset[M_AXIS] = 16_383;
+    let mut low = all;
+    low.offset[M_AXIS] = 16_382;
+    let mut at_once = all;
+    at_once.offset[M_AXIS] = 0;
+    let rows = [iter(128, -1, 7), iter(128, 0, 7)];
+    let mut rows = in_memory(&rows, &[iter(64, -1, 7)], [2, 1, 3]);
+    rows.offset[M_AXIS] = 189;
+    let mut inside = rows;
+    inside.offset[M_AXIS] = 190;
+    let mut halves = in_memory(&[iter(2, -8_191, 7), iter(8_192, -1, 7)], &[], [0, 0, 3]);
+    halves.offset[M_AXIS] = 16_382;
+    let copies = [iter(4, 4_096, 7), iter(16, 256, 7)];
+    let axes: [Iter; 7] = std::array::from_fn(|axis| iter(4, 1, axis as u64));
+    let mut turned = [
+        bit_tile(random, [1, 4, 7]),
+        in_memory(&[iter(256, 1, 7)], &copies, [3, 3, 3]),
+        in_memory(&[iter(2, 128, 7), iter(128, 1, 7)], &copies, [4, 3, 3]),
+        card_of(&axes, &[]),
+        card_of(&axes[1..], &[iter(2, 4, 6), iter(2, 1, 7)]),
+    ];
+    for card in &mut turned {
+        turn_some(random, card, 2);
+    }
+    [&[all, low, at_once, halves, rows, inside], &turned[..]].concat()
+}
+
+fn line(word: &str, parts: &[Vec<Number>]) -> Vec<u8> {
     let mut line = Question::new(word, &parts.concat()).bytes();
     line.push(b'\n');
     line
 }
 
 /// A verdict on each card, and of every third the owner of some cell.
-pub fn large() -> Vec<u8> {
-    let mut random = Random::new(LARGE_SEED);
-    let cards = [with_copies(), without_copies(&mut random)].concat();
+fn judged(random: &mut Random, cards: &[Card]) -> Vec<u8> {
     let mut lines = Vec::new();
     for (at, card) in cards.iter().enumerate() {
         let numbers = card.numbers();
-        lines.extend(line("verdict", &[&numbers, &[MOST_CELLS]]));
+        let room = whole(&[MOST_CELLS]);
+        lines.extend(line("verdict", &[numbers.clone(), room.clone()]));
         if at % 3 == 0 {
             let asked: Coordinates = card.space.map(|length| random.below(length));
-            lines.extend(line("owner", &[&numbers, &asked, &[MOST_CELLS]]));
+            lines.extend(line("owner", &[numbers, whole(&asked), room]));
         }
     }
+    lines
+}
+
+/// All the full-size lines; those of a later request stand at the end.
+pub fn large() -> Vec<u8> {
+    let mut random = Random::new(LARGE_SEED);
+    let cards = [with_copies(), without_copies(&mut random)].concat();
+    let mut lines = judged(&mut random, &cards);
     let space = [4, 2, 4, 4, 2, 4, 4, 4];
     for axis in 0..AXES as u64 {
         let asked: Coordinates = space.map(|length| random.below(length));
-        lines.extend(line("stretch", &[&space, &[axis], &asked, &[MOST_CELLS]]));
+        let numbers = [&space[..], &[axis], &asked, &[MOST_CELLS]].concat();
+        lines.extend(line("stretch", &[whole(&numbers)]));
     }
+    let cards = backwards(&mut random);
+    lines.extend(judged(&mut random, &cards));
     lines
 }
 
@@ -115,12 +159,15 @@ mod tests {
             "0 256 16384 16384",
             "8 8191 8192 8191",
             "0 16383 16383 16383",
+            "7 1 7 0",
+            "7 16256 7 0",
+            "0 4096 16384 16384",
         ];
         for text in wanted {
             assert!(said.iter().any(|said| said == text), "{text}");
         }
-        assert!(said.iter().filter(verdicts).count() > 12);
-        assert_eq!(said.len(), 26);
+        assert!(said.iter().filter(verdicts).count() > 23);
+        assert_eq!(said.len(), 41);
         assert!(!said.iter().any(|text| text == "?"));
     }
 }

@@ -2,7 +2,7 @@
 //! cells (document 01's rules 1 to 5), with the question that places one
 //! element.
 
-use crate::lines::Answer;
+use crate::lines::{plain, whole, Answer, Number};
 use crate::swizzle::{Swizzle, NOT_ALLOWED};
 
 pub const AXES: usize = 8;
@@ -11,7 +11,8 @@ pub const SHARD_SLOTS: usize = 8;
 pub const REPLICA_SLOTS: usize = 4;
 
 pub const MOST_EXTENT: u64 = 16_384;
-pub const MOST_STRIDE: u64 = 65_535;
+pub const LEAST_STRIDE: Number = -65_536;
+pub const MOST_STRIDE: Number = 65_535;
 pub const MOST_LENGTH: u64 = 16_384;
 pub const MOST_CELLS: u64 = 16_384;
 pub const MOST_ELEMENTS: u64 = 16_384;
@@ -65,12 +66,15 @@ impl Refusal {
 #[derive(Clone, Copy, Debug, Default)]
 pub struct Iter {
     pub extent: u64,
-    pub stride: u64,
+    pub stride: Number,
     pub axis: u64,
 }
 
-/// One coordinate per axis.
+/// One coordinate per axis, as a cell is asked for.
 pub type Coordinates = [u64; AXES];
+
+/// One coordinate per axis, as sums of signed products give them.
+pub type Sums = [Number; AXES];
 
 #[derive(Clone, Copy, Debug)]
 pub struct Card {
@@ -78,7 +82,7 @@ pub struct Card {
     pub shard_slots: [Iter; SHARD_SLOTS],
     pub replica_count: u64,
     pub replica_slots: [Iter; REPLICA_SLOTS],
-    pub offset: [u64; AXES],
+    pub offset: Sums,
     pub space: [u64; AXES],
     pub swizzle: Swizzle,
 }
@@ -101,21 +105,20 @@ pub fn whole_product(numbers: &[u64]) -> u128 {
 }
 
 /// Rule 2: component k is the number divided by the product of the extents
-/// after k, modulo extent k. For extents within their limits.
+/// after k, modulo extent k. For extents whose product is within its limit.
 fn split(number: u64, iters: &[Iter]) -> Vec<u64> {
     (0..iters.len())
         .map(|k| {
-            let after: Vec<u64> = iters[k + 1..].iter().map(|iter| iter.extent).collect();
-            let divisor = whole_product(&after);
-            (u128::from(number) / divisor % u128::from(iters[k].extent)) as u64
+            let after: u64 = iters[k + 1..].iter().map(|iter| iter.extent).product();
+            number / after % iters[k].extent
         })
         .collect()
 }
 
 /// Each component times its stride, added to its axis.
-fn add_components(coordinates: &mut Coordinates, components: &[u64], iters: &[Iter]) {
+fn add_components(sums: &mut Sums, components: &[u64], iters: &[Iter]) {
     for (component, iter) in components.iter().zip(iters) {
-        coordinates[iter.axis as usize] += component * iter.stride;
+        sums[iter.axis as usize] += Number::from(*component) * iter.stride;
     }
 }
 
@@ -127,12 +130,25 @@ impl Card {
     /// How many numbers a card is on a line.
     pub const NUMBERS: usize = 57;
 
-    /// The card of the first numbers; none if there are too few.
-    pub fn of(numbers: &[u64]) -> Option<Card> {
-        let numbers = numbers.get(..Card::NUMBERS)?;
+    /// Whether the number at this place of a card is a stride or an offset,
+    /// which may be below zero, whatever the counts are.
+    pub fn signed_at(at: usize) -> bool {
+        let in_iters = |first: usize, slots: usize| {
+            (first..first + 3 * slots).contains(&at) && (at - first) % 3 == 1
+        };
+        in_iters(1, SHARD_SLOTS) || in_iters(26, REPLICA_SLOTS) || (38..46).contains(&at)
+    }
+
+    /// The card of the first numbers; none if there are too few, or if one
+    /// that is no stride and no offset is below zero.
+    pub fn of(numbers: &[Number]) -> Option<Card> {
+        let signed = numbers.get(..Card::NUMBERS)?;
+        let other = |at: usize| if Card::signed_at(at) { 0 } else { signed[at] };
+        let others: Vec<Number> = (0..Card::NUMBERS).map(other).collect();
+        let numbers = plain(&others)?;
         let iter = |at: usize| Iter {
             extent: numbers[at],
-            stride: numbers[at + 1],
+            stride: signed[at + 1],
             axis: numbers[at + 2],
         };
         Some(Card {
@@ -140,7 +156,7 @@ impl Card {
             shard_slots: std::array::from_fn(|k| iter(1 + 3 * k)),
             replica_count: numbers[25],
             replica_slots: std::array::from_fn(|k| iter(26 + 3 * k)),
-            offset: std::array::from_fn(|axis| numbers[38 + axis]),
+            offset: std::array::from_fn(|axis| signed[38 + axis]),
             space: std::array::from_fn(|axis| numbers[46 + axis]),
             swizzle: Swizzle {
                 m: numbers[54],
@@ -151,19 +167,19 @@ impl Card {
     }
 
     /// The card's numbers as they stand on a line.
-    pub fn numbers(&self) -> Vec<u64> {
-        let of_iters = |iters: &[Iter]| -> Vec<u64> {
-            let three = |iter: &Iter| [iter.extent, iter.stride, iter.axis];
+    pub fn numbers(&self) -> Vec<Number> {
+        let of_iters = |iters: &[Iter]| -> Vec<Number> {
+            let three = |iter: &Iter| [iter.extent.into(), iter.stride, iter.axis.into()];
             iters.iter().flat_map(three).collect()
         };
         [
-            vec![self.shard_count],
+            vec![self.shard_count.into()],
             of_iters(&self.shard_slots),
-            vec![self.replica_count],
+            vec![self.replica_count.into()],
             of_iters(&self.replica_slots),
             self.offset.to_vec(),
-            self.space.to_vec(),
-            vec![self.swizzle.m, self.swizzle.b, self.swizzle.s],
+            whole(&self.space),
+            whole(&[self.swizzle.m, self.swizzle.b, self.swizzle.s]),
         ]
         .concat()
     }
@@ -195,10 +211,11 @@ impl Card {
         let iters = [self.shard(), self.replica()].concat();
         let counts = (1..=SHARD_SLOTS as u64).contains(&self.shard_count)
             && self.replica_count <= REPLICA_SLOTS as u64;
+        let signed = |number: &Number| (LEAST_STRIDE..=MOST_STRIDE).contains(number);
         let numbers = iters
             .iter()
-            .all(|iter| (1..=MOST_EXTENT).contains(&iter.extent) && iter.stride <= MOST_STRIDE)
-            && self.offset.iter().all(|offset| *offset <= MOST_STRIDE);
+            .all(|iter| (1..=MOST_EXTENT).contains(&iter.extent) && signed(&iter.stride))
+            && self.offset.iter().all(signed);
         let axes = iters.iter().all(|iter| iter.axis < AXES as u64);
         let lengths = self.space.iter().all(|n| (1..=MOST_LENGTH).contains(n));
         let space = lengths && self.cells() <= u128::from(MOST_CELLS);
@@ -217,8 +234,9 @@ impl Card {
     }
 
     /// Rules 3 and 4: the finished coordinates of all copies of an element,
-    /// last replica iter fastest. For a card that passes checks 1 to 6.
-    pub fn copies_of(&self, flat: Flat) -> Vec<Coordinates> {
+    /// last replica iter fastest. An m below zero is not swizzled. For a card
+    /// that passes checks 1 to 6.
+    pub fn copies_of(&self, flat: Flat) -> Vec<Sums> {
         let mut base = [0; AXES];
         add_components(&mut base, &split(flat.0, self.shard()), self.shard());
         for (coordinate, offset) in base.iter_mut().zip(&self.offset) {
@@ -229,7 +247,9 @@ impl Card {
             let mut coordinates = base;
             let components = split(combination, self.replica());
             add_components(&mut coordinates, &components, self.replica());
-            coordinates[M_AXIS] = self.swizzle.apply(coordinates[M_AXIS]);
+            if let Ok(m) = u64::try_from(coordinates[M_AXIS]) {
+                coordinates[M_AXIS] = self.swizzle.apply(m).into();
+            }
             coordinates
         };
         combinations.map(copy).collect()
@@ -243,14 +263,19 @@ impl Card {
     }
 
     /// The cells of all copies of an element, or refusal 7 with the smallest
-    /// axis on which any copy of it lies outside.
+    /// axis on which any copy of it lies outside, at either end.
     pub fn cells_of(&self, flat: Flat) -> Result<Vec<Cell>, Refusal> {
         let copies = self.copies_of(flat);
-        let outside = |axis: &usize| copies.iter().any(|copy| copy[*axis] >= self.space[*axis]);
-        match (0..AXES).find(outside) {
-            Some(axis) => Err(Refusal::with(OUTSIDE_SPACE, flat.0, axis as u64)),
-            None => Ok(copies.iter().map(|copy| self.cell(copy)).collect()),
+        let outside = |axis: &usize| {
+            let length = Number::from(self.space[*axis]);
+            let inside = |copy: &Sums| (0..length).contains(&copy[*axis]);
+            !copies.iter().all(inside)
+        };
+        if let Some(axis) = (0..AXES).find(outside) {
+            return Err(Refusal::with(OUTSIDE_SPACE, flat.0, axis as u64));
         }
+        let inside = copies.iter().map(|copy| copy.map(|sum| sum as u64));
+        Ok(inside.map(|copy| self.cell(&copy)).collect())
     }
 }
 
@@ -282,7 +307,7 @@ impl Spot {
     }
 
     /// Rule 1: row-major, or refusal 9 or 10.
-    fn flat(&self, elements: u128) -> Result<Flat, Refusal> {
+    pub fn flat(&self, elements: u128) -> Result<Flat, Refusal> {
         if !(1..=8).contains(&self.dimensions) {
             return Err(Refusal::plain(SHAPE_NOT_ADMITTED));
         }
@@ -315,10 +340,11 @@ fn place(card: &Card, spot: &Spot, length: u64) -> Result<Vec<Cell>, Refusal> {
     card.cells_of(flat)
 }
 
-pub fn answer_place(numbers: &[u64]) -> Option<Answer> {
+pub fn answer_place(numbers: &[Number]) -> Option<Answer> {
     let card = Card::of(numbers)?;
-    let spot = Spot::of(numbers.get(Card::NUMBERS..)?)?;
-    let length = *numbers.last()?;
+    let rest = plain(numbers.get(Card::NUMBERS..)?)?;
+    let spot = Spot::of(&rest)?;
+    let length = *rest.last()?;
     if length > MOST_ENTRIES {
         return None;
     }
@@ -358,7 +384,7 @@ mod tests {
     }
 
     fn said(card: &Card, spot: &Spot, length: u64) -> String {
-        let numbers = [card.numbers(), spot.numbers(), vec![length]].concat();
+        let numbers = [card.numbers(), whole(&spot.numbers()), whole(&[length])].concat();
         answer_place(&numbers).map_or("?".to_string(), |answer| answer.print())
     }
 
@@ -419,6 +445,91 @@ mod tests {
         assert_eq!(cells(&card, 64), Ok(vec![Cell(64)]));
     }
 
+    /// One iter of 4 that runs backwards from this offset of m.
+    fn backwards(from: i32) -> Card {
+        let mut card = cards::card_of(&[cards::iter(4, -1, 7)], &[]);
+        card.offset[M_AXIS] = from.into();
+        card.space[M_AXIS] = 4;
+        card
+    }
+
+    #[test]
+    fn strides_that_run_backwards() {
+        for flat in 0..4 {
+            assert_eq!(cells(&backwards(3), flat), Ok(vec![Cell(3 - flat)]));
+        }
+        assert_eq!(cells(&backwards(2), 2), Ok(vec![Cell(0)]));
+        assert_eq!(cells(&backwards(2), 3), Err(Refusal::with(7, 3, 7)));
+        let mut card = cards::tile_x();
+        card.replica_slots[0].stride = -4;
+        card.offset[1] = 9;
+        assert_eq!(cells(&card, 127), Ok(vec![Cell(703), Cell(447)]));
+        card.offset[1] = 2;
+        assert_eq!(cells(&card, 127), Err(Refusal::with(7, 127, 1)));
+    }
+
+    #[test]
+    fn an_m_below_zero_is_not_swizzled() {
+        let mut card = cards::sixty_five();
+        card.offset[M_AXIS] = -1;
+        let m = |flat| card.copies_of(Flat(flat))[0][M_AXIS];
+        assert_eq!((m(0), m(1), m(64)), (-1, 0, 63));
+        assert_eq!(cells(&card, 0), Err(Refusal::with(7, 0, 7)));
+    }
+
+    #[test]
+    fn below_zero_lies_outside_on_its_own_axis() {
+        let replica = [cards::iter(2, -1, 6), cards::iter(2, -1, 2)];
+        let mut card = cards::card_of(&[cards::iter(2, 1, 7)], &replica);
+        assert_eq!(cells(&card, 1), Err(Refusal::with(7, 1, 2)));
+        card.offset[2] = 1;
+        card.space[2] = 2;
+        assert_eq!(cells(&card, 1), Err(Refusal::with(7, 1, 6)));
+        card.offset[6] = 1;
+        assert_eq!(cells(&card, 1), Err(Refusal::with(7, 1, 6)));
+        card.space[6] = 2;
+        assert_eq!(cells(&card, 1).map(|cells| cells.len()), Ok(4));
+    }
+
+    #[test]
+    fn sums_may_be_below_zero_on_the_way() {
+        let shard = [cards::iter(128, 65_535, 3), cards::iter(128, -65_536, 3)];
+        let mut card = cards::card_of(&shard, &[]);
+        card.offset[3] = 100;
+        card.space = [1; AXES];
+        assert_eq!(cells(&card, 128 * 100 + 100), Ok(vec![Cell(0)]));
+        assert_eq!(
+            cells(&card, 128 * 99 + 100),
+            Err(Refusal::with(7, 12_772, 3))
+        );
+    }
+
+    #[test]
+    fn limits_of_strides_and_offsets() {
+        let refused = |card: &Card| card.refusal().map(|refusal| refusal.number);
+        for (number, wanted) in [
+            (-65_537, Some(2)),
+            (-65_536, None),
+            (65_535, None),
+            (65_536, Some(2)),
+            (1 << 63, Some(2)),
+            (-(1 << 63), Some(2)),
+        ] {
+            let mut card = backwards(3);
+            card.shard_slots[0].stride = number;
+            assert_eq!(refused(&card), wanted);
+            card = cards::tile_x();
+            card.replica_slots[0].stride = number;
+            assert_eq!(refused(&card), wanted);
+            card = backwards(3);
+            card.offset[0] = number;
+            assert_eq!(refused(&card), wanted);
+            card = backwards(3);
+            card.shard_slots[1].stride = number;
+            assert_eq!(refused(&card), None);
+        }
+    }
+
     #[test]
     fn shapes_and_coordinates() {
         let card = cards::tile_x();
@@ -462,7 +573,7 @@ mod tests {
 
     #[test]
     fn cards_stand_on_a_line_as_they_are_read() {
-        let numbers: Vec<u64> = (100..157).collect();
+        let numbers: Vec<Number> = (100..157).collect();
         let card = Card::of(&numbers).unwrap();
         assert_eq!(card.numbers(), numbers);
         assert_eq!(card.shard_slots[7].axis, 124);

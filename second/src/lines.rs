@@ -44,6 +44,9 @@ impl Answer {
     }
 }
 
+/// A number as it stands on a line: from -2^63 to 2^64 - 1.
+pub type Number = i128;
+
 /// 1 to 20 digits, no leading zero but `0` itself, below 2^64.
 pub fn number(text: &[u8]) -> Option<u64> {
     let digits_only = text.iter().all(|byte| byte.is_ascii_digit());
@@ -58,8 +61,30 @@ pub fn number(text: &[u8]) -> Option<u64> {
     u64::try_from(value).ok()
 }
 
+/// The same, or a minus and then such a number from 1 to 2^63. Whether a
+/// number may be below zero where it stands is for the question to say.
+fn signed_number(text: &[u8]) -> Option<Number> {
+    match text.strip_prefix(b"-") {
+        None => number(text).map(Number::from),
+        Some(digits) => number(digits)
+            .filter(|size| (1..=1 << 63).contains(size))
+            .map(|size| -Number::from(size)),
+    }
+}
+
+/// Numbers none of which may be below zero.
+pub fn plain(numbers: &[Number]) -> Option<Vec<u64>> {
+    let plain = |number: &Number| u64::try_from(*number).ok();
+    numbers.iter().map(plain).collect()
+}
+
+/// Plain numbers as they stand on a line.
+pub fn whole(numbers: &[u64]) -> Vec<Number> {
+    numbers.iter().copied().map(Number::from).collect()
+}
+
 /// The word and the numbers of a line, if it is a question at all.
-fn question(line: &[u8]) -> Option<(&'static Word, Vec<u64>)> {
+fn question(line: &[u8]) -> Option<(&'static Word, Vec<Number>)> {
     if line.len() > LONGEST_LINE {
         return None;
     }
@@ -68,7 +93,7 @@ fn question(line: &[u8]) -> Option<(&'static Word, Vec<u64>)> {
     let mut pieces = line.split(|byte| *byte == b' ');
     let name = pieces.next()?;
     let word = WORDS.iter().find(|word| word.name.as_bytes() == name)?;
-    let numbers = pieces.map(number).collect::<Option<Vec<u64>>>()?;
+    let numbers = pieces.map(signed_number).collect::<Option<Vec<_>>>()?;
     (numbers.len() == word.count).then_some((word, numbers))
 }
 
@@ -138,6 +163,30 @@ mod tests {
     }
 
     #[test]
+    fn a_minus_stands_before_a_number_that_is_not_0() {
+        assert_eq!(signed_number(b"-1"), Some(-1));
+        assert_eq!(signed_number(b"18446744073709551615"), Some((1 << 64) - 1));
+        assert_eq!(signed_number(b"-9223372036854775808"), Some(-1 << 63));
+        let refused: [&[u8]; 12] = [
+            b"-",
+            b"-0",
+            b"-00",
+            b"-01",
+            b"--1",
+            b"-+1",
+            b"+1",
+            b"1-",
+            b"-9223372036854775809",
+            b"-18446744073709551615",
+            b"-99999999999999999999",
+            b"-100000000000000000000",
+        ];
+        for text in refused {
+            assert_eq!(signed_number(text), None, "{text:?}");
+        }
+    }
+
+    #[test]
     fn lines_end_at_a_line_feed_and_a_last_one_counts() {
         assert_eq!(all(b""), "");
         assert_eq!(all(b"\n\n\n"), "");
@@ -192,7 +241,7 @@ mod tests {
         let mut random = Random::new(0x6e75_6d62);
         for word in WORDS {
             for _ in 0..2_000 {
-                let numbers: Vec<u64> = (0..word.count).map(|_| random.hostile()).collect();
+                let numbers: Vec<Number> = (0..word.count).map(|_| random.any_sign()).collect();
                 (word.answer)(&numbers);
             }
         }

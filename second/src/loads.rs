@@ -1,8 +1,9 @@
 //! The loads: the committed blocks, one a word, and further random lines.
 
 use crate::malformed::{Question, LONG_KINDS, SHORT_KINDS};
+use crate::minus::{minus_lines, misspelt};
 use crate::random::{seed_of, Random};
-use crate::words::{Word, WORDS};
+use crate::words::{Further, Word, SIGNED, WORDS};
 
 /// One line in so many is spoiled.
 const SPOILED_ONE_IN: u64 = 5;
@@ -37,13 +38,43 @@ pub fn block(word: &Word) -> Vec<u8> {
     lines
 }
 
-/// All the committed blocks, in the order in which the words arrived.
+/// A further block: questions of a word that has one already.
+pub fn further_block(further: &Further) -> Vec<u8> {
+    let mut random = Random::new(further.seed);
+    let mut lines = Vec::new();
+    for _ in 0..further.lines {
+        let numbers = (further.numbers)(&mut random);
+        lines.extend(Question::new(further.name, &numbers).bytes());
+        lines.push(b'\n');
+    }
+    lines
+}
+
+/// All the committed blocks, in the order in which the words arrived, and
+/// then those of the later requests in theirs.
 pub fn blocks() -> Vec<u8> {
-    WORDS.iter().flat_map(block).collect()
+    let mut lines: Vec<u8> = WORDS.iter().flat_map(block).collect();
+    lines.extend(SIGNED.iter().flat_map(further_block));
+    lines.extend(minus_lines());
+    lines
+}
+
+/// A random line about a card with both signs.
+fn signed_line(random: &mut Random) -> Vec<u8> {
+    let further = &SIGNED[random.index(SIGNED.len())];
+    let question = Question::new(further.name, &(further.numbers)(random));
+    if random.once_in(2 * SPOILED_ONE_IN) {
+        misspelt(random, &question)
+    } else {
+        question.bytes()
+    }
 }
 
 /// One random line over all the words, without its line feed.
 fn random_line(random: &mut Random) -> Vec<u8> {
+    if random.once_in(3) {
+        return signed_line(random);
+    }
     let word = &WORDS[random.index(WORDS.len())];
     let question = question(random, word);
     if !random.once_in(SPOILED_ONE_IN) {
@@ -71,7 +102,7 @@ pub fn random_lines(seed: &[u8], count: u64) -> impl Iterator<Item = Vec<u8>> {
 mod tests {
     use super::*;
     use crate::lines::answers;
-    use std::collections::BTreeSet;
+    use std::collections::BTreeMap;
 
     /// The checks of each block and of its answers: an earlier block that
     /// changes when a word is added is noticed here.
@@ -89,17 +120,34 @@ mod tests {
         ("stretch", 16272147638502739761, 10244222593259610520),
     ];
 
+    /// The same of the further blocks.
+    const FURTHER_CHECKS: &[(&str, u64, u64)] = &[
+        ("signed place", 18402597439214138077, 13543764361806092965),
+        ("signed verdict", 769325158259103276, 10168840702218742869),
+        ("signed owner", 15539713363277863015, 7384937819183456542),
+        ("minus", 17708587910955146895, 13443572411003091850),
+    ];
+
+    fn checked<'a>(name: &'a str, lines: &[u8]) -> (&'a str, u64, u64) {
+        let said: String = answers(lines).collect();
+        (name, seed_of(lines), seed_of(said.as_bytes()))
+    }
+
     #[test]
     fn blocks_are_as_committed() {
-        let found: Vec<(&str, u64, u64)> = WORDS
-            .iter()
-            .map(|word| {
-                let lines = block(word);
-                let said: String = answers(&lines).collect();
-                (word.name, seed_of(&lines), seed_of(said.as_bytes()))
-            })
-            .collect();
-        assert_eq!(found, CHECKS);
+        let words = WORDS.iter().map(|word| checked(word.name, &block(word)));
+        assert_eq!(Vec::from_iter(words), CHECKS);
+    }
+
+    #[test]
+    fn further_blocks_are_as_committed() {
+        let mut blocks: Vec<Vec<u8>> = SIGNED.iter().map(further_block).collect();
+        blocks.push(minus_lines());
+        let both = FURTHER_CHECKS.iter().zip(&blocks);
+        let found = both.map(|((name, ..), lines)| checked(name, lines));
+        assert_eq!(Vec::from_iter(found), FURTHER_CHECKS);
+        let first: Vec<u8> = WORDS.iter().flat_map(block).collect();
+        assert!([first, blocks.concat()].concat() == super::blocks());
     }
 
     /// The numbers that a word's answers can have; its block reaches all.
@@ -117,15 +165,36 @@ mod tests {
         ("stretch", &[0, 3, 4, 11, 12]),
     ];
 
+    /// How often each number stands in the answers to these lines.
+    fn reached(lines: &[u8]) -> BTreeMap<u64, u64> {
+        let number = |text: String| text.split(' ').next()?.parse().ok();
+        let mut reached = BTreeMap::new();
+        for number in answers(lines).filter_map(number) {
+            *reached.entry(number).or_default() += 1;
+        }
+        reached
+    }
+
     #[test]
     fn blocks_reach_every_number() {
         assert_eq!(NUMBERS.len(), WORDS.len());
         for (word, (name, wanted)) in WORDS.iter().zip(NUMBERS) {
-            let lines = block(word);
-            let number = |text: String| text.split(' ').next()?.parse().ok();
-            let reached: BTreeSet<u64> = answers(&lines).filter_map(number).collect();
+            let reached = reached(&block(word));
             assert_eq!(word.name, *name);
-            assert_eq!(Vec::from_iter(reached), *wanted, "{name}");
+            assert_eq!(Vec::from_iter(reached.into_keys()), *wanted, "{name}");
+        }
+    }
+
+    #[test]
+    fn signed_blocks_are_approved_and_refused() {
+        for further in SIGNED {
+            let reached = reached(&further_block(further));
+            let often = |number| reached.get(&number).copied().unwrap_or(0) > 15;
+            let wanted: &[u64] = match further.name {
+                "place" => &[0, 2, 7, 9],
+                _ => &[0, 2, 7, 8],
+            };
+            assert!(wanted.iter().all(|number| often(*number)), "{reached:?}");
         }
     }
 
@@ -152,9 +221,11 @@ mod tests {
     }
 
     #[test]
-    fn every_word_has_its_own_seed() {
-        for (at, word) in WORDS.iter().enumerate() {
-            assert!(WORDS[..at].iter().all(|other| other.seed != word.seed));
+    fn every_block_has_its_own_seed() {
+        let words = WORDS.iter().map(|word| word.seed);
+        let seeds = Vec::from_iter(words.chain(SIGNED.iter().map(|further| further.seed)));
+        for (at, seed) in seeds.iter().enumerate() {
+            assert!(!seeds[..at].contains(seed));
         }
     }
 

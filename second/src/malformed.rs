@@ -14,10 +14,10 @@ pub struct Question<'a> {
 }
 
 impl Question<'_> {
-    pub fn new<'a>(word: &'a str, numbers: &[u64]) -> Question<'a> {
+    pub fn new<'a>(word: &'a str, numbers: &[impl ToString]) -> Question<'a> {
         Question {
             word,
-            numbers: numbers.iter().map(u64::to_string).collect(),
+            numbers: numbers.iter().map(ToString::to_string).collect(),
         }
     }
 
@@ -39,12 +39,17 @@ impl Question<'_> {
         line
     }
 
+    /// This text in the place of a number.
+    pub fn with(&self, at: usize, text: &str) -> Vec<u8> {
+        let mut numbers = self.numbers.clone();
+        numbers[at] = text.to_string();
+        self.joined(self.word, &numbers)
+    }
+
     /// One of the numbers changed.
     fn changed(&self, random: &mut Random, change: impl Fn(&str) -> String) -> Vec<u8> {
-        let mut numbers = self.numbers.clone();
-        let at = random.index(numbers.len());
-        numbers[at] = change(&numbers[at]);
-        self.joined(self.word, &numbers)
+        let at = random.index(self.numbers.len());
+        self.with(at, &change(&self.numbers[at]))
     }
 
     /// One of the spaces replaced.

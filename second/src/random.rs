@@ -3,6 +3,8 @@
 //! The committed blocks are made with these, so what a picker gives for a
 //! given state is never changed; a new need gets a new picker.
 
+use crate::lines::Number;
+
 /// FNV-1a over 64 bits: turns any text into a seed.
 pub fn seed_of(text: &[u8]) -> u64 {
     text.iter().fold(0xcbf2_9ce4_8422_2325, |hash: u64, byte| {
@@ -84,6 +86,16 @@ impl Random {
                 self.next() >> bits
             }
             _ => self.next(),
+        }
+    }
+
+    /// Hostile numbers as they may stand on a line where both signs are
+    /// allowed: from -2^63 on, and below 2^64.
+    pub fn any_sign(&mut self) -> Number {
+        let size = Number::from(self.hostile());
+        match self.below(2) {
+            0 => size,
+            _ => (-size).max(Number::from(i64::MIN)),
         }
     }
 }

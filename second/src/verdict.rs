@@ -7,7 +7,7 @@ use crate::layout::{
     lent_entries, whole_product, Card, Cell, Coordinates, Flat, Refusal, AXES, MOST_CELLS,
     MOST_LENGTH, TOO_SHORT, WRONG_AXIS, WRONG_SPACE,
 };
-use crate::lines::Answer;
+use crate::lines::{plain, whole, Answer, Number};
 use crate::random::Random;
 use std::collections::{BTreeMap, BTreeSet};
 
@@ -137,16 +137,16 @@ fn lent_table(numbers: &[u64]) -> Option<Vec<u64>> {
     (length <= MOST_ENTRIES).then(|| lent_entries(length))
 }
 
-pub fn answer_verdict(numbers: &[u64]) -> Option<Answer> {
-    let mut table = lent_table(numbers)?;
+pub fn answer_verdict(numbers: &[Number]) -> Option<Answer> {
+    let mut table = lent_table(&plain(numbers.get(Card::NUMBERS..)?)?)?;
     let result = verdict(&Card::of(numbers)?, &mut table);
     Some(printed(result, &table))
 }
 
-pub fn answer_owner(numbers: &[u64]) -> Option<Answer> {
-    let mut table = lent_table(numbers)?;
-    let asked = numbers.get(Card::NUMBERS..)?.first_chunk()?;
-    let result = owner(&Card::of(numbers)?, asked, &mut table);
+pub fn answer_owner(numbers: &[Number]) -> Option<Answer> {
+    let rest = plain(numbers.get(Card::NUMBERS..)?)?;
+    let mut table = lent_table(&rest)?;
+    let result = owner(&Card::of(numbers)?, rest.first_chunk()?, &mut table);
     Some(printed(result, &table))
 }
 
@@ -191,17 +191,27 @@ fn random_asked(random: &mut Random, space: &[u64; AXES]) -> Coordinates {
     asked
 }
 
-pub fn verdict_numbers(random: &mut Random) -> Vec<u64> {
-    let card = random_card(random);
+/// The numbers of a verdict on this card.
+pub fn verdict_on(random: &mut Random, card: &Card) -> Vec<Number> {
     let length = random_length(random, card.cells());
-    [card.numbers(), vec![length]].concat()
+    [card.numbers(), whole(&[length])].concat()
 }
 
-pub fn owner_numbers(random: &mut Random) -> Vec<u64> {
-    let card = random_card(random);
+/// The numbers of a question for the owner of some cell of this card.
+pub fn owner_on(random: &mut Random, card: &Card) -> Vec<Number> {
     let asked = random_asked(random, &card.space);
     let length = random_length(random, card.cells());
-    [&card.numbers()[..], &asked, &[length]].concat()
+    [card.numbers(), whole(&asked), whole(&[length])].concat()
+}
+
+pub fn verdict_numbers(random: &mut Random) -> Vec<Number> {
+    let card = random_card(random);
+    verdict_on(random, &card)
+}
+
+pub fn owner_numbers(random: &mut Random) -> Vec<Number> {
+    let card = random_card(random);
+    owner_on(random, &card)
 }
 
 /// Lengths of a space: a few axes of some length, sometimes too many cells.
@@ -251,6 +261,7 @@ mod tests {
     use crate::cards;
     use crate::layout::M_AXIS;
     use crate::lines::answer_line;
+    use crate::signed::signed_card;
 
     /// The verdict's number and details on a card with a table to spare, the
     /// table after it, and the number of cells.
@@ -313,6 +324,18 @@ mod tests {
             owner(&card, &asked, &mut [0; 511]),
             Err(Refusal::with(11, 512, 0))
         );
+    }
+
+    #[test]
+    fn last_row_first() {
+        let mut card = cards::card_of(&[cards::iter(4, -1, 7)], &[]);
+        card.space[M_AXIS] = 4;
+        card.offset[M_AXIS] = 3;
+        says(&card, "0 4 4 4");
+        assert_eq!(judged(&card).1[..4], [4, 3, 2, 1]);
+        assert_eq!(owner(&card, &[0; AXES], &mut [0; 4]), Ok([4, 0, 0]));
+        card.offset[M_AXIS] = 2;
+        says(&card, "7 3 7 0");
     }
 
     #[test]
@@ -381,8 +404,9 @@ mod tests {
     #[test]
     fn approved_exactly_when_all_lie_inside_and_none_share() {
         let mut random = Random::new(8);
-        for _ in 0..300 {
-            let card = random_card(&mut random);
+        for at in 0..600 {
+            let make = [random_card, signed_card][at % 2];
+            let card = make(&mut random);
             if card.refusal().is_some() || card.elements() * card.copies() > 4_096 {
                 continue;
             }

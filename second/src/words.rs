@@ -6,9 +6,10 @@
 use crate::cards;
 use crate::fragment;
 use crate::layout;
-use crate::lines::Answer;
+use crate::lines::{plain, whole, Answer, Number};
 use crate::mask;
 use crate::random::Random;
+use crate::signed;
 use crate::swizzle;
 use crate::verdict;
 
@@ -17,16 +18,25 @@ pub struct Word {
     /// How many numbers follow the word.
     pub count: usize,
     /// The answer to so many numbers; none where one breaks the program's
-    /// own limit.
-    pub answer: fn(&[u64]) -> Option<Answer>,
+    /// own limit or is below zero where it may not be.
+    pub answer: fn(&[Number]) -> Option<Answer>,
     /// Random numbers for one question.
-    pub numbers: fn(&mut Random) -> Vec<u64>,
+    pub numbers: fn(&mut Random) -> Vec<Number>,
     /// The seed of the word's committed block.
     pub seed: u64,
     /// How many lines the block has.
     pub lines: usize,
     /// How many of them are longer than the longest question.
     pub long_lines: usize,
+}
+
+/// A further block of a word, which came with a later request. Its lines are
+/// all of them questions.
+pub struct Further {
+    pub name: &'static str,
+    pub numbers: fn(&mut Random) -> Vec<Number>,
+    pub seed: u64,
+    pub lines: usize,
 }
 
 pub const SWIZZLE_SEED: u64 = 0x7377_697a_7a6c_6501;
@@ -40,13 +50,16 @@ pub const PLACE_SEED: u64 = 0x706c_6163_6500_0008;
 pub const VERDICT_SEED: u64 = 0x7665_7264_6963_7409;
 pub const OWNER_SEED: u64 = 0x6f77_6e65_7200_007a;
 pub const STRETCH_SEED: u64 = 0x7374_7265_7463_680b;
+pub const SIGNED_PLACE_SEED: u64 = 0x7369_676e_6564_0001;
+pub const SIGNED_VERDICT_SEED: u64 = 0x7369_676e_6564_0002;
+pub const SIGNED_OWNER_SEED: u64 = 0x7369_676e_6564_0003;
 
 pub const WORDS: &[Word] = &[
     Word {
         name: "swizzle",
         count: 4,
-        answer: swizzle::answer_swizzle,
-        numbers: swizzle::swizzle_numbers,
+        answer: |numbers| swizzle::answer_swizzle(&plain(numbers)?),
+        numbers: |random| whole(&swizzle::swizzle_numbers(random)),
         seed: SWIZZLE_SEED,
         lines: 400,
         long_lines: 8,
@@ -54,8 +67,8 @@ pub const WORDS: &[Word] = &[
     Word {
         name: "mode",
         count: 2,
-        answer: swizzle::answer_mode,
-        numbers: swizzle::mode_numbers,
+        answer: |numbers| swizzle::answer_mode(&plain(numbers)?),
+        numbers: |random| whole(&swizzle::mode_numbers(random)),
         seed: MODE_SEED,
         lines: 400,
         long_lines: 1,
@@ -63,8 +76,8 @@ pub const WORDS: &[Word] = &[
     Word {
         name: "fragment",
         count: 3,
-        answer: fragment::answer_fragment,
-        numbers: fragment::fragment_numbers,
+        answer: |numbers| fragment::answer_fragment(&plain(numbers)?),
+        numbers: |random| whole(&fragment::fragment_numbers(random)),
         seed: FRAGMENT_SEED,
         lines: 400,
         long_lines: 1,
@@ -72,8 +85,8 @@ pub const WORDS: &[Word] = &[
     Word {
         name: "holder",
         count: 4,
-        answer: fragment::answer_holder,
-        numbers: fragment::holder_numbers,
+        answer: |numbers| fragment::answer_holder(&plain(numbers)?),
+        numbers: |random| whole(&fragment::holder_numbers(random)),
         seed: HOLDER_SEED,
         lines: 400,
         long_lines: 1,
@@ -81,8 +94,8 @@ pub const WORDS: &[Word] = &[
     Word {
         name: "fields",
         count: 1,
-        answer: mask::answer_fields,
-        numbers: mask::fields_numbers,
+        answer: |numbers| mask::answer_fields(&plain(numbers)?),
+        numbers: |random| whole(&mask::fields_numbers(random)),
         seed: FIELDS_SEED,
         lines: 400,
         long_lines: 1,
@@ -90,8 +103,8 @@ pub const WORDS: &[Word] = &[
     Word {
         name: "descriptor",
         count: 12,
-        answer: mask::answer_descriptor,
-        numbers: mask::descriptor_numbers,
+        answer: |numbers| mask::answer_descriptor(&plain(numbers)?),
+        numbers: |random| whole(&mask::descriptor_numbers(random)),
         seed: DESCRIPTOR_SEED,
         lines: 400,
         long_lines: 1,
@@ -99,8 +112,8 @@ pub const WORDS: &[Word] = &[
     Word {
         name: "mask",
         count: 4,
-        answer: mask::answer_mask,
-        numbers: mask::mask_numbers,
+        answer: |numbers| mask::answer_mask(&plain(numbers)?),
+        numbers: |random| whole(&mask::mask_numbers(random)),
         seed: MASK_SEED,
         lines: 400,
         long_lines: 1,
@@ -135,10 +148,32 @@ pub const WORDS: &[Word] = &[
     Word {
         name: "stretch",
         count: 18,
-        answer: verdict::answer_stretch,
-        numbers: verdict::stretch_numbers,
+        answer: |numbers| verdict::answer_stretch(&plain(numbers)?),
+        numbers: |random| whole(&verdict::stretch_numbers(random)),
         seed: STRETCH_SEED,
         lines: 400,
         long_lines: 1,
+    },
+];
+
+/// Cards whose strides and offsets have both signs.
+pub const SIGNED: &[Further] = &[
+    Further {
+        name: "place",
+        numbers: signed::place_numbers,
+        seed: SIGNED_PLACE_SEED,
+        lines: 200,
+    },
+    Further {
+        name: "verdict",
+        numbers: signed::verdict_numbers,
+        seed: SIGNED_VERDICT_SEED,
+        lines: 260,
+    },
+    Further {
+        name: "owner",
+        numbers: signed::owner_numbers,
+        seed: SIGNED_OWNER_SEED,
+        lines: 200,
     },
 ];

@@ -8,8 +8,8 @@ use borrow.Author.Tests.{leb-true}
 use lib.Dec.{leb}
 use Rattle.answers.specs.declared.Refusal.{Refusal}
 use Rattle.answers.specs.declared.Refusal.the-variants.{Counts, Limits, Axis, Space, TooMany, Swizzle}
-use Rattle.card.specs.Lists.{all, within}
-use Rattle.card.specs.Limits.{mostExtent, mostStride, mostLength, mostCells, mostElements, mostCopies}
+use Rattle.card.specs.Lists.{all, within, withinZ}
+use Rattle.card.specs.Limits.{mostExtent, leastStride, mostStride, mostLength, mostCells, mostElements, mostCopies}
 use Rattle.card.specs.Card.{listed, extentOf, strideOf, elements, copies, cells}
 use Rattle.card.specs.Admission.{countsFit, itersFit, numbersFit, axesFit, spaceFits, fewEnough, swizzleFits, admission}
 use Rattle.card.specs.declared.Iters.{Iters}
@@ -46,21 +46,21 @@ checked card e =
 -- the extents and the strides of a list of iters that fit
 pub record Fitting (iters : Iters) : Type 0 where
   pub extents : all (within 1 mostExtent) (map extentOf (listed iters)) ≡ true
-  pub strides : all (within 0 mostStride) (map strideOf (listed iters)) ≡ true
+  pub strides : all (withinZ leastStride mostStride) (map strideOf (listed iters)) ≡ true
 
 pub fitting : (iters : Iters) → itersFit iters ≡ true → Fitting iters
 fitting iters t =
-    let both = and-eq-true-iff (all (within 1 mostExtent) (map extentOf (listed iters))) (all (within 0 mostStride) (map strideOf (listed iters))) .0 t in
+    let both = and-eq-true-iff (all (within 1 mostExtent) (map extentOf (listed iters))) (all (withinZ leastStride mostStride) (map strideOf (listed iters))) .0 t in
     record { extents = both .0; strides = both .1 }
 
 pub record Numbered (card : Card) : Type 0 where
   pub shard : Fitting (card .shard)
   pub replica : Fitting (card .replica)
-  pub offset : all (within 0 mostStride) (card .offset) ≡ true
+  pub offset : all (withinZ leastStride mostStride) (card .offset) ≡ true
 
 pub numbered : (card : Card) → numbersFit card ≡ true → Numbered card
 numbered card t =
-    let both = and-eq-true-iff (itersFit (card .shard) && itersFit (card .replica)) (all (within 0 mostStride) (card .offset)) .0 t in
+    let both = and-eq-true-iff (itersFit (card .shard) && itersFit (card .replica)) (all (withinZ leastStride mostStride) (card .offset)) .0 t in
     let iters = and-eq-true-iff (itersFit (card .shard)) (itersFit (card .replica)) .0 (both .0) in
     record { shard = fitting (card .shard) (iters .0); replica = fitting (card .replica) (iters .1); offset = both .1 }
 

@@ -8,12 +8,12 @@ use lib.ListN.{length, getD, take, set, length-set}
 use lib.Seq.{take-suc, take-suc-set, take-all}
 
 -- the first k entries of the column are those of the list
-pub record Filled {A : Type 0} (f : A → ℕ) (l : List A) (k : ℕ) (column : List ℕ) : Type 0 where
+pub record Filled {A B : Type 0} (f : A → B) (l : List A) (k : ℕ) (column : List B) : Type 0 where
   pub whole : length column ≡ length l
   pub so-far : take k column ≡ map f (take k l)
 
-module _ {A : Type 0} (f : A → ℕ) (l : List A) where
-  pub filled-more : (k : ℕ) (other : A) {column : List ℕ} → k < length l → Filled f l k column → Filled f l (k + 1) (set column k (f (getD l k other)))
+module _ {A B : Type 0} (f : A → B) (l : List A) where
+  pub filled-more : (k : ℕ) (other : A) {column : List B} → k < length l → Filled f l k column → Filled f l (k + 1) (set column k (f (getD l k other)))
   filled-more k other {column} h d =
       let x = f (getD l k other) in
       let fits : k < length column = omega (arith, d .whole) in
@@ -22,10 +22,10 @@ module _ {A : Type 0} (f : A → ℕ) (l : List A) where
         so-far =
             rw add-one
             (take-suc-set column k x fits
-            ∙ ap (λ (t : List ℕ). t ++ (x ∷ [])) (d .so-far)
+            ∙ ap (λ (t : List B). t ++ (x ∷ [])) (d .so-far)
             ∙ sym (ap (map f) (take-suc l k other h) ∙ map-append f (take k l) (getD l k other ∷ [])));
       }
 
-  pub filled-all : {k : ℕ} {column : List ℕ} → length l ≤ k → Filled f l k column → column ≡ map f l
+  pub filled-all : {k : ℕ} {column : List B} → length l ≤ k → Filled f l k column → column ≡ map f l
   filled-all {k} {column} h d =
       sym (take-all k column (omega (arith, d .whole))) ∙ d .so-far ∙ ap (map f) (take-all k l h)

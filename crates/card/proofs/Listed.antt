@@ -15,11 +15,11 @@ use Rattle.card.specs.declared.Iter.{Iter}
 use Rattle.card.specs.declared.Iters.{Iters}
 use Rattle.card.specs.declared.Card.{Card}
 
-module _ (f : Iter → ℕ) (iters : Iters) where
-  listed-column : {column : List ℕ} → column ≡ map f (iters .at) → take (iters .count) column ≡ map f (listed iters)
+module _ {A : Type 0} (f : Iter → A) (iters : Iters) where
+  listed-column : {column : List A} → column ≡ map f (iters .at) → take (iters .count) column ≡ map f (listed iters)
   listed-column e = ap (take (iters .count)) e ∙ sym (map-take f (iters .count) (iters .at))
 
-pub listed-all : (p : ℕ → Bool) (f : Iter → ℕ) (iters : Iters) {column : List ℕ} → column ≡ map f (iters .at)
+pub listed-all : {A : Type 0} (p : A → Bool) (f : Iter → A) (iters : Iters) {column : List A} → column ≡ map f (iters .at)
     → all p (take (iters .count) column) ≡ all p (map f (listed iters))
 listed-all p f iters e = ap (all p) (listed-column f iters e)
 

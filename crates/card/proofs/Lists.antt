@@ -6,11 +6,16 @@ use Prim.Native.Nat.{ℕ, zero, suc, _+_, _*_, _≤_, _<_, min}
 use native.Mathlib.Nat.{mul-assoc, mul-one, min-eq-left, not-suc-le-zero, le-of-suc-le-suc, le-refl, one-le-mul}
 use borrow.Author.Tests.{leb-true}
 use lib.Dec.{leb}
+use lib.IntN.{ℤ, natAbs}
 use lib.ListN.{length, getD, take}
 use lib.Seq.{slice, slice-empty}
+use lib.Signed.{mag}
 use Rattle.laws.proofs.Capped.{capped-part}
 use Rattle.laws.proofs.Lists.{slice-next}
-use Rattle.card.specs.Lists.{all, within, product}
+use Rattle.laws.proofs.Signed.{between-far}
+use Rattle.card.specs.Lists.{all, within, withinZ, product}
+use Rattle.card.specs.Limits.{leastStride, mostStride}
+use Rattle.card.specs.Inside.{farthest}
 
 module _ {A : Type 0} (p : A → Bool) (l : List A) (n : ℕ) where
   -- what a loop that has tested the first k elements still owes
@@ -53,6 +58,9 @@ all-at p (x ∷ l) (suc k) other t h = all-at p l k other (and-eq-true-iff (p x)
 pub within-numbers : (least most n : ℕ) → within least most n ≡ true → (least ≤ n) × (n ≤ most)
 within-numbers least most n t =
     let both = and-eq-true-iff (leb least n) (leb n most) .0 t in (leb-true least n (both .0), leb-true n most (both .1))
+
+pub stride-far : (z : ℤ) → withinZ leastStride mostStride z ≡ true → natAbs z ≤ farthest
+stride-far = between-far (mag mostStride)
 
 -- a product of numbers from 1 on is at least 1
 pub product-positive : (most : ℕ) (l : List ℕ) → all (within 1 most) l ≡ true → 1 ≤ product l

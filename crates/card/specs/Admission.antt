@@ -7,8 +7,8 @@ use Rattle.answers.specs.Refusals.{answer, refusalNumbers}
 use Rattle.answers.specs.declared.Numbers.{Numbers}
 use Rattle.answers.specs.declared.Refusal.the-variants.{Counts, Limits, Axis, Space, TooMany, Swizzle}
 use Rattle.swizzle.specs.Swizzle.{permitted}
-use Rattle.card.specs.Lists.{all, within, product}
-use Rattle.card.specs.Limits.{mostShard, mostReplica, mostExtent, mostStride, lastAxis, mostLength, mostCells, mostElements, mostCopies}
+use Rattle.card.specs.Lists.{all, within, withinZ, product}
+use Rattle.card.specs.Limits.{mostShard, mostReplica, mostExtent, leastStride, mostStride, lastAxis, mostLength, mostCells, mostElements, mostCopies}
 use Rattle.card.specs.Card.{listed, extentOf, strideOf, axisOf, elements, copies}
 use Rattle.card.specs.declared.Iters.{Iters}
 use Rattle.card.specs.declared.Card.{Card}
@@ -21,10 +21,10 @@ countsFit card = within 1 mostShard (card .shard .count) && leb (card .replica .
 
 -- check 2: every extent, stride and offset within limits
 abbrev pub itersFit : Iters → Bool
-itersFit iters = all (within 1 mostExtent) (map extentOf (listed iters)) && all (within 0 mostStride) (map strideOf (listed iters))
+itersFit iters = all (within 1 mostExtent) (map extentOf (listed iters)) && all (withinZ leastStride mostStride) (map strideOf (listed iters))
 
 abbrev pub numbersFit : Card → Bool
-numbersFit card = itersFit (card .shard) && itersFit (card .replica) && all (within 0 mostStride) (card .offset)
+numbersFit card = itersFit (card .shard) && itersFit (card .replica) && all (withinZ leastStride mostStride) (card .offset)
 
 -- check 3: no axis above 7
 abbrev pub itersOnAxes : Iters → Bool

@@ -1,5 +1,6 @@
 -- What a layout card holds: its iters are the first count of each list, and their products are the elements, the copies and the cells.
 use Prim.Native.Nat.{ℕ}
+use lib.IntN.{ℤ}
 use mathlib.Core.List.{List, map}
 use lib.ListN.{take}
 use Rattle.card.specs.Lists.{product}
@@ -14,7 +15,7 @@ listed iters = take (iters .count) (iters .at)
 abbrev pub extentOf : Iter → ℕ
 extentOf iter = iter .extent
 
-abbrev pub strideOf : Iter → ℕ
+abbrev pub strideOf : Iter → ℤ
 strideOf iter = iter .stride
 
 abbrev pub axisOf : Iter → ℕ

@@ -1,5 +1,6 @@
 -- Document 01's limits of a layout card, each named once.
 use Prim.Native.Nat.{ℕ}
+use lib.IntN.{ℤ, pos, negℤ}
 
 -- the shard has 1 to 8 iters, the replica 0 to 4
 abbrev pub mostShard : ℕ
@@ -12,9 +13,12 @@ mostReplica = 4
 abbrev pub mostExtent : ℕ
 mostExtent = 16384
 
--- strides and offsets 0 to 65,535
-abbrev pub mostStride : ℕ
-mostStride = 65535
+-- strides and offsets -65,536 to 65,535
+abbrev pub leastStride : ℤ
+leastStride = negℤ (pos 65536)
+
+abbrev pub mostStride : ℤ
+mostStride = pos 65535
 
 -- axes, by number: 0 pid, 1 warpid, 2 laneid, 3 P, 4 F, 5 TLane, 6 TCol, 7 m
 abbrev pub lastAxis : ℕ

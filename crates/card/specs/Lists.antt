@@ -3,9 +3,14 @@ use Prim.Native.Nat.{ℕ, _*_}
 use mathlib.Core.Bool.{Bool, true, _&&_}
 use mathlib.Core.List.{List, [], _∷_}
 use lib.Dec.{leb}
+use lib.IntN.{ℤ}
+use lib.Signed.{leZ}
 
 abbrev pub within : ℕ → ℕ → ℕ → Bool
 within least most n = leb least n && leb n most
+
+abbrev pub withinZ : ℤ → ℤ → ℤ → Bool
+withinZ least most z = leZ least z && leZ z most
 
 abbrev pub all : {A : Type 0} → (A → Bool) → List A → Bool
 all p [] = true

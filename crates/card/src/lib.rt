@@ -5,10 +5,11 @@ use answers::Refusal;
 use swizzle::Swizzle;
 ghost use mathlib.Core.Path.{_≡_};
 ghost use mathlib.Core.Bool.{true};
+ghost use mathlib.Core.List.{map};
 ghost use Prim.Native.Nat.{_*_, _≤_, min};
 ghost use lib.ListN.{take};
-ghost use Rattle.card.specs.Lists.{all, within, product};
-ghost use Rattle.card.specs.Card.{size};
+ghost use Rattle.card.specs.Lists.{all, within, withinZ, product};
+ghost use Rattle.card.specs.Card.{size, strideOf};
 ghost use Rattle.card.specs.Inside.{beyond, columns, sizes};
 ghost use Rattle.card.specs.Admission.{countsFit, itersFit, numbersFit, itersOnAxes, axesFit, spaceFits, fewEnough, admission, admissionNumbers};
 
@@ -17,16 +18,18 @@ const MOST_SHARD: u64 = 8;
 
 const MOST_REPLICA: u64 = 4;
 
-// The largest extent, and the largest stride and offset.
+// The largest extent, and the least and the largest stride and offset.
 const MOST_EXTENT: u64 = 16384;
 
-const MOST_STRIDE: u64 = 65535;
+const LEAST_STRIDE: i64 = -65536;
+
+const MOST_STRIDE: i64 = 65535;
 
 // The axes are 0 to 7.
 pub const LAST_AXIS: u64 = 7;
 
 // The largest length of an axis, and the most cells, elements and copies.
-const MOST_LENGTH: u64 = 16384;
+pub const MOST_LENGTH: u64 = 16384;
 
 const MOST_CELLS: u64 = 16384;
 
@@ -40,7 +43,7 @@ pub const BEYOND: u64 = 4294967296;
 // An extent, a stride and an axis.
 pub struct Iter {
     pub extent: u64,
-    pub stride: u64,
+    pub stride: i64,
     pub axis: u64,
 }
 
@@ -53,7 +56,7 @@ pub struct Iters {
 // The numbers of a list of iters, as arrays.
 struct Columns {
     extents: [u64; 8],
-    strides: [u64; 8],
+    strides: [i64; 8],
     axes: [u64; 8],
 }
 
@@ -61,7 +64,7 @@ struct Columns {
 pub struct Card {
     pub shard: Iters,
     pub replica: Iters,
-    pub offset: [u64; 8],
+    pub offset: [i64; 8],
     pub lengths: [u64; 8],
     pub swizzle: Swizzle,
 }
@@ -84,13 +87,14 @@ fn unpack(iters: Iters) -> Columns
     ensures { λ r. ⌜ r ≡ columns (iters .at) ⌝ }
 {
     let mut extents: [u64; 8] = [0; 8];
-    let mut strides: [u64; 8] = [0; 8];
+    let mut strides: [i64; 8] = [0; 8];
     let mut axes: [u64; 8] = [0; 8];
     let mut k: usize = 0;
     while k < 8 {
         let iter = iters.at[k];
         extents[k] = iter.extent;
-        strides[k] = iter.stride;
+        let stride = iter.stride;
+        strides[k] = stride;
         axes[k] = iter.axis;
         k += 1;
     }
@@ -101,10 +105,33 @@ fn unpack(iters: Iters) -> Columns
     }
 }
 
+// The strides of all eight iters. Public for the crates above, which lend a card's numbers.
+pub fn strides(iters: Iters) -> [i64; 8]
+    ensures { λ r. ⌜ r ≡ map strideOf (iters .at) ⌝ }
+{
+    let columns = unpack(iters);
+    columns.strides
+}
+
 // Whether the first `count` numbers all lie within the limits.
 fn all_within(numbers: [u64; 8], count: u64, least: u64, most: u64) -> bool
     requires { ⌜ count ≤ 8 ⌝ }
     ensures { λ r. ⌜ r ≡ all (within least most) (take count numbers) ⌝ }
+{
+    let mut fit = true;
+    let mut k: u64 = 0;
+    while k < count {
+        let number = numbers[k as usize];
+        fit = fit & ((least <= number) & (number <= most));
+        k += 1;
+    }
+    fit
+}
+
+// The same of signed numbers.
+fn all_between(numbers: [i64; 8], count: u64, least: i64, most: i64) -> bool
+    requires { ⌜ count ≤ 8 ⌝ }
+    ensures { λ r. ⌜ r ≡ all (withinZ least most) (take count numbers) ⌝ }
 {
     let mut fit = true;
     let mut k: u64 = 0;
@@ -163,7 +190,7 @@ fn iters_fit(iters: Iters) -> bool
     let extents = columns.extents;
     let strides = columns.strides;
     all_within(extents, iters.count, 1, MOST_EXTENT)
-        & all_within(strides, iters.count, 0, MOST_STRIDE)
+        & all_between(strides, iters.count, LEAST_STRIDE, MOST_STRIDE)
 }
 
 // Check 2: every extent, stride and offset.
@@ -174,7 +201,7 @@ fn numbers_fit(card: Card) -> bool
     let shard = card.shard;
     let replica = card.replica;
     let offset = card.offset;
-    iters_fit(shard) & iters_fit(replica) & all_within(offset, 8, 0, MOST_STRIDE)
+    iters_fit(shard) & iters_fit(replica) & all_between(offset, 8, LEAST_STRIDE, MOST_STRIDE)
 }
 
 // Whether every axis of a list of iters is one.

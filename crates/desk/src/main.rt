@@ -14,7 +14,7 @@ use lines::words;
 use lines::words::Word;
 
 // Answers a question that has all its numbers.
-fn ask(word: Word, numbers: &[u64; 80]) -> Reply {
+fn ask(word: Word, numbers: &[u64; 80], below: &[bool; 80]) -> Reply {
     match word {
         Word::Swizzle => swizzles::swizzle(numbers),
         Word::Mode => swizzles::mode(numbers),
@@ -23,9 +23,9 @@ fn ask(word: Word, numbers: &[u64; 80]) -> Reply {
         Word::Fields => masks::fields(numbers),
         Word::Descriptor => masks::descriptor(numbers),
         Word::Mask => masks::mask(numbers),
-        Word::Place => layouts::place(numbers),
-        Word::Verdict => tables::verdict(numbers),
-        Word::Owner => tables::owner(numbers),
+        Word::Place => layouts::place(numbers, below),
+        Word::Verdict => tables::verdict(numbers, below),
+        Word::Owner => tables::owner(numbers, below),
         Word::Stretch => tables::stretch(numbers),
         Word::Unknown => reply::unknown(),
     }
@@ -34,8 +34,9 @@ fn ask(word: Word, numbers: &[u64; 80]) -> Reply {
 // Answers a line of so many bytes.
 fn answer(line: &[u8; 4096], held: usize) -> Reply {
     let mut numbers = [0u64; 80];
-    let word = words::question(line, held, &mut numbers);
-    ask(word, &numbers)
+    let mut below = [false; 80];
+    let word = words::question(line, held, &mut numbers, &mut below);
+    ask(word, &numbers, &below)
 }
 
 // Answers every line of the input. A proved loop has to end, so it counts its turns down from a

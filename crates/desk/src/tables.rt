@@ -9,39 +9,39 @@ use lines::reply::Reply;
 const MOST_LENT: u64 = 16384;
 
 // The verdict that a line asks for, in entries as they are lent.
-fn ask_verdict(numbers: &[u64; 80], lent: &mut [u32]) -> Reply {
+fn ask_verdict(numbers: &[u64; 80], below: &[bool; 80], lent: &mut [u32]) -> Reply {
     fill(lent);
-    let verdict = verdict::judge(card(numbers), lent);
+    let verdict = verdict::judge(card(numbers, below), lent);
     reply::digest(judgement::verdict_numbers(verdict), lent)
 }
 
 // verdict CARD length
-pub fn verdict(numbers: &[u64; 80]) -> Reply {
+pub fn verdict(numbers: &[u64; 80], below: &[bool; 80]) -> Reply {
     let asked = numbers[57];
     if MOST_LENT < asked {
         return reply::unknown();
     }
     let length = asked as usize;
     let mut lent = [0u32; 16384];
-    ask_verdict(numbers, &mut lent[0..length])
+    ask_verdict(numbers, below, &mut lent[0..length])
 }
 
 // The owner that a line asks for, in entries as they are lent.
-fn ask_owner(numbers: &[u64; 80], lent: &mut [u32]) -> Reply {
+fn ask_owner(numbers: &[u64; 80], below: &[bool; 80], lent: &mut [u32]) -> Reply {
     fill(lent);
-    let owner = verdict::owner_of(card(numbers), eight(numbers, 57), lent);
+    let owner = verdict::owner_of(card(numbers, below), eight(numbers, 57), lent);
     reply::digest(judgement::owner_numbers(owner), lent)
 }
 
 // owner CARD eight coordinates, length
-pub fn owner(numbers: &[u64; 80]) -> Reply {
+pub fn owner(numbers: &[u64; 80], below: &[bool; 80]) -> Reply {
     let asked = numbers[65];
     if MOST_LENT < asked {
         return reply::unknown();
     }
     let length = asked as usize;
     let mut lent = [0u32; 16384];
-    ask_owner(numbers, &mut lent[0..length])
+    ask_owner(numbers, below, &mut lent[0..length])
 }
 
 // The answer of a stretch, and the digest of the part that is handed back.

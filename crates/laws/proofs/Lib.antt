@@ -4,3 +4,4 @@ pub mod Order
 pub mod Lists
 pub mod Products
 pub mod Capped
+pub mod Signed

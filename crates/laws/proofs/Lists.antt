@@ -4,7 +4,7 @@ use mathlib.Core.List.{List, [], _∷_, map}
 use Prim.Native.Nat.{ℕ, zero, suc, _+_, _≤_, _<_}
 use native.Mathlib.Nat.{le-of-eq}
 use native.Mathlib.Numerals.{add-one}
-use lib.ListN.{length, getD, take, length-map}
+use lib.ListN.{length, getD, set, take, length-map}
 use lib.Seq.{slice, slice-cons, take-all}
 
 -- the elements from k to n, the one at k apart
@@ -23,3 +23,8 @@ take-whole n l e = take-all n l (le-of-eq e)
 -- of an array of structs the number of elements is told of its images
 pub length-of : (A : Type 0) (B : Type 0) (f : A → B) (l : List A) (n : ℕ) → length (map f l) ≡ n → length l ≡ n
 length-of A B f l n e = sym (length-map l f) ∙ e
+
+pub map-set : {A B : Type 0} (f : A → B) (l : List A) (i : ℕ) (x : A) → set (map f l) i (f x) ≡ map f (set l i x)
+map-set f [] i x = refl
+map-set f (y ∷ l) zero x = refl
+map-set f (y ∷ l) (suc i) x = ap (λ t. f y ∷ t) (map-set f l i x)

@@ -16,6 +16,34 @@ pub fn eight(numbers: &[u64; 80], from: usize) -> [u64; 8]
     taken
 }
 
+// Above every signed number.
+const HALF: u64 = 9223372036854775808;
+
+// A number as a signed one: from 2^63 on the largest, or with a minus the least, which are past
+// every limit too.
+pub fn signed(n: u64, below: bool) -> i64 {
+    if n < HALF {
+        let z = n as i64;
+        return if below { 0 - z } else { z };
+    }
+    if below { i64::MIN } else { i64::MAX }
+}
+
+// Eight signed numbers from a place of a line on, which has that many. Public, with a requires, for
+// the program above.
+pub fn eight_signed(numbers: &[u64; 80], below: &[bool; 80], from: usize) -> [i64; 8]
+    requires { ⌜ from ≤ 72 ⌝ }
+{
+    let mut taken = [0i64; 8];
+    let mut i = 0;
+    while i < 8 {
+        let number = signed(numbers[from + i], below[from + i]);
+        taken[i] = number;
+        i += 1;
+    }
+    taken
+}
+
 // Whether the numbers from a place up to another, of the 80 of a line, are at most a limit.
 pub fn within(numbers: &[u64; 80], from: usize, to: usize, limit: u64) -> bool {
     let mut i = from;

@@ -91,17 +91,56 @@ fn word_of(k: usize) -> Word {
     }
 }
 
+// Whether number i of word k may have a minus: a stride or an offset of a card. The words with a card
+// are place, verdict and owner. The shard's count is number 0 and its iters follow, three numbers
+// each with the stride second; the replica's count is number 25, and after its iters the offsets
+// are 38 to 45.
+fn may_be_below(k: usize, i: usize) -> bool {
+    if (k < 7) | (9 < k) {
+        return false;
+    }
+    if i < 25 {
+        return i % 3 == 2;
+    }
+    if i < 38 {
+        return i % 3 == 0;
+    }
+    i < 46
+}
+
+// Whether each number with a minus may have one.
+fn minus_allowed(below: &[bool; 80], k: usize, count: usize) -> bool {
+    let mut i = 0;
+    while i < count {
+        if below[i % 80] {
+            if !may_be_below(k, i) {
+                return false;
+            }
+        }
+        i += 1;
+    }
+    true
+}
+
 // What a line of so many bytes asks: a word with all its numbers, which are kept in their order.
-pub fn question(line: &[u8; 4096], held: usize, numbers: &mut [u64; 80]) -> Word {
+pub fn question(
+    line: &[u8; 4096],
+    held: usize,
+    numbers: &mut [u64; 80],
+    below: &mut [bool; 80],
+) -> Word {
     if line.len() < held {
         return Word::Unknown;
     }
-    let read = rule::read(line, held, numbers);
+    let read = rule::read(line, held, numbers, below);
     let Line::Question(end, count) = read else {
         return Word::Unknown;
     };
     let k = find(line, end);
-    if count == WANTED[k % 12] {
+    if count != WANTED[k % 12] {
+        return Word::Unknown;
+    }
+    if minus_allowed(below, k, count) {
         return word_of(k);
     }
     Word::Unknown

@@ -1,10 +1,12 @@
 -- Iters lent as numbers: slot by slot they are those iters, and eight iters are all slots.
-use mathlib.Core.Path.{_≡_, sym, ap, _∙_}
+use mathlib.Core.Path.{_≡_, sym, ap, _∙_, fun-ext}
 use mathlib.Core.List.{List, map}
-use Prim.Native.Nat.{ℕ, _<_}
+use Prim.Native.Nat.{ℕ, _+_, _*_, _<_}
 use native.Mathlib.Omega.{arith}
-use lib.ListN.{length, getD}
+use lib.IntN.{ℤ}
+use lib.ListN.{length, getD, List·getD-map}
 use lib.Seq.{ext-getD}
+use Rattle.card.specs.Card.{strideOf}
 use Rattle.card.specs.declared.Iter.{Iter}
 use Rattle.card.specs.declared.Iters.{Iters}
 use Rattle.placement.specs.Inside.{slots, itersOf, none, numbersOf}
@@ -17,5 +19,8 @@ all-slots : (l : List Iter) → length l ≡ 8 → map (λ k. getD l k none) slo
 all-slots l eight = ext-getD none (map (λ k. getD l k none) slots) l (sym eight) (λ k h. slot-at (λ k. getD l k none) k h)
 
 -- iters are those of their own numbers
-pub lent-back : (iters : Iters) → length (iters .at) ≡ 8 → itersOf (numbersOf iters) ≡ iters
-lent-back iters eight = ap (λ (l : List Iter). record { at = l; count = iters .count }) (all-slots (iters .at) eight)
+pub lent-back : (iters : Iters) → length (iters .at) ≡ 8 → itersOf (numbersOf iters) (map strideOf (iters .at)) ≡ iters
+lent-back iters eight =
+    ap (λ (stride : ℕ → ℤ). record { at = map (λ k. record { extent = getD (numbersOf iters) (2 * k + 1) 0; stride = stride k; axis = getD (numbersOf iters) (2 * k + 2) 0 }) slots; count = iters .count })
+    (fun-ext (λ k. List·getD-map strideOf (iters .at) k none))
+    ∙ ap (λ (l : List Iter). record { at = l; count = iters .count }) (all-slots (iters .at) eight)

@@ -1,5 +1,6 @@
 pub mod RowMajor
 pub mod Prefixes
+pub mod Below
 pub mod Along
 pub mod Lending
 pub mod Turn
@@ -11,4 +12,5 @@ pub mod Numbers
 pub mod Cards
 pub mod Elements
 pub mod Placings
+pub mod Whole
 pub mod Theorems

@@ -71,20 +71,20 @@ spot-inside card flat combination eight = split (spot card flat combination) ref
     split (Outside axis) e h = let f = spot-outside card flat combination axis eight e in absurd (omega (arith, f .a-place))
 
 module _ (card : Card) (flat combination : ℕ) (cell : Cell) (e : spot card flat combination ≡ Inside cell) where
-  numbered : Numbered (card .lengths) (coordinates card flat combination) (cell .0)
+  pub spot-numbered : Numbered (card .lengths) (coordinates card flat combination) (cell .0)
   unfolding spot
-  numbered = position-at (card .lengths) (coordinates card flat combination) (cell .0) (inside-at _ cell e)
+  spot-numbered = position-at (card .lengths) (coordinates card flat combination) (cell .0) (inside-at _ cell e)
 
   -- a cell is below the cells
   pub cell-below : cell .0 < cells card
-  cell-below = subst (λ (n : ℕ). n < cells card) (numbered .number) (row-major-below (card .lengths) (coordinates card flat combination) (numbered .within))
+  cell-below = subst (λ (n : ℕ). n < cells card) (spot-numbered .number) (row-major-below (card .lengths) (coordinates card flat combination) (spot-numbered .within))
 
 -- two cells are equal exactly when all coordinates are
 pub cells-equal : (card : Card) (f r g s : ℕ) (p q : Cell) → spot card f r ≡ Inside p → spot card g s ≡ Inside q
     → (p ≡ q) ↔ (coordinates card f r ≡ coordinates card g s)
 cells-equal card f r g s p q e d =
-    let a = numbered card f r p e in
-    let b = numbered card g s q d in (
+    let a = spot-numbered card f r p e in
+    let b = spot-numbered card g s q d in (
       (λ same.
           row-major-one-to-one (card .lengths) (coordinates card f r) (coordinates card g s) (a .within) (b .within)
           (a .number ∙ ap (λ (c : Cell). c .0) same ∙ sym (b .number))),

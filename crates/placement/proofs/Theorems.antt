@@ -7,12 +7,12 @@ use native.Mathlib.Nat.{ne-of-lt}
 use native.Mathlib.Omega.{arith}
 use borrow.Author.Tests.{ltb-false}
 use lib.Dec.{leb, ltb}
+use lib.IntN.{pos, negsuc}
 use lib.ListN.{length, getD, drop, List·getD-append}
 use lib.Seq.{getD-set-other, drop-at}
 use Rattle.answers.specs.declared.Refusal.{Refusal}
 use Rattle.answers.specs.declared.Refusal.the-variants.{Shape, Coordinate, TooShort}
 use Rattle.answers.proofs.OneToOne.{readBack, refused-back, pinned}
-use Rattle.swizzle.specs.Swizzle.{swizzled}
 use Rattle.card.specs.Lists.{product}
 use Rattle.card.specs.Limits.{lastAxis}
 use Rattle.card.specs.Card.{listed, extentOf, elements, copies, cells}
@@ -22,7 +22,7 @@ use Rattle.card.specs.declared.Admission.{Admission}
 use Rattle.card.specs.declared.Admission.the-variants.{Admitted, Refused as NotAdmitted}
 use Rattle.card.proofs.Theorems.{AlikeCards, past-the-count}
 use Rattle.placement.specs.RowMajor.{rowMajor, components, inside}
-use Rattle.placement.specs.Rules.{axes, sum, coordinates, spot}
+use Rattle.placement.specs.Rules.{axes, sum, swizzledZ, finished, coordinates, spot}
 use Rattle.placement.specs.Placement.{cellOf, pastAxis, copyCells, outsideAxis, entries, shapeAdmitted, coordinatesFit, flatten, afterAdmission, placementAnswer, written, placementMemory, placementNumbers, Placing}
 use Rattle.placement.specs.declared.Tuple.{Tuple}
 use Rattle.placement.specs.declared.Spot.{Spot}
@@ -67,16 +67,18 @@ pub cell-one-to-one : (card : Card) → OneToOne (card .lengths)
 cell-one-to-one card = one-to-one (card .lengths)
 
 -- rules 3 and 4: on every axis but m the coordinate is the sum of its three parts, and on m the swizzle of that sum
-pub coordinate-at : (card : Card) (flat combination axis : ℕ) → axis < lastAxis → getD (coordinates card flat combination) axis 0 ≡ sum card flat combination axis
-unfolding coordinates
+pub coordinate-at : (card : Card) (flat combination axis : ℕ) → axis < lastAxis → getD (finished card flat combination) axis (pos 0) ≡ sum card flat combination axis
 coordinate-at card flat combination axis h =
-    getD-set-other (map (sum card flat combination) axes) lastAxis axis _ 0 (ne-of-lt h) ∙ axes-at (sum card flat combination) axis (omega arith)
+    getD-set-other (map (sum card flat combination) axes) lastAxis axis _ (pos 0) (ne-of-lt h) ∙ axes-at (sum card flat combination) (pos 0) axis (omega arith)
 
 pub m-coordinate : (card : Card) (flat combination : ℕ)
-    → getD (coordinates card flat combination) lastAxis 0
-    ≡ swizzled (card .swizzle .m) (card .swizzle .b) (card .swizzle .s) (sum card flat combination lastAxis)
-unfolding coordinates
+    → getD (finished card flat combination) lastAxis (pos 0) ≡ swizzledZ (card .swizzle) (sum card flat combination lastAxis)
 m-coordinate card flat combination = refl
+
+-- m below zero is not swizzled
+pub m-below-zero : (card : Card) (flat combination n : ℕ) → sum card flat combination lastAxis ≡ negsuc n
+    → getD (finished card flat combination) lastAxis (pos 0) ≡ negsuc n
+m-below-zero card flat combination n e = ap (swizzledZ (card .swizzle)) e
 
 -- two outcomes that the promise of a placement allows are equal, in the answer and in every entry of the lent memory
 pub placement-settled : (card : Card) (shape coordinates : Tuple) (before m n : List ℕ) (p q : Placement)

@@ -4,18 +4,20 @@ use mathlib.Core.Path.{_≡_}
 use mathlib.Core.Bool.{true, cond}
 use mathlib.Core.List.{List, [], _∷_, map}
 use lib.Dec.{ltb}
+use lib.IntN.{ℤ, pos, natAbs, _+ℤ_}
 use lib.ListN.{length, getD, take}
 use Rattle.swizzle.specs.declared.Swizzle.{Swizzle}
 use Rattle.swizzle.specs.Swizzle.{permitted}
 use Rattle.card.specs.Lists.{product}
-use Rattle.card.specs.Inside.{beyond}
+use Rattle.card.specs.Limits.{mostExtent}
+use Rattle.card.specs.Inside.{beyond, farthest}
 use Rattle.card.specs.Admission.{itersFit, itersOnAxes, spaceFits, admission}
 use Rattle.card.specs.declared.Iter.{Iter}
 use Rattle.card.specs.declared.Iters.{Iters}
 use Rattle.card.specs.declared.Card.{Card}
 use Rattle.card.specs.declared.Admission.the-variants.{Admitted}
 use Rattle.placement.specs.RowMajor.{position}
-use Rattle.placement.specs.Rules.{axes, part, swizzledM, spotAt}
+use Rattle.placement.specs.Rules.{axes, part, swizzledM, onAxis, spotAt}
 use Rattle.placement.specs.Placement.{entries, coordinatesFit, flatten, cellsOf, outsideOf}
 use Rattle.placement.specs.declared.Tuple.{Tuple}
 use Rattle.placement.specs.declared.Position.{Position}
@@ -24,22 +26,22 @@ use Rattle.placement.specs.declared.Spot.{Spot}
 use Rattle.placement.specs.declared.Found.{Found}
 use Rattle.placement.specs.declared.Found.the-variants.{Element, Nowhere}
 
--- a list of iters is lent as 25 numbers: its count, then the extent, the stride and the axis of each of eight iters
-abbrev pub iterAt : List ℕ → ℕ → Iter
-iterAt numbers k = record { extent = getD numbers (3 * k + 1) 0; stride = getD numbers (3 * k + 2) 0; axis = getD numbers (3 * k + 3) 0 }
+-- a list of iters is lent as 17 numbers, its count, then the extent and the axis of each of eight iters, and their eight strides
+abbrev pub iterAt : List ℕ → List ℤ → ℕ → Iter
+iterAt numbers strides k = record { extent = getD numbers (2 * k + 1) 0; stride = getD strides k (pos 0); axis = getD numbers (2 * k + 2) 0 }
 
 abbrev pub slots : List ℕ
 slots = 0 ∷ 1 ∷ 2 ∷ 3 ∷ 4 ∷ 5 ∷ 6 ∷ 7 ∷ []
 
-abbrev pub itersOf : List ℕ → Iters
-itersOf numbers = record { at = map (iterAt numbers) slots; count = getD numbers 0 0 }
+abbrev pub itersOf : List ℕ → List ℤ → Iters
+itersOf numbers strides = record { at = map (iterAt numbers strides) slots; count = getD numbers 0 0 }
 
 abbrev pub none : Iter
-none = record { extent = 0; stride = 0; axis = 0 }
+none = record { extent = 0; stride = pos 0; axis = 0 }
 
 abbrev pub slotNumbers : List Iter → List ℕ → List ℕ
 slotNumbers at [] = []
-slotNumbers at (k ∷ ks) = getD at k none .extent ∷ getD at k none .stride ∷ getD at k none .axis ∷ slotNumbers at ks
+slotNumbers at (k ∷ ks) = getD at k none .extent ∷ getD at k none .axis ∷ slotNumbers at ks
 
 abbrev pub numbersOf : Iters → List ℕ
 numbersOf iters = iters .count ∷ slotNumbers (iters .at) slots
@@ -61,14 +63,14 @@ abbrev pub axisFrom : ℕ → ℕ
 axisFrom number = cond (ltb number beyond) (length axes) (number - beyond)
 
 -- sums with what iters add to each axis at an index
-unfoldable pub walked : Iters → ℕ → List ℕ → List ℕ
-walked iters index sums = map (λ axis. getD sums axis 0 + part iters index axis) axes
+unfoldable pub walked : Iters → ℕ → List ℤ → List ℤ
+walked iters index sums = map (λ axis. getD sums axis (pos 0) +ℤ part iters index axis) axes
 
 -- where the copy of a combination goes whose base, shard and offset, is known
-abbrev pub positionFrom : List ℕ → Swizzle → Iters → List ℕ → ℕ → Position
-positionFrom lengths swizzle replica base combination = position lengths (swizzledM swizzle (walked replica combination base))
+abbrev pub positionFrom : List ℕ → Swizzle → Iters → List ℤ → ℕ → Position
+positionFrom lengths swizzle replica base combination = position lengths (map onAxis (swizzledM swizzle (walked replica combination base)))
 
-abbrev pub spotFrom : List ℕ → Swizzle → Iters → List ℕ → ℕ → Spot
+abbrev pub spotFrom : List ℕ → Swizzle → Iters → List ℤ → ℕ → Spot
 spotFrom lengths swizzle replica base combination = spotAt (positionFrom lengths swizzle replica base combination)
 
 -- a row after it was filled with the cells of as many combinations, and the smallest axis on which one lies outside
@@ -76,20 +78,32 @@ pub record Row (at : ℕ → Spot) (before after : List ℕ) (outside : ℕ) : T
   pub cells : after ≡ cellsOf at (length before)
   pub smallest-axis : outside ≡ outsideOf at (length before)
 
--- a bound on the sums before a walk, with room to spare
+-- how far from zero the sums before a walk are at most, with room to spare
 abbrev pub roomy : ℕ
 roomy = 2 ^ 40
 
 -- the numbers of iters that fit
-pub record Lent (iters : List ℕ) : Type 0 where
-  pub whole : length iters ≡ 25
+pub record Lent (iters : List ℕ) (strides : List ℤ) : Type 0 where
+  pub whole : length iters ≡ 17
+  pub eight-strides : length strides ≡ 8
   pub few : getD iters 0 0 ≤ 8
-  pub fit : itersFit (itersOf iters) ≡ true
-  pub on-axes : itersOnAxes (itersOf iters) ≡ true
+  pub fit : itersFit (itersOf iters strides) ≡ true
+  pub on-axes : itersOnAxes (itersOf iters strides) ≡ true
 
-pub record Sums (sums : List ℕ) : Type 0 where
+pub record Sums (sums : List ℤ) : Type 0 where
   pub eight : length sums ≡ 8
-  pub small : (axis : ℕ) → getD sums axis 0 ≤ roomy
+  pub small : (axis : ℕ) → natAbs (getD sums axis (pos 0)) ≤ roomy
+
+-- a sum, a component and a stride whose product can be added to the sum
+pub record Steps (sum : ℤ) (component : ℕ) (stride : ℤ) : Type 0 where
+  pub small-sum : natAbs sum ≤ 2 * roomy
+  pub small-component : component ≤ mostExtent
+  pub small-stride : natAbs stride ≤ farthest
+
+-- three swizzle numbers that are permitted
+pub record Permitted (swizzle : List ℕ) : Type 0 where
+  pub three : length swizzle ≡ 3
+  pub swizzles : permitted (getD swizzle 0 0) (getD swizzle 1 0) (getD swizzle 2 0) ≡ true
 
 -- a space of eight lengths that fits
 pub record Space (lengths : List ℕ) : Type 0 where
@@ -97,12 +111,11 @@ pub record Space (lengths : List ℕ) : Type 0 where
   pub fits : spaceFits lengths ≡ true
 
 -- what the copies of an element are placed by: its base, the replica, the space and a permitted swizzle
-pub record Ready (base replica lengths swizzle : List ℕ) : Type 0 where
+pub record Ready (base : List ℤ) (replica : List ℕ) (strides : List ℤ) (lengths swizzle : List ℕ) : Type 0 where
   pub sums : Sums base
-  pub iters : Lent replica
+  pub iters : Lent replica strides
   pub space : Space lengths
-  pub three : length swizzle ≡ 3
-  pub swizzles : permitted (getD swizzle 0 0) (getD swizzle 1 0) (getD swizzle 2 0) ≡ true
+  pub swizzles : Permitted swizzle
 
 -- arrays of eight sizes and coordinates, of which the first count are looked at
 pub record Locatable (sizes coordinates : List ℕ) (count : ℕ) : Type 0 where
@@ -112,24 +125,26 @@ pub record Locatable (sizes coordinates : List ℕ) (count : ℕ) : Type 0 where
   pub some : 1 ≤ product (take count sizes)
   pub small : product (take count sizes) ≤ beyond
 
--- the card that has these numbers: of the shard, of the replica, the offset, the lengths and the swizzle
-abbrev pub cardOf : List ℕ → List ℕ → List ℕ → List ℕ → List ℕ → Card
-cardOf shard replica offset lengths swizzle = record {
-  shard = itersOf shard;
-  replica = itersOf replica;
+-- the card that has these numbers: of the shard with its strides, of the replica with its strides, the offset, the lengths and the swizzle
+abbrev pub cardOf : List ℕ → List ℤ → List ℕ → List ℤ → List ℤ → List ℕ → List ℕ → Card
+cardOf shard shardStrides replica replicaStrides offset lengths swizzle = record {
+  shard = itersOf shard shardStrides;
+  replica = itersOf replica replicaStrides;
   offset = offset;
   lengths = lengths;
   swizzle = swizzleOf swizzle;
 }
 
 -- an admitted card's numbers, lent as arrays
-pub record LentCard (shard replica offset lengths swizzle : List ℕ) : Type 0 where
-  pub whole-shard : length shard ≡ 25
-  pub whole-replica : length replica ≡ 25
+pub record LentCard (shard : List ℕ) (shardStrides : List ℤ) (replica : List ℕ) (replicaStrides offset : List ℤ) (lengths swizzle : List ℕ) : Type 0 where
+  pub whole-shard : length shard ≡ 17
+  pub eight-shard-strides : length shardStrides ≡ 8
+  pub whole-replica : length replica ≡ 17
+  pub eight-replica-strides : length replicaStrides ≡ 8
   pub eight-offsets : length offset ≡ 8
   pub eight-lengths : length lengths ≡ 8
   pub three : length swizzle ≡ 3
-  pub admitted : admission (cardOf shard replica offset lengths swizzle) ≡ Admitted
+  pub admitted : admission (cardOf shard shardStrides replica replicaStrides offset lengths swizzle) ≡ Admitted
 
 -- a shape that can be numbered
 pub record Shaped (shape : Tuple) : Type 0 where

@@ -1,6 +1,7 @@
 -- The cards of the test sheet: each list of iters is eight long, with zeros past its count, as a card has it.
 use Prim.Native.Nat.{ℕ, _-_}
-use mathlib.Core.List.{List, [], _∷_, _++_}
+use mathlib.Core.List.{List, [], _∷_, _++_, map}
+use lib.IntN.{ℤ, pos, negℤ}
 use lib.ListN.{length, replicate}
 use Rattle.swizzle.specs.declared.Swizzle.{Swizzle}
 use Rattle.card.specs.declared.Iter.{Iter}
@@ -24,10 +25,13 @@ TCol = 6
 abbrev pub m : ℕ
 m = 7
 
--- an extent by a stride on an axis
-infix 70 _by_on_
+-- an extent by a stride on an axis, forwards or backwards
+infix 70 _by_on_ _back_on_
 abbrev pub _by_on_ : ℕ → ℕ → ℕ → Iter
-extent by stride on axis = record { extent = extent; stride = stride; axis = axis }
+extent by stride on axis = record { extent = extent; stride = pos stride; axis = axis }
+
+abbrev pub _back_on_ : ℕ → ℕ → ℕ → Iter
+extent back stride on axis = record { extent = extent; stride = negℤ (pos stride); axis = axis }
 
 abbrev pub padded : {A : Type 0} → A → List A → List A
 padded zero xs = xs ++ replicate (8 - length xs) zero
@@ -45,8 +49,8 @@ swizzle M B S = record { m = M; b = B; s = S }
 abbrev pub unswizzled : Swizzle
 unswizzled = swizzle 0 0 3
 
-abbrev pub none : List ℕ
-none = replicate 8 0
+abbrev pub none : List ℤ
+none = replicate 8 (pos 0)
 
 -- tile X with a length of warpid and a replica stride: its own are 11 and 4
 abbrev pub tile : ℕ → ℕ → Card
@@ -54,7 +58,7 @@ tile warps stride =
     record {
       shard = iters (8 by 4 on laneid ∷ 2 by 1 on warpid ∷ 4 by 1 on laneid ∷ 2 by 1 on m ∷ []);
       replica = iters (2 by stride on warpid ∷ []);
-      offset = 0 ∷ 5 ∷ 0 ∷ 0 ∷ 0 ∷ 0 ∷ 0 ∷ 0 ∷ [];
+      offset = map pos (0 ∷ 5 ∷ 0 ∷ 0 ∷ 0 ∷ 0 ∷ 0 ∷ 0 ∷ []);
       lengths = 1 ∷ warps ∷ 32 ∷ 1 ∷ 1 ∷ 1 ∷ 1 ∷ 2 ∷ [];
       swizzle = unswizzled;
     }
@@ -62,21 +66,36 @@ tile warps stride =
 abbrev pub tileX : Card
 tileX = tile 11 4
 
--- iters on m alone, in a length of m, with a swizzle
-abbrev pub onM : List Iter → ℕ → Swizzle → Card
-onM shard length w =
-    record { shard = iters shard; replica = iters []; offset = none; lengths = 1 ∷ 1 ∷ 1 ∷ 1 ∷ 1 ∷ 1 ∷ 1 ∷ length ∷ []; swizzle = w }
-
--- one element at an offset on m
-abbrev pub atM : ℕ → ℕ → Swizzle → Card
-atM offset length w =
+-- iters and replica iters from an offset on m
+abbrev pub fromM : List Iter → List Iter → ℤ → ℕ → Swizzle → Card
+fromM shard replica offset length w =
     record {
-      shard = iters (1 by 0 on m ∷ []);
-      replica = iters [];
-      offset = 0 ∷ 0 ∷ 0 ∷ 0 ∷ 0 ∷ 0 ∷ 0 ∷ offset ∷ [];
+      shard = iters shard;
+      replica = iters replica;
+      offset = pos 0 ∷ pos 0 ∷ pos 0 ∷ pos 0 ∷ pos 0 ∷ pos 0 ∷ pos 0 ∷ offset ∷ [];
       lengths = 1 ∷ 1 ∷ 1 ∷ 1 ∷ 1 ∷ 1 ∷ 1 ∷ length ∷ [];
       swizzle = w;
     }
+
+-- iters on m alone, in a length of m, with a swizzle
+abbrev pub onM : List Iter → ℕ → Swizzle → Card
+onM shard = fromM shard [] (pos 0)
+
+-- one element at an offset on m
+abbrev pub atM : ℤ → ℕ → Swizzle → Card
+atM = fromM (1 by 0 on m ∷ []) []
+
+-- four elements, the last first
+abbrev pub backwards : ℕ → Card
+backwards offset = fromM (4 back 1 on m ∷ []) [] (pos offset) 4 unswizzled
+
+-- two rows of three, the last row first: the second row's sum is below zero until the offset is added
+abbrev pub lastRowFirst : Card
+lastRowFirst = fromM (2 back 3 on m ∷ 3 by 1 on m ∷ []) [] (pos 3) 6 unswizzled
+
+-- two elements, the second copy of each two cells before the first
+abbrev pub copiesBack : ℕ → Card
+copiesBack offset = fromM (2 by 1 on m ∷ []) (2 back 2 on m ∷ []) (pos offset) 4 unswizzled
 
 -- iters in tensor memory, with its lanes and columns
 abbrev pub inTensorMemory : List Iter → List Iter → ℕ → ℕ → Card
@@ -95,14 +114,7 @@ wideTile = inTensorMemory (2 by 112 on TCol ∷ 128 by 1 on TLane ∷ 112 by 1 o
 
 -- two elements, of which each has its two copies in one cell
 abbrev pub doubled : Card
-doubled =
-    record {
-      shard = iters (2 by 1 on m ∷ []);
-      replica = iters (2 by 0 on m ∷ []);
-      offset = none;
-      lengths = 1 ∷ 1 ∷ 1 ∷ 1 ∷ 1 ∷ 1 ∷ 1 ∷ 2 ∷ [];
-      swizzle = unswizzled;
-    }
+doubled = fromM (2 by 1 on m ∷ []) (2 by 0 on m ∷ []) (pos 0) 2 unswizzled
 
 -- 004's scale factors: 32 rows, routed to the four warps of a warpgroup
 abbrev pub scaleFactors : Card

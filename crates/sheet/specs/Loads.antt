@@ -3,12 +3,13 @@
 use Prim.Native.Nat.{ℕ}
 use mathlib.Core.Bool.{Bool, true, false}
 use mathlib.Core.List.{List, [], _∷_}
+use lib.IntN.{pos, negℤ}
 use lib.ListN.{replicate}
 use Rattle.answers.specs.Refusals.{answer}
 use Rattle.descriptor.specs.Descriptor.{descriptorOf}
 use Rattle.descriptor.specs.declared.Fields.{Fields}
 use Rattle.sheet.specs.Questions.{Question, swizzle, mode, fragment, descriptor, mask, place, verdict, owner, stretch, Reply, reply}
-use Rattle.sheet.specs.Cards.{tuple, tile, tileX, unswizzled, onM, atM, _by_on_, m, wideTile, doubled, scaleFactors, sixtyFive, figure189}
+use Rattle.sheet.specs.Cards.{tuple, tile, tileX, unswizzled, onM, atM, backwards, lastRowFirst, copiesBack, _by_on_, _back_on_, m, wideTile, doubled, scaleFactors, sixtyFive, figure189}
 use Rattle.sheet.specs.Cards.{swizzle as swizzleBy}
 
 pub record Load : Type 0 where
@@ -123,7 +124,30 @@ loads =
     ∷ (verdict (sixtyFive 73) (table 73) is reply (answer 0 65 65 73) [])
     -- m is judged after the swizzle: element 64 does not pass at length 65, and an m of 72, which goes to 64, does
     ∷ (verdict (sixtyFive 65) (table 65) is reply (answer 7 64 7 0) [])
-    ∷ (verdict (atM 72 65 (swizzleBy 3 3 3)) (table 65) is reply (answer 0 1 1 65) [])
+    ∷ (verdict (atM (pos 72) 65 (swizzleBy 3 3 3)) (table 65) is reply (answer 0 1 1 65) [])
+    -- backwards: the last element first, so that cell 0 belongs to element 3, and one step too far
+    ∷ (verdict (backwards 3) (table 4) is reply (answer 0 4 4 4) [])
+    ∷ (owner (backwards 3) (replicate 8 0) (table 4) is reply (answer 0 4 0 0) [])
+    ∷ (place (backwards 3) (tuple (4 ∷ [])) (tuple (3 ∷ [])) (table 1) is reply (answer 0 1 0 0) (0 ∷ []))
+    ∷ (verdict (backwards 2) (table 4) is reply (answer 7 3 7 0) [])
+    -- a sum below zero until the offset is added
+    ∷ (verdict lastRowFirst (table 6) is reply (answer 0 6 6 6) [])
+    ∷ (owner lastRowFirst (replicate 8 0) (table 6) is reply (answer 0 4 0 0) [])
+    -- copies backwards, and one step too far: the second copy of the first element
+    ∷ (verdict (copiesBack 2) (table 4) is reply (answer 0 2 4 4) [])
+    ∷ (place (copiesBack 2) (tuple (2 ∷ [])) (tuple (1 ∷ [])) (table 2) is reply (answer 0 2 0 0) (3 ∷ 1 ∷ []))
+    ∷ (verdict (copiesBack 1) (table 4) is reply (answer 7 0 7 0) [])
+    -- a swizzled card with an m of -1
+    ∷ (verdict (atM (negℤ (pos 1)) 65 (swizzleBy 3 3 3)) (table 65) is reply (answer 7 0 7 0) [])
+    -- both ends of the limits of a stride, and of an offset, which within them only leaves the space
+    ∷ (verdict (onM (1 back 65536 on m ∷ []) 1 unswizzled) (table 1) is reply (answer 0 1 1 1) [])
+    ∷ (verdict (onM (1 back 65537 on m ∷ []) 1 unswizzled) (table 1) is reply (answer 2 0 0 0) [])
+    ∷ (verdict (onM (1 by 65535 on m ∷ []) 1 unswizzled) (table 1) is reply (answer 0 1 1 1) [])
+    ∷ (verdict (onM (1 by 65536 on m ∷ []) 1 unswizzled) (table 1) is reply (answer 2 0 0 0) [])
+    ∷ (verdict (atM (negℤ (pos 65536)) 65 unswizzled) (table 65) is reply (answer 7 0 7 0) [])
+    ∷ (verdict (atM (negℤ (pos 65537)) 65 unswizzled) (table 65) is reply (answer 2 0 0 0) [])
+    ∷ (verdict (atM (pos 65535) 65 unswizzled) (table 65) is reply (answer 7 0 7 0) [])
+    ∷ (verdict (atM (pos 65536) 65 unswizzled) (table 65) is reply (answer 2 0 0 0) [])
     -- Figure 189's layout
     ∷ (verdict figure189 (table 256) is reply (answer 8 8 16 8) [])
     -- the accumulator of 224 columns: 28,672 cells

@@ -2,6 +2,7 @@
 use mathlib.Core.Path.{_≡_}
 use mathlib.Core.List.{List}
 use Prim.Native.Nat.{ℕ, _<_}
+use lib.IntN.{ℤ}
 use lib.ListN.{length, getD}
 use Rattle.card.specs.Card.{elements, copies, cells}
 use Rattle.card.specs.declared.Card.{Card}
@@ -15,10 +16,10 @@ use Rattle.verdict.specs.declared.Search.{Search}
 use Rattle.verdict.specs.declared.Search.the-variants.{Outside, NoneOutside}
 
 -- what a pass over the elements is lent: an admitted card's numbers, how many elements it has, and a row as long as its copies
-pub record Pass (shard replica offset lengths swizzle : List ℕ) (count : ℕ) (row : List ℕ) : Type 0 where
-  pub lent : LentCard shard replica offset lengths swizzle
-  pub all-elements : count ≡ elements (cardOf shard replica offset lengths swizzle)
-  pub one-each : length row ≡ copies (cardOf shard replica offset lengths swizzle)
+pub record Pass (shard : List ℕ) (shardStrides : List ℤ) (replica : List ℕ) (replicaStrides offset : List ℤ) (lengths swizzle : List ℕ) (count : ℕ) (row : List ℕ) : Type 0 where
+  pub lent : LentCard shard shardStrides replica replicaStrides offset lengths swizzle
+  pub all-elements : count ≡ elements (cardOf shard shardStrides replica replicaStrides offset lengths swizzle)
+  pub one-each : length row ≡ copies (cardOf shard shardStrides replica replicaStrides offset lengths swizzle)
 
 -- what the first pass finds
 abbrev pub Finds : Card → Search → Type 0

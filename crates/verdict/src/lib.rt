@@ -31,20 +31,32 @@ enum Search {
 
 // The first pass: the smallest element of which a copy lies outside the space.
 fn first_outside(
-    shard: &[u64; 25],
-    replica: &[u64; 25],
-    offset: &[u64; 8],
+    shard: &[u64; 17],
+    shard_strides: &[i64; 8],
+    replica: &[u64; 17],
+    replica_strides: &[i64; 8],
+    offset: &[i64; 8],
     lengths: &[u64; 8],
     swizzle: &[u64; 3],
     elements: u64,
     row: &mut [u32],
 ) -> Search
-    requires { ⌜ Pass (now shard) (now replica) (now offset) (now lengths) (now swizzle) elements (now row) ⌝ }
-    ensures { λ r. ⌜ Finds (cardOf (now (shard .entry)) (now (replica .entry)) (now (offset .entry)) (now (lengths .entry)) (now (swizzle .entry))) r ⌝ }
+    requires { ⌜ Pass (now shard) (now «shard_strides») (now replica) (now «replica_strides») (now offset) (now lengths) (now swizzle) elements (now row) ⌝ }
+    ensures { λ r. ⌜ Finds (cardOf (now (shard .entry)) (now («shard_strides» .entry)) (now (replica .entry)) (now («replica_strides» .entry)) (now (offset .entry)) (now (lengths .entry)) (now (swizzle .entry))) r ⌝ }
 {
     let mut flat: u64 = 0;
     while flat < elements {
-        let axis = placement::place_row(shard, replica, offset, lengths, swizzle, Flat(flat), row);
+        let axis = placement::place_row(
+            shard,
+            shard_strides,
+            replica,
+            replica_strides,
+            offset,
+            lengths,
+            swizzle,
+            Flat(flat),
+            row,
+        );
         if axis < placement::AXES {
             return Search::Outside {
                 flat: Flat(flat),
@@ -59,21 +71,33 @@ fn first_outside(
 // Places the copies of one element and claims their cells: how many are newly occupied, none where a
 // cell has an owner already.
 fn claim_element(
-    shard: &[u64; 25],
-    replica: &[u64; 25],
-    offset: &[u64; 8],
+    shard: &[u64; 17],
+    shard_strides: &[i64; 8],
+    replica: &[u64; 17],
+    replica_strides: &[i64; 8],
+    offset: &[i64; 8],
     lengths: &[u64; 8],
     swizzle: &[u64; 3],
     flat: Flat,
     row: &mut [u32],
     table: &mut [u32],
 ) -> u64
-    requires { ⌜ LentCard (now shard) (now replica) (now offset) (now lengths) (now swizzle) ⌝ }
-    requires { ⌜ length (now row) ≡ copies (cardOf (now shard) (now replica) (now offset) (now lengths) (now swizzle)) ⌝ }
-    requires { ⌜ Claimable (cardOf (now shard) (now replica) (now offset) (now lengths) (now swizzle)) (flat .0) (now table) ⌝ }
-    ensures { λ r. ⌜ ElementClaim (cardOf (now (shard .entry)) (now (replica .entry)) (now (offset .entry)) (now (lengths .entry)) (now (swizzle .entry))) (flat .0) r (now (row .exit)) (now (table .entry)) (now (table .exit)) ⌝ }
+    requires { ⌜ LentCard (now shard) (now «shard_strides») (now replica) (now «replica_strides») (now offset) (now lengths) (now swizzle) ⌝ }
+    requires { ⌜ length (now row) ≡ copies (cardOf (now shard) (now «shard_strides») (now replica) (now «replica_strides») (now offset) (now lengths) (now swizzle)) ⌝ }
+    requires { ⌜ Claimable (cardOf (now shard) (now «shard_strides») (now replica) (now «replica_strides») (now offset) (now lengths) (now swizzle)) (flat .0) (now table) ⌝ }
+    ensures { λ r. ⌜ ElementClaim (cardOf (now (shard .entry)) (now («shard_strides» .entry)) (now (replica .entry)) (now («replica_strides» .entry)) (now (offset .entry)) (now (lengths .entry)) (now (swizzle .entry))) (flat .0) r (now (row .exit)) (now (table .entry)) (now (table .exit)) ⌝ }
 {
-    placement::place_row(shard, replica, offset, lengths, swizzle, flat, row);
+    placement::place_row(
+        shard,
+        shard_strides,
+        replica,
+        replica_strides,
+        offset,
+        lengths,
+        swizzle,
+        flat,
+        row,
+    );
     owners::claim_row(table, row, flat)
 }
 
@@ -92,25 +116,29 @@ fn refuse_clash(table: &mut [u32], row: &[u32], flat: Flat) -> Refusal
 // The second pass: claims the cells of every element in the cleared table, which has exactly the
 // cells. The first element that meets an owner is refused.
 fn claim_all(
-    shard: &[u64; 25],
-    replica: &[u64; 25],
-    offset: &[u64; 8],
+    shard: &[u64; 17],
+    shard_strides: &[i64; 8],
+    replica: &[u64; 17],
+    replica_strides: &[i64; 8],
+    offset: &[i64; 8],
     lengths: &[u64; 8],
     swizzle: &[u64; 3],
     elements: u64,
     row: &mut [u32],
     table: &mut [u32],
 ) -> Verdict
-    requires { ⌜ Pass (now shard) (now replica) (now offset) (now lengths) (now swizzle) elements (now row) ⌝ }
-    requires { ⌜ AllInside (cardOf (now shard) (now replica) (now offset) (now lengths) (now swizzle)) × (now table ≡ replicate (cells (cardOf (now shard) (now replica) (now offset) (now lengths) (now swizzle))) 0) ⌝ }
-    ensures { λ r. ⌜ VerdictPromise (cardOf (now (shard .entry)) (now (replica .entry)) (now (offset .entry)) (now (lengths .entry)) (now (swizzle .entry))) (now (table .entry)) (now (table .exit)) r ⌝ }
+    requires { ⌜ Pass (now shard) (now «shard_strides») (now replica) (now «replica_strides») (now offset) (now lengths) (now swizzle) elements (now row) ⌝ }
+    requires { ⌜ AllInside (cardOf (now shard) (now «shard_strides») (now replica) (now «replica_strides») (now offset) (now lengths) (now swizzle)) × (now table ≡ replicate (cells (cardOf (now shard) (now «shard_strides») (now replica) (now «replica_strides») (now offset) (now lengths) (now swizzle))) 0) ⌝ }
+    ensures { λ r. ⌜ VerdictPromise (cardOf (now (shard .entry)) (now («shard_strides» .entry)) (now (replica .entry)) (now («replica_strides» .entry)) (now (offset .entry)) (now (lengths .entry)) (now (swizzle .entry))) (now (table .entry)) (now (table .exit)) r ⌝ }
 {
     let mut occupied: u64 = 0;
     let mut flat: u64 = 0;
     while flat < elements {
         let newly = claim_element(
             shard,
+            shard_strides,
             replica,
+            replica_strides,
             offset,
             lengths,
             swizzle,
@@ -133,27 +161,41 @@ fn claim_all(
 
 // The verdict on an admitted card whose numbers are lent, in a table of exactly its cells.
 fn judge_lent(
-    shard: &[u64; 25],
-    replica: &[u64; 25],
-    offset: &[u64; 8],
+    shard: &[u64; 17],
+    shard_strides: &[i64; 8],
+    replica: &[u64; 17],
+    replica_strides: &[i64; 8],
+    offset: &[i64; 8],
     lengths: &[u64; 8],
     swizzle: &[u64; 3],
     elements: u64,
     row: &mut [u32],
     table: &mut [u32],
 ) -> Verdict
-    requires { ⌜ Pass (now shard) (now replica) (now offset) (now lengths) (now swizzle) elements (now row) ⌝ }
-    requires { ⌜ length (now table) ≡ cells (cardOf (now shard) (now replica) (now offset) (now lengths) (now swizzle)) ⌝ }
-    ensures { λ r. ⌜ VerdictPromise (cardOf (now (shard .entry)) (now (replica .entry)) (now (offset .entry)) (now (lengths .entry)) (now (swizzle .entry))) (now (table .entry)) (now (table .exit)) r ⌝ }
+    requires { ⌜ Pass (now shard) (now «shard_strides») (now replica) (now «replica_strides») (now offset) (now lengths) (now swizzle) elements (now row) ⌝ }
+    requires { ⌜ length (now table) ≡ cells (cardOf (now shard) (now «shard_strides») (now replica) (now «replica_strides») (now offset) (now lengths) (now swizzle)) ⌝ }
+    ensures { λ r. ⌜ VerdictPromise (cardOf (now (shard .entry)) (now («shard_strides» .entry)) (now (replica .entry)) (now («replica_strides» .entry)) (now (offset .entry)) (now (lengths .entry)) (now (swizzle .entry))) (now (table .entry)) (now (table .exit)) r ⌝ }
 {
     owners::clear(table);
-    let search = first_outside(shard, replica, offset, lengths, swizzle, elements, row);
+    let search = first_outside(
+        shard,
+        shard_strides,
+        replica,
+        replica_strides,
+        offset,
+        lengths,
+        swizzle,
+        elements,
+        row,
+    );
     if let Search::Outside { flat, axis } = search {
         return Verdict::Refused(Refusal::Outside { flat, axis });
     }
     claim_all(
         shard,
+        shard_strides,
         replica,
+        replica_strides,
         offset,
         lengths,
         swizzle,
@@ -177,12 +219,16 @@ fn judge_cells(card: Card, sizes: Sizes, table: &mut [u32]) -> Verdict
     let lengths = card.lengths;
     let shard_numbers = placement::lend(shard);
     let replica_numbers = placement::lend(replica);
+    let shard_strides = card::strides(shard);
+    let replica_strides = card::strides(replica);
     let swizzle = [card.swizzle.m, card.swizzle.b, card.swizzle.s];
     let copies = sizes.copies as usize;
     let mut row = [0u32; card::MOST_COPIES as usize];
     judge_lent(
         &shard_numbers,
+        &shard_strides,
         &replica_numbers,
+        &replica_strides,
         &offset,
         &lengths,
         &swizzle,

@@ -2,8 +2,8 @@
 use mathlib.Core.Path.{ap, ap₂, _∙_}
 use mathlib.Core.Bool.{_&&_}
 use borrow.Author.Needs.{needs}
-use Rattle.card.specs.Lists.{within}
-use Rattle.card.specs.Limits.{mostExtent, mostStride}
+use Rattle.card.specs.Lists.{within, withinZ}
+use Rattle.card.specs.Limits.{mostExtent, leastStride, mostStride}
 use Rattle.card.specs.Card.{extentOf, strideOf}
 use Rattle.card.specs.declared.Columns.{Columns}
 use Rattle.card.proofs.Listed.{listed-all}
@@ -16,8 +16,8 @@ unpack-requires c κs = search needs
 all-within-requires : tie.Need-all-within-requires
 all-within-requires c κs = search needs
 
-all-within-requires-2 : tie.Need-all-within-requires-2
-all-within-requires-2 c κs = search needs
+all-between-requires : tie.Need-all-between-requires
+all-between-requires c κs = search needs
 
 returns : tie.Need-returns
 returns c =
@@ -25,8 +25,8 @@ returns c =
     let iters = u .before .args .iters in
     ap₂ _&&_
     (c .before .all-within .ensures ∙ listed-all (within 1 mostExtent) extentOf iters (ap (λ (r : Columns). r .extents) (u .unpack .ensures)))
-    (c .all-within2 .ensures ∙ listed-all (within 0 mostStride) strideOf iters (ap (λ (r : Columns). r .strides) (u .unpack .ensures)))
+    (c .all-between .ensures ∙ listed-all (withinZ leastStride mostStride) strideOf iters (ap (λ (r : Columns). r .strides) (u .unpack .ensures)))
 
 pub iters-fit-spec : {M : Type 1} → statement M
 iters-fit-spec =
-    tie.close (tie.spec unpack-requires all-within-requires all-within-requires-2 returns)
+    tie.close (tie.spec unpack-requires all-within-requires all-between-requires returns)

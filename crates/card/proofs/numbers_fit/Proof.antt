@@ -5,8 +5,8 @@ use native.Mathlib.Omega.{arith}
 use borrow.Author.Needs.{needs}
 use lib.ListN.{length}
 use Rattle.laws.proofs.Lists.{take-whole}
-use Rattle.card.specs.Lists.{all, within}
-use Rattle.card.specs.Limits.{mostStride}
+use Rattle.card.specs.Lists.{all, withinZ}
+use Rattle.card.specs.Limits.{leastStride, mostStride}
 use Rattle.card.proofs.Listed.{counted}
 use Rattle.card.proofs.numbers_fit.Statement.{statement}
 use Rattle.card.proofs.numbers_fit.Tie as tie
@@ -21,15 +21,15 @@ iters-fit-requires c κs = let s = c .before .before .before in counted (s .args
 iters-fit-requires-2 : tie.Need-iters-fit-requires-2
 iters-fit-requires-2 c κs = let n = counted (c .before .before .before .before .args .card) (c .before .before .before .before .pre) in omega arith
 
-all-within-requires : tie.Need-all-within-requires
-all-within-requires c κs = search needs
+all-between-requires : tie.Need-all-between-requires
+all-between-requires c κs = search needs
 
 returns : tie.Need-returns
 returns c =
     let s = c .before .before .before .before .before .before in
     ap₂ _&&_ (ap₂ _&&_ (c .before .before .iters-fit .ensures) (c .before .iters-fit2 .ensures))
-    (c .all-within .ensures ∙ ap (all (within 0 mostStride)) (take-whole 8 (s .args .card .offset) (eight s)))
+    (c .all-between .ensures ∙ ap (all (withinZ leastStride mostStride)) (take-whole 8 (s .args .card .offset) (eight s)))
 
 pub numbers-fit-spec : {M : Type 1} → statement M
 numbers-fit-spec =
-    tie.close (tie.spec iters-fit-requires iters-fit-requires-2 all-within-requires returns)
+    tie.close (tie.spec iters-fit-requires iters-fit-requires-2 all-between-requires returns)

@@ -2,7 +2,10 @@
 use Prim.Native.Nat.{_-_, _≤_, _<_}
 use native.Mathlib.Omega.{arith}
 use mathlib.Core.Path.{_≡_, refl}
-use lib.ListN.{length}
+use lib.IntN.{pos}
+use lib.ListN.{length, getD}
+use mir.Syntax.{w64}
+use mir.Facts.{toZ-ofZ}
 use borrow.Author.Needs.{needs}
 use Rattle.laws.proofs.Lists.{length-of}
 use Rattle.card.specs.Card.{extentOf, strideOf, axisOf}
@@ -15,7 +18,7 @@ use Rattle.card.proofs.unpack.Lts as lts
 
 -- what stands past the end of a list of iters
 abbrev none : Iter
-none = record { extent = 0; stride = 0; axis = 0 }
+none = record { extent = 0; stride = pos 0; axis = 0 }
 
 abbrev Inv-loop : tie.InvT-loop
 Inv-loop iters extents₀ strides₀ axes₀ k₀ extents strides axes k =
@@ -49,8 +52,8 @@ array-write-extents c = omega arith
 mul-strides : tie.Need-mul-strides Inv-loop μ-loop
 mul-strides c = omega arith
 
-array-write-strides : tie.Need-array-write-strides Inv-loop μ-loop
-array-write-strides c = omega arith
+array-set-from-strides : tie.Need-array-set-from-strides Inv-loop μ-loop
+array-set-from-strides c = omega arith
 
 mul-axes : tie.Need-mul-axes Inv-loop μ-loop
 mul-axes c = omega arith
@@ -66,14 +69,15 @@ loop-less c = omega arith
 
 loop-again : tie.Need-loop-again Inv-loop μ-loop
 loop-again c =
-    let l = c .before .before .loop in
+    let l = c .before .before .before .loop in
     let i = l .inv in
-    let at = c .before .before .before .args .t1 .at in
-    let h : l .k < length at = omega arith in (
+    let at = c .before .before .before .before .args .t1 .at in
+    let h : l .k < length at = omega arith in
+    let back = toZ-ofZ {w = w64} {z = getD at (l .k) none .stride} (record { sfits = c .struct-told .given .1 .0 .1 }) in (
       omega arith,
       i .1,
       filled-more extentOf at (l .k) none h (i .2),
-      filled-more strideOf at (l .k) none h (i .3),
+      rw back (filled-more strideOf at (l .k) none h (i .3)),
       filled-more axisOf at (l .k) none h (i .4),
     )
 
@@ -96,7 +100,7 @@ unpack-spec =
     mul-extents
     array-write-extents
     mul-strides
-    array-write-strides
+    array-set-from-strides
     mul-axes
     array-write-axes
     add-k

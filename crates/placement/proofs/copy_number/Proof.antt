@@ -1,77 +1,74 @@
--- `placement::copy_number` is where a copy goes: the replica is walked from the base, m is swizzled, and the space asked last.
+-- `placement::copy_number` is where a copy goes: the replica is walked from the base, the sums are finished, m is swizzled, and the space asked last.
 use Prim.Native.Nat.{ℕ}
-use mathlib.Core.Path.{_≡_, ap, ap₂, _∙_}
-use mathlib.Core.List.{List}
-use lib.ListN.{length, set, length-set}
+use mathlib.Core.Path.{_≡_, refl, ap, ap₂, _∙_}
+use mathlib.Core.List.{List, map}
+use lib.IntN.{ℤ, pos}
+use lib.ListN.{length, getD, set, length-set, length-map}
 use borrow.Author.Needs.{needs}
+use mir.Syntax.{w64}
+use mir.Facts.{toZ-ofZ}
+use Rattle.laws.proofs.Lists.{take-whole, map-set}
 use Rattle.placement.specs.RowMajor.{position}
-use Rattle.placement.specs.Rules.{swizzledM}
+use Rattle.placement.specs.Rules.{swizzledZ, swizzledM, onAxis}
 use Rattle.placement.specs.Inside.{swizzleOf, numberOf, walked}
-use Rattle.laws.proofs.Lists.{take-whole}
 use Rattle.placement.proofs.Spaces.{space-locatable}
 use Rattle.placement.proofs.copy_number.Statement.{statement}
 use Rattle.placement.proofs.copy_number.Tie as tie
 
-abbrev walking : tie.After-swizzle-permitted → tie.After-walk
-walking p = p .before .before .before .before
-
 abbrev start : tie.After-walk → tie.Start
 start w = w .before .before .before
 
--- the coordinates before the swizzle
-abbrev sums : tie.After-walk → List ℕ
-sums w = w .walk .last .1 .1 .0
+-- the sums, and that they are eight
+abbrev sums : tie.After-walk → List ℤ
+sums w = w .walk .last .1 .1 .1 .0
 
-eight : (w : tie.After-walk) (m : ℕ) → length (set (sums w) 7 m) ≡ 8
+eight-sums : (w : tie.After-walk) → length (sums w) ≡ 8
 unfolding walked
-eight w m = length-set (sums w) 7 m ∙ ap length (w .walk .ensures)
+eight-sums w = ap length (w .walk .ensures)
 
-walk-requires : tie.Need-walk-requires
-walk-requires c κs = search needs
+abbrev walking : tie.After-finish → tie.After-walk
+walking f = f .before .before .before
 
-element-copy-out-swizzle-permitted : tie.Need-element-copy-out-swizzle-permitted
-element-copy-out-swizzle-permitted c = search needs
+abbrev coordinates : tie.After-finish → List ℕ
+coordinates f = f .finish .last .1 .0
 
-element-copy-out-swizzle-permitted-2 : tie.Need-element-copy-out-swizzle-permitted-2
-element-copy-out-swizzle-permitted-2 c = search needs
+eight : (f : tie.After-finish) (m : ℕ) → length (set (coordinates f) 7 m) ≡ 8
+eight f m =
+    length-set (coordinates f) 7 m ∙ ap length (f .finish .ensures) ∙ length-map (sums (walking f)) onAxis ∙ eight-sums (walking f)
 
-element-copy-out-swizzle-permitted-3 : tie.Need-element-copy-out-swizzle-permitted-3
-element-copy-out-swizzle-permitted-3 c = search needs
-
-array-read-swizzle-permitted : tie.Need-array-read-swizzle-permitted
-array-read-swizzle-permitted c = search needs
-
-swizzle-permitted-requires : tie.Need-swizzle-permitted-requires
-swizzle-permitted-requires c κs = search needs
-
-array-write-coordinates : tie.Need-array-write-coordinates
-array-write-coordinates c = search needs
+finish-requires : tie.Need-finish-requires
+finish-requires c κs = (eight-sums (c .before .before), refl)
 
 number-among-requires : tie.Need-number-among-requires
 number-among-requires c κs =
-    let w = walking (c .before) in
-    space-locatable (start w .args .lengths .now) (set (sums w) 7 _) (start w .pre .space) (eight w _)
+    let f = c .before .before .before in
+    let s = start (walking f) in
+    space-locatable (s .args .lengths .now) (set (coordinates f) 7 _) (s .pre .space) (eight f _)
 
 returns : tie.Need-returns
 returns c =
     let p = c .before .before in
-    let w = walking p in
+    let f = p .before .before in
+    let w = walking f in
     let a = start w .args in
+    let swizzle = swizzleOf (a .swizzle .now) in
+    let m = getD (sums w) 7 (pos 0) in
+    let back : p .swizzled-on-axis .result ≡ onAxis (swizzledZ swizzle m) =
+    p .swizzled-on-axis .ensures ∙ ap (λ (z : ℤ). onAxis (swizzledZ swizzle z)) (toZ-ofZ {w = w64} {z = m} (record { sfits = p .before .swizzled-on-axis-arg .given })) in
     c .number-among .ensures
-    ∙ ap numberOf (ap₂ position (take-whole 8 (a .lengths .now) (start w .pre .space .eight-lengths)) (take-whole 8 (set (sums w) 7 _) (eight w _)))
-    ∙ ap (λ (m : ℕ). numberOf (position (a .lengths .now) (set (sums w) 7 m))) (p .swizzle-permitted .ensures)
-    ∙ ap (λ (l : List ℕ). numberOf (position (a .lengths .now) (swizzledM (swizzleOf (a .swizzle .now)) l))) (w .walk .ensures)
+    ∙ ap numberOf (ap₂ position (take-whole 8 (a .lengths .now) (start w .pre .space .eight-lengths)) (take-whole 8 (set (coordinates f) 7 _) (eight f _)))
+    ∙ ap (λ (l : List ℕ). numberOf (position (a .lengths .now) l))
+    (ap₂ (λ (l : List ℕ) (n : ℕ). set l 7 n) (f .finish .ensures) back ∙ map-set onAxis (sums w) 7 (swizzledZ swizzle m))
+    ∙ ap (λ (l : List ℤ). numberOf (position (a .lengths .now) (map onAxis (swizzledM swizzle l)))) (w .walk .ensures)
 
 pub copy-number-spec : {M : Type 1} → statement M
 copy-number-spec =
     tie.close
     (tie.spec
-    walk-requires
-    element-copy-out-swizzle-permitted
-    element-copy-out-swizzle-permitted-2
-    element-copy-out-swizzle-permitted-3
-    array-read-swizzle-permitted
-    swizzle-permitted-requires
-    array-write-coordinates
+    (λ c κs. search needs)
+    finish-requires
+    (λ c. search needs)
+    (λ c κs. search needs)
+    (λ c. search needs)
     number-among-requires
     returns)

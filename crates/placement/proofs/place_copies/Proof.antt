@@ -14,15 +14,15 @@ use Rattle.placement.proofs.place_copies.Statement.{statement}
 use Rattle.placement.proofs.place_copies.Tie as tie
 
 abbrev Inv-loop : tie.InvT-loop
-Inv-loop base replica lengths swizzle row₀ outside₀ combination₀ row outside combination =
-    (combination ≤ length row₀) × Filling (spotFrom lengths (swizzleOf swizzle) (itersOf replica) base) row₀ row combination outside
+Inv-loop base replica strides lengths swizzle row₀ outside₀ combination₀ row outside combination =
+    (combination ≤ length row₀) × Filling (spotFrom lengths (swizzleOf swizzle) (itersOf replica strides) base) row₀ row combination outside
 
 abbrev μ-loop : tie.MeasureT-loop
-μ-loop base replica lengths swizzle row₀ outside₀ combination₀ row outside combination = length row₀ - combination
+μ-loop base replica strides lengths swizzle row₀ outside₀ combination₀ row outside combination = length row₀ - combination
 
 -- where each combination goes
 abbrev at : tie.Start Inv-loop μ-loop → ℕ → Position
-at s = let a = s .args in positionFrom (a .lengths .now) (swizzleOf (a .swizzle .now)) (itersOf (a .replica .now)) (a .base .now)
+at s = let a = s .args in positionFrom (a .lengths .now) (swizzleOf (a .swizzle .now)) (itersOf (a .replica .now) (a .strides .now)) (a .base .now)
 
 small : (s : tie.Start Inv-loop μ-loop) (combination : ℕ) → Small (at s combination)
 small s combination = let n = roomed (s .args .lengths .now) (s .pre .space) in position-small (s .args .lengths .now) _ (omega (arith, n .few))

@@ -1,5 +1,5 @@
 -- `placement::place_row` places the copies of an element from its base, which the shard's walk leaves on the offset.
-use Prim.Native.Nat.{ℕ}
+use lib.IntN.{ℤ}
 use mathlib.Core.Path.{sym, subst}
 use mathlib.Core.List.{List}
 use borrow.Author.Needs.{needs}
@@ -16,7 +16,7 @@ place-copies-requires c κs =
     let w = c .before .before in
     let s = w .before .before .before .before in
     let a = s .args in
-    subst (λ (base : List ℕ). Ready base (a .replica .now) (a .lengths .now) (a .swizzle .now)) (sym (w .walk .ensures)) (ready (s .pre) (a .flat .0))
+    subst (λ (base : List ℤ). Ready base (a .replica .now) (a .replica-strides .now) (a .lengths .now) (a .swizzle .now)) (sym (w .walk .ensures)) (ready (s .pre) (a .flat .0))
 
 same-length : tie.Need-same-length
 same-length c = search needs
@@ -26,9 +26,9 @@ returns c =
     let p = c .before .before in
     let w = p .before .before .before in
     let a = w .before .before .before .before .args in
-    let card = cardOf (a .shard .now) (a .replica .now) (a .offset .now) (a .lengths .now) (a .swizzle .now) in
+    let card = cardOf (a .shard .now) (a .shard-strides .now) (a .replica .now) (a .replica-strides .now) (a .offset .now) (a .lengths .now) (a .swizzle .now) in
     row-of-card card (a .flat .0)
-    (subst (λ (base : List ℕ). Row (spotFrom (card .lengths) (card .swizzle) (card .replica) base) (a .row .now) (p .place-copies .last .1 .1 .1 .1 .0) (p .place-copies .result))
+    (subst (λ (base : List ℤ). Row (spotFrom (card .lengths) (card .swizzle) (card .replica) base) (a .row .now) (p .place-copies .last .1 .1 .1 .1 .1 .0) (p .place-copies .result))
     (w .walk .ensures) (p .place-copies .ensures))
 
 pub place-row-spec : {M : Type 1} → statement M

@@ -16,19 +16,19 @@ use Rattle.verdict.proofs.claim_all.Statement.{statement}
 use Rattle.verdict.proofs.claim_all.Tie as tie
 
 abbrev Inv-loop : tie.InvT-loop
-Inv-loop shard replica offset lengths swizzle elements row₀ table₀ occupied₀ flat₀ row table occupied flat =
-    let card = cardOf shard replica offset lengths swizzle in
+Inv-loop shard shardStrides replica replicaStrides offset lengths swizzle elements row₀ table₀ occupied₀ flat₀ row table occupied flat =
+    let card = cardOf shard shardStrides replica replicaStrides offset lengths swizzle in
     (flat ≤ elements) × (length row ≡ length row₀) × OwnedTable (placed card) flat (cells card) table occupied
 
 abbrev μ-loop : tie.MeasureT-loop
-μ-loop shard replica offset lengths swizzle elements row₀ table₀ occupied₀ flat₀ row table occupied flat =
+μ-loop shard shardStrides replica replicaStrides offset lengths swizzle elements row₀ table₀ occupied₀ flat₀ row table occupied flat =
     elements - flat
 
 -- the lent card
 abbrev card : tie.Start Inv-loop μ-loop → Card
 card s =
     let a = s .args in
-    cardOf (a .shard .now) (a .replica .now) (a .offset .now) (a .lengths .now) (a .swizzle .now)
+    cardOf (a .shard .now) (a .shard-strides .now) (a .replica .now) (a .replica-strides .now) (a .offset .now) (a .lengths .now) (a .swizzle .now)
 
 -- the table lent has exactly the cells
 exact : (s : tie.Start Inv-loop μ-loop) → length (s .args .table .now) ≡ cells (card s)
@@ -43,15 +43,15 @@ claimable t =
 abbrev test : tie.After-claim-element Inv-loop μ-loop → tie.In-loop Inv-loop μ-loop
 test m = m .before .before .before
 
-ready : (m : tie.After-claim-element Inv-loop μ-loop) → Ready (test m .before .loop .flat) (m .claim-element .last .1 .1 .1 .1 .1 .1 .0) (test m .before .loop .table)
+ready : (m : tie.After-claim-element Inv-loop μ-loop) → Ready (test m .before .loop .flat) (m .claim-element .last .1 .1 .1 .1 .1 .1 .1 .1 .0) (test m .before .loop .table)
 ready m =
     let l = test m .before .loop in
     let s = test m .before .before .before .before in
     row-ready (card s) (l .flat) (l .table) (s .pre .0 .lent .admitted) (claimable (test m)) (m .claim-element .ensures .placed)
 
 -- the table has as many cells after the claim
-size : (m : tie.After-claim-element Inv-loop μ-loop) → length (m .claim-element .last .1 .1 .1 .1 .1 .1 .1 .0) ≡ cells (card (test m .before .before .before .before))
-size m = m .claim-element .kept .1 .1 .1 .1 .1 .1 .1 .0 ∙ test m .before .loop .inv .2 .size
+size : (m : tie.After-claim-element Inv-loop μ-loop) → length (m .claim-element .last .1 .1 .1 .1 .1 .1 .1 .1 .1 .0) ≡ cells (card (test m .before .before .before .before))
+size m = m .claim-element .kept .1 .1 .1 .1 .1 .1 .1 .1 .1 .0 ∙ test m .before .loop .inv .2 .size
 
 loop-holds : tie.Need-loop-holds Inv-loop μ-loop
 loop-holds c =
@@ -92,7 +92,7 @@ returns c =
     let s = test m .before .before .before .before in
     let a = s .args in
     clash-promise (card s) (a .table .now) (s .pre .0 .lent .admitted) (exact s) (s .pre .1 .0)
-    (m .claim-element .last .1 .1 .1 .1 .1 .1 .1 .0) (m .claim-element .last .1 .1 .1 .1 .1 .1 .0) (record { 0 = l .flat })
+    (m .claim-element .last .1 .1 .1 .1 .1 .1 .1 .1 .1 .0) (m .claim-element .last .1 .1 .1 .1 .1 .1 .1 .1 .0) (record { 0 = l .flat })
     (claims-clash (card s) (l .flat) (m .claim-element .result) (l .occupied) (l .inv .2) (m .claim-element .ensures) (claimable (test m) .element) (i .if1 .taken))
     (r .refuse-clash .ensures .0) (r .refuse-clash .ensures .1 ∙ ap (λ (n : ℕ). replicate n 0) (size m))
 
@@ -116,7 +116,7 @@ loop-again c =
     let l = test m .before .loop in
     let s = test m .before .before .before .before in (
       omega arith,
-      m .claim-element .kept .1 .1 .1 .1 .1 .1 .0 ∙ l .inv .1,
+      m .claim-element .kept .1 .1 .1 .1 .1 .1 .1 .1 .0 ∙ l .inv .1,
       claims-more (card s) (l .flat) (m .claim-element .result) (l .occupied) (l .inv .2) (m .claim-element .ensures) (ready m .within) (size m) (omega arith),
     )
 

@@ -12,13 +12,13 @@ use Rattle.verdict.proofs.claim_element.Tie as tie
 abbrev card : tie.Start → Card
 card s =
     let a = s .args in
-    cardOf (a .shard .now) (a .replica .now) (a .offset .now) (a .lengths .now) (a .swizzle .now)
+    cardOf (a .shard .now) (a .shard-strides .now) (a .replica .now) (a .replica-strides .now) (a .offset .now) (a .lengths .now) (a .swizzle .now)
 
 abbrev start : tie.After-place-row → tie.Start
 start p = p .before .before .before .before
 
 -- the row as it is placed
-is-placed : (p : tie.After-place-row) → p .place-row .last .1 .1 .1 .1 .1 .1 .0 ≡ copyCells (card (start p)) (start p .args .flat .0)
+is-placed : (p : tie.After-place-row) → p .place-row .last .1 .1 .1 .1 .1 .1 .1 .1 .0 ≡ copyCells (card (start p)) (start p .args .flat .0)
 is-placed p = row-cells (card (start p)) (start p .args .flat .0) (p .place-row .ensures) (start p .pre .1 .0)
 
 place-row-requires : tie.Need-place-row-requires

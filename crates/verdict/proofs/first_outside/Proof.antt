@@ -11,19 +11,19 @@ use Rattle.verdict.proofs.first_outside.Statement.{statement}
 use Rattle.verdict.proofs.first_outside.Tie as tie
 
 abbrev Inv-loop : tie.InvT-loop
-Inv-loop shard replica offset lengths swizzle elements row₀ flat₀ row flat =
+Inv-loop shard shardStrides replica replicaStrides offset lengths swizzle elements row₀ flat₀ row flat =
     (flat ≤ elements) × (length row ≡ length row₀)
-    × InsideBelow (cardOf shard replica offset lengths swizzle) flat
+    × InsideBelow (cardOf shard shardStrides replica replicaStrides offset lengths swizzle) flat
 
 abbrev μ-loop : tie.MeasureT-loop
-μ-loop shard replica offset lengths swizzle elements row₀ flat₀ row flat =
+μ-loop shard shardStrides replica replicaStrides offset lengths swizzle elements row₀ flat₀ row flat =
     elements - flat
 
 -- the lent card
 abbrev card : tie.Start Inv-loop μ-loop → Card
 card s =
     let a = s .args in
-    cardOf (a .shard .now) (a .replica .now) (a .offset .now) (a .lengths .now) (a .swizzle .now)
+    cardOf (a .shard .now) (a .shard-strides .now) (a .replica .now) (a .replica-strides .now) (a .offset .now) (a .lengths .now) (a .swizzle .now)
 
 loop-holds : tie.Need-loop-holds Inv-loop μ-loop
 loop-holds c = (omega arith, refl, λ f r h. absurd (not-suc-le-zero h))
@@ -54,7 +54,7 @@ loop-again c =
     let l = p .before .before .before .loop in
     let s = p .before .before .before .before .before in (
       omega arith,
-      p .place-row .kept .1 .1 .1 .1 .1 .1 .0 ∙ l .inv .1,
+      p .place-row .kept .1 .1 .1 .1 .1 .1 .1 .1 .0 ∙ l .inv .1,
       inside-more (card s) (l .flat) (p .place-row .ensures) (l .inv .1 ∙ s .pre .one-each) (s .pre .lent .eight-lengths) (c .if1 .left) (l .inv .2),
     )
 

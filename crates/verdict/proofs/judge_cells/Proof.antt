@@ -15,9 +15,12 @@ use borrow.Author.Needs.{needs}
 use Rattle.verdict.proofs.judge_cells.Statement.{statement}
 use Rattle.verdict.proofs.judge_cells.Tie as tie
 
--- both lists of iters are numbers, and the function's start from there
+-- both lists of iters are numbers and strides, and the function's start from there
+abbrev strided : tie.After-swizzle → tie.After-strides2
+strided c = c .before .before .before .before .before .before .before
+
 abbrev both : tie.After-swizzle → tie.After-lend2
-both c = c .before .before .before .before .before
+both c = strided c .before .before
 
 abbrev start : tie.After-swizzle → tie.Start
 start c = both c .before .before .before .before .before .before .before
@@ -39,6 +42,12 @@ lend-requires c κs = search needs
 lend-requires-2 : tie.Need-lend-requires-2
 lend-requires-2 c κs = search needs
 
+strides-requires : tie.Need-strides-requires
+strides-requires c κs = search needs
+
+strides-requires-2 : tie.Need-strides-requires-2
+strides-requires-2 c κs = search needs
+
 array-borrow-prefix-row : tie.Need-array-borrow-prefix-row
 array-borrow-prefix-row c = few (start c)
 
@@ -50,9 +59,9 @@ judge-lent-requires c κs =
     let l = c .before .before in
     let s = start l in
     let card = s .args .card in
-    let same = unpacked card (both l .before .lend .ensures) (both l .lend2 .ensures) (eight s) in (
+    let same = unpacked card (both l .before .lend .ensures) (strided l .before .strides .ensures) (both l .lend2 .ensures) (strided l .strides2 .ensures) (eight s) in (
       record {
-        lent = lent-numbers card (both l .before .lend .ensures) (both l .lend2 .ensures) (eight s) (s .pre .0);
+        lent = lent-numbers card (both l .before .lend .ensures) (strided l .before .strides .ensures) (both l .lend2 .ensures) (strided l .strides2 .ensures) (eight s) (s .pre .0);
         all-elements = ap (λ (z : Sizes). z .elements) (s .pre .1 .0) ∙ ap elements (sym same);
         one-each = long s ∙ ap (λ (z : Sizes). z .copies) (s .pre .1 .0) ∙ ap copies (sym same);
       },
@@ -68,8 +77,8 @@ returns c =
     let l = m .before .before .before in
     let s = start l in
     let a = s .args in
-    subst (λ (card : Card). VerdictPromise card (a .table .now) (m .judge-lent .last .1 .1 .1 .1 .1 .1 .1 .0) (m .judge-lent .result))
-    (unpacked (a .card) (both l .before .lend .ensures) (both l .lend2 .ensures) (eight s)) (m .judge-lent .ensures)
+    subst (λ (card : Card). VerdictPromise card (a .table .now) (m .judge-lent .last .1 .1 .1 .1 .1 .1 .1 .1 .1 .0) (m .judge-lent .result))
+    (unpacked (a .card) (both l .before .lend .ensures) (strided l .before .strides .ensures) (both l .lend2 .ensures) (strided l .strides2 .ensures) (eight s)) (m .judge-lent .ensures)
 
 pub judge-cells-spec : {M : Type 1} → statement M
 judge-cells-spec =
@@ -77,6 +86,8 @@ judge-cells-spec =
     (tie.spec
     lend-requires
     lend-requires-2
+    strides-requires
+    strides-requires-2
     array-borrow-prefix-row
     slice-aggregate-judge-lent
     judge-lent-requires

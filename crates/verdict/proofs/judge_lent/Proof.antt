@@ -20,7 +20,7 @@ clearing p = p .before .before .before .before
 abbrev card : tie.Start → Card
 card s =
     let a = s .args in
-    cardOf (a .shard .now) (a .replica .now) (a .offset .now) (a .lengths .now) (a .swizzle .now)
+    cardOf (a .shard .now) (a .shard-strides .now) (a .replica .now) (a .replica-strides .now) (a .offset .now) (a .lengths .now) (a .swizzle .now)
 
 -- the cells are all nobody's
 is-cleared : (k : tie.After-clear) → k .clear .last .0 ≡ replicate (cells (card (start k))) 0
@@ -60,7 +60,7 @@ claim-all-requires c κs =
       record {
         lent = s .pre .0 .lent;
         all-elements = s .pre .0 .all-elements;
-        one-each = p .first-outside .kept .1 .1 .1 .1 .1 .1 .0 ∙ s .pre .0 .one-each;
+        one-each = p .first-outside .kept .1 .1 .1 .1 .1 .1 .1 .1 .0 ∙ s .pre .0 .one-each;
       },
       (rw (c .before .before .enum-told .given .1) at (p .first-outside .ensures), is-cleared k),
     )

@@ -6,10 +6,10 @@ use Rattle.lines.proofs.rule.read.Statement.{statement}
 use Rattle.lines.proofs.rule.read.Tie as tie
 
 abbrev Inv-loop : tie.InvT-loop
-Inv-loop line held numbers₀ r₀ i₀ numbers r i = Unit
+Inv-loop line held numbers₀ below₀ r₀ i₀ numbers below r i = Unit
 
 abbrev μ-loop : tie.MeasureT-loop
-μ-loop line held numbers₀ r₀ i₀ numbers r i = held - i
+μ-loop line held numbers₀ below₀ r₀ i₀ numbers below r i = held - i
 
 loop-holds : tie.Need-loop-holds Inv-loop μ-loop
 loop-holds c = search needs
