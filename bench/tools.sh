@@ -74,7 +74,7 @@ measure() {
     copy_project "${1:-$bench/..}" "$crate"
     if [ -n "$quick" ]; then compile; else prove; fi
     rustc --edition 2021 --crate-type staticlib --target x86_64-unknown-linux-gnu -C opt-level=3 -C panic=abort -C codegen-units=1 \
-        -o "$work/libplain.a" "$here/plain.rs"
+        --check-cfg 'cfg(one_loop)' ${PLAIN:+--cfg "$PLAIN"} -o "$work/libplain.a" "$here/plain.rs"
     clang -O2 -fPIE $quick -c "$here/drive.c" -o "$work/drive.o"
     quiet "$own/bin/rattle-link" --target x86_64-unknown-linux-gnu --toolchain "$tools" -o "$work/drive" "$work/drive.o" "$library" "$work/libplain.a"
     cc -O2 -shared -fPIC -o "$work/icount.so" "$bench/icount.c"
