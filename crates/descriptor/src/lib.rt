@@ -102,8 +102,8 @@ pub fn read_descriptor(descriptor: u64) -> Reading
     }
 }
 
-// A yes as the bit 1, a no as 0. Public for the crates above.
-pub fn bit(yes: bool) -> u64
+// A yes as the bit 1, a no as 0.
+fn bit(yes: bool) -> u64
     ensures { λ r. ⌜ (r ≡ bit yes) × (r ≤ 1) ⌝ }
 {
     if yes { 1 } else { 0 }

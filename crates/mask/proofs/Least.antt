@@ -5,7 +5,6 @@ use mathlib.Core.Logic.{⊎-elim}
 use Prim.Native.Nat.{ℕ, zero, suc, _+_, _≤_, _<_}
 use native.Mathlib.Nat.{eq-or-lt-of-le, le-antisymm, le-of-suc-le-suc, lt-of-not-le}
 use native.Mathlib.Omega.{arith}
-use Rattle.laws.proofs.Order.{le-or-lt}
 use Rattle.mask.specs.Mask.{firstUsed}
 
 module _ (set : ℕ → Bool) where
@@ -40,29 +39,3 @@ module _ (set : ℕ → Bool) where
   pub least-one : (p count q r : ℕ) → Least p count q → Least p count r → q ≡ r
   least-one p count q r a b =
       le-antisymm (le-of-suc-le-suc (lt-of-not-le (none-before p count r q b a))) (le-of-suc-le-suc (lt-of-not-le (none-before p count q r a b)))
-
-  -- all columns below p are set
-  abbrev pub AllSet : ℕ → Type 0
-  AllSet p = (k : ℕ) → k < p → set k ≡ true
-
-  -- after columns that are all set, the next so many hold the smallest clear one, or are all set
-  pub least-found : (p count n q : ℕ) → AllSet p → Least p count q → q < p + count → p + count ≤ n → q ≡ firstUsed set 0 n
-  least-found p count n q all least h l =
-      least-one 0 n q (firstUsed set 0 n)
-      (record {
-        from = omega arith;
-        to = omega arith;
-        before = λ k z b. ⊎-elim (λ (above : p ≤ k). least .before k above b) (λ (below : k < p). all k below) (le-or-lt p k);
-        clear = λ b. least .clear h;
-      })
-      (first-least 0 n)
-
-  pub least-passed : (p count q : ℕ) → AllSet p → Least p count q → p + count ≤ q → AllSet (p + count)
-  least-passed p count q all least h k l =
-      ⊎-elim (λ (above : p ≤ k). least .before k above (omega arith)) (λ (below : k < p). all k below) (le-or-lt p k)
-
-  pub least-none : (n : ℕ) → AllSet n → n ≡ firstUsed set 0 n
-  least-none n all =
-      least-one 0 n n (firstUsed set 0 n)
-      (record { from = omega arith; to = omega arith; before = λ k z b. all k b; clear = λ b. absurd (omega arith) })
-      (first-least 0 n)

@@ -3,5 +3,7 @@ pub mod Least
 pub mod Bytes
 pub mod Sizes
 pub mod Pattern
+pub mod Runs
+pub mod Counted
 pub mod Alike
 pub mod Theorems

@@ -6,8 +6,9 @@ use Prim.Native.Nat.{ℕ, zero, suc, _+_, _-_, _*_, _/_, _%_, _^_, _≤_, _<_}
 use native.Mathlib.Nat.{pow-suc, lt-of-lt-of-le, add-assoc, add-zero, zero-add, suc-add, div-one, mod-one}
 use native.Mathlib.Numerals.{add-one, one-add}
 use native.Mathlib.Omega.{arith}
+use borrow.Author.Tests.{eq-eqb, ne-eqb}
 use lib.Dec.{eqb}
-use lib.Pow.{pow-mono, shr-shr, mod-pow-add}
+use lib.Pow.{pow-mono, shr-shr, mod-pow-add, suc-ones}
 use lib.Count.{ones, trailingZeros, under, ones-step}
 use Rattle.descriptor.specs.Descriptor.{bits, yes, bit}
 use Rattle.mask.specs.Mask.{number, zeroed, firstUsed}
@@ -17,22 +18,15 @@ use Rattle.descriptor.proofs.Digits.{bit-below, yes-bit, bit-yes}
 yes-next : (k n : ℕ) → yes (suc k) n ≡ yes k (n / 2)
 yes-next k n = ap (λ (x : ℕ). eqb (x % 2) 1) (ap (λ (j : ℕ). n / 2 ^ j) (sym (one-add k)) ∙ sym (shr-shr n 1 k))
 
+-- the complement of a number by its lowest digit and the rest
+complement : (d x w : ℕ) → d ≤ 1 → x < w → ((w * 2 - 1 - (d + 2 * x)) % 2 ≡ 1 - d) × ((w * 2 - 1 - (d + 2 * x)) / 2 ≡ w - 1 - x)
+complement d x w h l = (omega arith, omega arith)
+
 module _ (set : ℕ → Bool) where
   pub number-below : (p count : ℕ) → number set p count < 2 ^ count
   unfolding number
   number-below p zero = omega arith
   number-below p (suc count) = rw (pow-suc 2 count) (omega (arith, bit-below (set p), number-below (p + 1) count))
-
-  pub number-byte : (p count : ℕ) → count ≤ 8 → number set p count < 256
-  number-byte p count h = lt-of-lt-of-le (number-below p count) (pow-mono h)
-
-  -- one more column in front, of those up to column p + 8
-  pub number-more : (p k : ℕ) → 0 < k → k ≤ 8 → number set (p + (k - 1)) (8 - (k - 1)) ≡ bit (set (p + (k - 1))) + 2 * number set (p + k) (8 - k)
-  unfolding number
-  number-more p k h l =
-      let next : p + (k - 1) + 1 ≡ p + k = omega arith in
-      let more : 8 - (k - 1) ≡ suc (8 - k) = omega arith in
-      rw (more, next)
 
   -- the lowest digit of a number of columns, and the rest
   number-low : (p count : ℕ) → number set p (suc count) % 2 ≡ bit (set p)
@@ -51,30 +45,33 @@ module _ (set : ℕ → Bool) where
       ∙ ap₂ (λ (x y : ℕ). x + ones y) (number-low p count) (number-rest p count)
       ∙ ap (λ (n : ℕ). bit (set p) + n) (ones-zeroed (p + 1) count)
 
-  -- the complement of a number of columns
-  abbrev complement : ℕ → ℕ → ℕ
-  complement p count = 2 ^ count - 1 - number set p count
-
-  complement-low : (p count : ℕ) → complement p (suc count) % 2 ≡ 1 - bit (set p)
-  unfolding number
-  complement-low p count = rw (pow-suc 2 count) (omega (arith, bit-below (set p), number-below (p + 1) count))
-
-  complement-rest : (p count : ℕ) → complement p (suc count) / 2 ≡ complement (p + 1) count
-  unfolding number
-  complement-rest p count = rw (pow-suc 2 count) (omega (arith, bit-below (set p), number-below (p + 1) count))
-
-  pub trailing-used : (p count : ℕ) → p + trailingZeros count (complement p count) ≡ firstUsed set p count
-  unfolding firstUsed trailingZeros
-  trailing-used p zero = add-zero p
-  trailing-used p (suc count) =
-      ap (λ (n : ℕ). p + n) (ap₂ (λ (d n : ℕ). under d (trailingZeros count n)) (complement-low p count) (complement-rest p count))
-      ∙ by (set p) _ _ (trailing-used (p + 1) count)
+  -- the first used column, by the trailing zeros of the complement of a word that may have room for more columns
+  pub trailing-first : (w p count : ℕ) → count ≤ w → p + trailingZeros w (2 ^ w - 1 - number set p count) ≡ firstUsed set p count
+  unfolding firstUsed trailingZeros number
+  trailing-first zero p zero h = add-zero p
+  trailing-first zero p (suc count) h = absurd (omega arith)
+  trailing-first (suc w) p zero h =
+      let odd : (2 ^ suc w - 1 - 0) % 2 ≡ 1 = rw (pow-suc 2 w) (omega (arith, suc-ones w)) in
+      rw odd (add-zero p)
+  trailing-first (suc w) p (suc count) h =
+      let x = number set (p + 1) count in
+      let fits = lt-of-lt-of-le (number-below (p + 1) count) (pow-mono {i = count} {j = w} (omega arith)) in
+      let parts = complement (bit (set p)) x (2 ^ w) (bit-below (set p)) fits in
+      rw (pow-suc 2 w) (ap (λ (n : ℕ). p + n) (ap₂ (λ (d n : ℕ). under d (trailingZeros w n)) (parts .0) (parts .1)))
+      ∙ by (set p) _ _ (trailing-first w (p + 1) count (omega arith))
     where
       by : (b : Bool) (t n : ℕ) → p + 1 + t ≡ n → p + under (1 - bit b) t ≡ cond b n p
       by true t n e = omega arith
       by false t n e = omega arith
 
   -- one stretch of columns after the other
+  pub number-append : (p m n : ℕ) → number set p (m + n) ≡ number set p m + number set (p + m) n * 2 ^ m
+  unfolding number
+  number-append p zero n = rw (zero-add n, add-zero p) (omega arith)
+  number-append p (suc m) n =
+      let further : p + suc m ≡ p + 1 + m = omega arith in
+      rw (suc-add m n, further, pow-suc 2 m, number-append (p + 1) m n) (omega arith)
+
   pub zeroed-append : (p m n : ℕ) → zeroed set p (m + n) ≡ zeroed set p m + zeroed set (p + m) n
   unfolding zeroed
   zeroed-append p zero n = rw (zero-add n, add-zero p, zero-add (zeroed set p n))
@@ -83,6 +80,17 @@ module _ (set : ℕ → Bool) where
       rw (suc-add m n, further)
       (ap (λ (k : ℕ). bit (set p) + k) (zeroed-append (p + 1) m n)
       ∙ sym (add-assoc (bit (set p)) (zeroed set (p + 1) m) (zeroed set (p + 1 + m) n)))
+
+  pub first-append : (p m n : ℕ) → firstUsed set p (m + n) ≡ cond (eqb (firstUsed set p m) (p + m)) (firstUsed set (p + m) n) (firstUsed set p m)
+  unfolding firstUsed
+  first-append p zero n = rw (zero-add n, add-zero p, eq-eqb p p refl)
+  first-append p (suc m) n =
+      let further : p + suc m ≡ p + 1 + m = omega arith in
+      rw (suc-add m n, further) (by (set p) _ _ _ (first-append (p + 1) m n))
+    where
+      by : (b : Bool) (x y z : ℕ) → x ≡ cond (eqb y (p + 1 + m)) z y → cond b x p ≡ cond (eqb (cond b y p) (p + 1 + m)) z (cond b y p)
+      by true x y z e = e
+      by false x y z e = rw (ne-eqb p (p + 1 + m) (λ e. omega arith))
 
   -- the bits of a number of columns are the columns
   pub number-bit : (p count k : ℕ) → k < count → yes k (number set p count) ≡ set (p + k)
@@ -102,19 +110,25 @@ number-of set p (suc count) x h =
     let rest = number-of set (p + 1) count (x / 2) (λ k l. ap set (omega arith) ∙ h (suc k) (omega arith) ∙ yes-next k x) in
     rw (sym (add-one count), mod-pow-add x count 1, low, rest) (omega arith)
 
--- columns that agree make the same number, so as many are zeroed and the same is the first used
+-- columns that agree, wherever they stand, make the same number
+pub number-moved : (f g : ℕ → Bool) (p q count : ℕ) → ((k : ℕ) → k < count → f (p + k) ≡ g (q + k)) → number f p count ≡ number g q count
+unfolding number
+number-moved f g p q zero h = refl
+number-moved f g p q (suc count) h =
+    ap₂ (λ (b : Bool) (n : ℕ). bit b + 2 * n)
+    (ap f (sym (add-zero p)) ∙ h 0 (omega arith) ∙ ap g (add-zero q))
+    (number-moved f g (p + 1) (q + 1) count (λ k l. ap f (omega arith) ∙ h (suc k) (omega arith) ∙ ap g (omega arith)))
+
+-- so where they agree from the start, as many are zeroed and the same is the first used
 module _ (f g : ℕ → Bool) where
   pub number-same : (p count : ℕ) → ((k : ℕ) → k < p + count → f k ≡ g k) → number f p count ≡ number g p count
-  unfolding number
-  number-same p zero h = refl
-  number-same p (suc count) h =
-      ap₂ (λ (b : Bool) (n : ℕ). bit b + 2 * n) (h p (omega arith)) (number-same (p + 1) count (λ k l. h k (omega arith)))
+  number-same p count h = number-moved f g p p count (λ k l. h (p + k) (omega arith))
 
   pub zeroed-same : (p count : ℕ) → ((k : ℕ) → k < p + count → f k ≡ g k) → zeroed f p count ≡ zeroed g p count
   zeroed-same p count h = sym (ones-zeroed f p count) ∙ ap ones (number-same p count h) ∙ ones-zeroed g p count
 
   pub first-same : (p count : ℕ) → ((k : ℕ) → k < p + count → f k ≡ g k) → firstUsed f p count ≡ firstUsed g p count
   first-same p count h =
-      sym (trailing-used f p count)
+      sym (trailing-first f count p count (omega arith))
       ∙ ap (λ (n : ℕ). p + trailingZeros count (2 ^ count - 1 - n)) (number-same p count h)
-      ∙ trailing-used g p count
+      ∙ trailing-first g count p count (omega arith)

@@ -72,6 +72,12 @@ pub all-clear : (size : ℕ) (f : Fields) → f .«non_zero» ≡ false → (p :
 unfolding column
 all-clear size f e p = rw e
 
+-- k columns further on in the same sub-mask
+pub further-in : (size p k : ℕ) → p % size + k < size → ((p + k) / size ≡ p / size) × ((p + k) % size ≡ p % size + k)
+further-in size p k h =
+    let parts : p + k ≡ p / size * size + (p % size + k) = omega (arith, div-add-mod' p size) in
+    (ap (λ (n : ℕ). n / size) parts ∙ digits-div (p / size) h, ap (λ (n : ℕ). n % size) parts ∙ digits-mod (p / size) h)
+
 -- the mask is periodic from the start of each sub-mask
 pub repeats : (size : ℕ) (f : Fields) (p : ℕ) → p % size + period (f .«skip_span») (f .«use_span») < size
     → column size f (p + period (f .«skip_span») (f .«use_span»)) ≡ column size f p
@@ -79,7 +85,5 @@ unfolding column
 repeats size f p h =
     let P = period (f .«skip_span») (f .«use_span») in
     let start = getD (f .«start_counts») (p / size) 0 in
-    let at : p + P ≡ p / size * size + (p % size + P) = omega (arith, div-add-mod' p size) in
-    let same : (p + P) / size ≡ p / size = ap (λ (n : ℕ). n / size) at ∙ digits-div (p / size) h in
-    let further : (p + P) % size ≡ p % size + P = ap (λ (n : ℕ). n % size) at ∙ digits-mod (p / size) h in
-    rw (same, further, ← add-assoc start (p % size) P, endless-repeats (f .«skip_span») (f .«use_span») (getD (f .«first_spans») (p / size) false) (start + p % size))
+    let on = further-in size p P h in
+    rw (on .0, on .1, ← add-assoc start (p % size) P, endless-repeats (f .«skip_span») (f .«use_span») (getD (f .«first_spans») (p / size) false) (start + p % size))

@@ -1,6 +1,6 @@
 -- What the definitions mean, in plain for-alls: a mask is its pattern's columns, what does not count changes nothing, and the promise settles
 -- the answer.
-use mathlib.Core.Path.{_≡_, refl, sym, ap, ap₂, _∙_}
+use mathlib.Core.Path.{_≡_, refl, sym, ap, ap₂, fun-ext, _∙_}
 use mathlib.Core.Bool.{true, false}
 use mathlib.Core.List.{List}
 use Prim.Native.Nat.{ℕ, _+_, _/_, _%_, _≤_, _<_}
@@ -16,7 +16,7 @@ use Rattle.descriptor.specs.declared.Fields.{Fields}
 use Rattle.mask.specs.declared.Generated.{Generated}
 use Rattle.mask.specs.declared.Generated.the-variants.{Mask, Refused as NoMask}
 use Rattle.mask.proofs.Numbers.{zeroed-same, first-same}
-use Rattle.mask.proofs.Bytes.{bytes-length, none-zeroed, all-used, zero-bytes, bytes-same, bytes-bit}
+use Rattle.mask.proofs.Bytes.{bytes-length, none-zeroed, all-used, zero-bytes, bytes-bit}
 use Rattle.mask.proofs.Sizes.{sized}
 use Rattle.mask.proofs.Alike.{Alike, alike-same}
 -- the endless pattern runs in turns; a mask repeats from the start of each sub-mask; the first used column is the smallest that is clear
@@ -26,11 +26,7 @@ pub use Rattle.mask.proofs.Least.{Least, first-least, least-one}
 -- a mask whose non-zero mask field is 0: no column is zeroed, and every byte is 0
 pub clear-mask : (M N d : ℕ) → fieldsOf d .«non_zero» ≡ false → (maskOf (columns M N d) N ≡ Mask 0 0) × (bytes (columns M N d) (N / 8) ≡ replicate (N / 8) 0)
 clear-mask M N d e =
-    let clear = all-clear (subBits M N) (fieldsOf d) e in (
-      ap₂ Mask (zeroed-same (columns M N d) (λ p. false) 0 N (λ p h. clear p) ∙ none-zeroed 0 N)
-          (first-same (columns M N d) (λ p. false) 0 N (λ p h. clear p) ∙ all-used 0 N),
-      bytes-same (columns M N d) (λ p. false) (N / 8) (λ p h. clear p) ∙ zero-bytes (N / 8),
-    )
+    rw (fun-ext (all-clear (subBits M N) (fieldsOf d) e)) (ap₂ Mask (none-zeroed 0 N) (all-used 0 N), zero-bytes (N / 8))
 
 -- mask bit p of the lent memory is column p
 pub mask-bits : (M N d zeroed used : ℕ) (lent : List ℕ) (p : ℕ) → maskSize M N ≡ true → p < N → maskBit (maskMemory (Mask zeroed used) M N d lent) p ≡ columns M N d p

@@ -36,20 +36,11 @@ shift-above c =
 part-long : (c : tie.Else4) → let a = c .before .before .before .before .before .before .before .before .before .args in length (take (a .n / 8) (a .mask .now)) ≡ a .n / 8
 part-long c = let a = c .before .before .before .before .before .before .before .before .before .args in length-take-le (a .n / 8) (a .mask .now) (c .if4 .left)
 
-is-mask-size-requires : tie.Need-is-mask-size-requires
-is-mask-size-requires c κs = search needs
-
 returns : tie.Need-returns
 returns c = (rw (sym (c .before .is-mask-size .ensures) ∙ not-true (c .before .is-mask-size .result) (c .if1 .taken)), refl)
 
-has-reserved-requires : tie.Need-has-reserved-requires
-has-reserved-requires c κs = search needs
-
 returns-2 : tie.Need-returns-2
 returns-2 c = (rw (size-known (c .before .before), sym (c .before .has-reserved .ensures) ∙ c .if2 .taken), refl)
-
-fields-of-requires : tie.Need-fields-of-requires
-fields-of-requires c κs = search needs
 
 returns-3 : tie.Need-returns-3
 returns-3 c =
@@ -62,12 +53,6 @@ returns-4 c =
     let a = two .before .before .before .before .before .args in
     (rw (size-known (two .before .before), none-reserved two, shift-allowed (c .before), lt-ltb (length (a .mask .now)) (a .n / 8) (c .if4 .taken)), refl)
 
-sub-bits-requires : tie.Need-sub-bits-requires
-sub-bits-requires c κs = search needs
-
-slice-relend-prefix-fill-mask : tie.Need-slice-relend-prefix-fill-mask
-slice-relend-prefix-fill-mask c = search needs
-
 slice-aggregate-fill-mask : tie.Need-slice-aggregate-fill-mask
 slice-aggregate-fill-mask c = sym (part-long (c .before .before))
 
@@ -79,9 +64,6 @@ fill-mask-requires c κs =
     let bits = c .before .sub-bits .ensures in
     let long = part-long (c .before .before) in
     omega arith
-
-same-length : tie.Need-same-length
-same-length c = search needs
 
 returns-5 : tie.Need-returns-5
 returns-5 c =
@@ -103,16 +85,16 @@ pub generate-mask-spec : {M : Type 1} → statement M
 generate-mask-spec =
     tie.close
     (tie.spec
-    is-mask-size-requires
+    (λ c κs. tt)
     returns
-    has-reserved-requires
+    (λ c κs. tt)
     returns-2
-    fields-of-requires
+    (λ c κs. tt)
     returns-3
     returns-4
-    sub-bits-requires
-    slice-relend-prefix-fill-mask
+    (λ c κs. tt)
+    (λ c. search needs)
     slice-aggregate-fill-mask
     fill-mask-requires
-    same-length
+    (λ c. search needs)
     returns-5)

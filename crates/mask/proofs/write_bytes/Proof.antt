@@ -1,45 +1,34 @@
--- `mask::write_bytes` writes the bytes of the mask: after j turns the first j are written and the others as they were.
+-- `mask::write_bytes` writes the bytes of the words: after j turns the first j are written and the others as they were.
+use native.Mathlib.Omega.{arith}
+use borrow.Author.Needs.{needs}
 use mathlib.Core.Path.{_≡_, ap₂, _∙_}
 use mathlib.Core.List.{List, _++_, append-nil}
 use Prim.Native.Nat.{ℕ, _-_, _≤_}
-use native.Mathlib.Omega.{arith}
-use borrow.Author.Needs.{needs}
 use lib.ListN.{length, drop, length-set, drop-of-length-le, set as store}
-use Rattle.mask.specs.Mask.{column, bytes}
+use Rattle.mask.specs.Mask.{bytes}
 use Rattle.mask.proofs.Bytes.{bytes-store}
+use Rattle.mask.proofs.Counted.{wordBit, word-byte}
 use Rattle.mask.proofs.write_bytes.Statement.{statement}
 use Rattle.mask.proofs.write_bytes.Tie as tie
 
 abbrev Inv-loop : tie.InvT-loop
-Inv-loop size fields mask₀ j₀ mask j = (j ≤ length mask₀) × (length mask ≡ length mask₀) × (mask ≡ bytes (column size fields) j ++ drop j mask₀)
+Inv-loop mask₀ words j₀ mask j = (j ≤ length mask₀) × (length mask ≡ length mask₀) × (mask ≡ bytes (wordBit words) j ++ drop j mask₀)
 
 abbrev μ-loop : tie.MeasureT-loop
-μ-loop size fields mask₀ j₀ mask j = length mask₀ - j
+μ-loop mask₀ words j₀ mask j = length mask₀ - j
 
 loop-holds : tie.Need-loop-holds Inv-loop μ-loop
 unfolding bytes
 loop-holds c = search needs
 
-mask-byte-requires : tie.Need-mask-byte-requires Inv-loop μ-loop
-mask-byte-requires c κs = search needs
-
-slice-write-mask : tie.Need-slice-write-mask Inv-loop μ-loop
-slice-write-mask c = omega arith
-
-add-j : tie.Need-add-j Inv-loop μ-loop
-add-j c = omega arith
-
-loop-less : tie.Need-loop-less Inv-loop μ-loop
-loop-less c = omega arith
-
 loop-again : tie.Need-loop-again Inv-loop μ-loop
 loop-again c =
-    let a = c .before .before .before .before .args in
-    let now = c .before .before .loop in (
+    let a = c .before .before .args in
+    let now = c .before .loop in (
       omega arith,
       simp length-set (now .inv .1),
-      ap₂ (λ (l : List ℕ) (v : ℕ). store l (now .j) v) (now .inv .2) (c .mask-byte .ensures)
-          ∙ bytes-store (column (a .size) (a .fields)) (a .mask .now) (now .j) (omega arith),
+      ap₂ (λ (l : List ℕ) (v : ℕ). store l (now .j) v) (now .inv .2) (word-byte (a .t1) (now .j))
+          ∙ bytes-store (wordBit (a .t1)) (a .mask .now) (now .j) (omega arith),
     )
 
 same-length : tie.Need-same-length Inv-loop μ-loop
@@ -47,7 +36,7 @@ same-length c = c .before .loop .inv .1
 
 returns : tie.Need-returns Inv-loop μ-loop
 returns c =
-    let a = c .before .before .before .args in
+    let a = c .before .before .args in
     let now = c .before .loop in
     let all : now .j ≡ length (a .mask .now) = omega arith in
     now .inv .2
@@ -60,10 +49,14 @@ write-bytes-spec =
     Inv-loop
     μ-loop
     loop-holds
-    mask-byte-requires
-    slice-write-mask
-    add-j
-    loop-less
+    (λ c. omega arith)
+    (λ c. omega arith)
+    (λ c. omega arith)
+    (λ c. omega arith)
+    (λ c. omega arith)
+    (λ c. omega arith)
+    (λ c. omega arith)
+    (λ c. omega arith)
     loop-again
     same-length
     returns)
