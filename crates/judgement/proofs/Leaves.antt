@@ -15,9 +15,9 @@ use Rattle.card.specs.Admission.{countsFit, numbersFit, axesFit, spaceFits, few
 use Rattle.card.specs.declared.Card.{Card}
 use Rattle.card.specs.declared.Admission.{Admission}
 use Rattle.card.specs.declared.Admission.the-variants.{Admitted, Refused}
-use Rattle.placement.specs.RowMajor.{position}
-use Rattle.placement.proofs.RowMajor.{FirstPast, first-past}
-use Rattle.placement.proofs.Spots.{position-past, outside-past}
+use Rattle.rules.specs.RowMajor.{position}
+use Rattle.rules.proofs.RowMajor.{FirstPast, first-past}
+use Rattle.rules.proofs.Spots.{position-past, outside-past}
 use Rattle.judgement.specs.Judgement.{Judgement, NotAdmitted, NoRoom, OutsideAt, Clashing, Passed, ComesTo}
 use Rattle.judgement.specs.Verdict.{verdictOf, cleared, tableAfter, VerdictPromise, OwnerJudgement, NoCell, ByVerdict, OwnerComesTo, readEntry, ownerTableAfter, ownerOf, OwnerPromise, verdictNumbers, ownerNumbers}
 use Rattle.judgement.specs.declared.Verdict.{Verdict}

@@ -7,9 +7,9 @@ use Rattle.card.specs.Lists.{product}
 use Rattle.card.specs.Card.{extentOf, elements, copies, cells}
 use Rattle.card.specs.declared.Card.{Card}
 use Rattle.card.proofs.Theorems.{AlikeCards, past-the-count}
-use Rattle.placement.specs.RowMajor.{position}
-use Rattle.placement.specs.Rules.{spotAt, spot}
-use Rattle.placement.proofs.Theorems.{same-spot}
+use Rattle.rules.specs.RowMajor.{position}
+use Rattle.rules.specs.Rules.{spotAt}
+use Rattle.rules.proofs.Theorems.{same-spot}
 use Rattle.judgement.specs.Judgement.{placed, LiesInside, AllInside, FirstOutside, Judgement, NotAdmitted, NoRoom, OutsideAt, Clashing, Passed, Judged, ComesTo}
 use Rattle.judgement.specs.Verdict.{verdictOf, tableAfter, VerdictPromise, askedSpot, OwnerJudgement, NoCell, ByVerdict, OwnerComesTo, ownerTableAfter, ownerOf, OwnerPromise}
 use Rattle.judgement.specs.declared.Verdict.{Verdict}

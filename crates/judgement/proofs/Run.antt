@@ -15,11 +15,11 @@ use Rattle.card.specs.Admission.{admission}
 use Rattle.card.specs.declared.Card.{Card}
 use Rattle.card.specs.declared.Admission.{Admission}
 use Rattle.card.specs.declared.Admission.the-variants.{Admitted, Refused}
-use Rattle.placement.specs.Rules.{spot}
-use Rattle.placement.specs.Placement.{cellOf}
-use Rattle.placement.specs.declared.Spot.{Spot}
-use Rattle.placement.specs.declared.Spot.the-variants.{Inside, Outside}
-use Rattle.placement.proofs.Spots.{cell-below}
+use Rattle.rules.specs.Rules.{spot}
+use Rattle.rules.specs.Copies.{cellOf}
+use Rattle.rules.specs.declared.Spot.{Spot}
+use Rattle.rules.specs.declared.Spot.the-variants.{Inside, Outside}
+use Rattle.rules.proofs.Spots.{cell-below}
 use Rattle.claims.specs.Claims.{Inside as Within, Outcome, Owned, Clash, ClaimsComeTo as Comes}
 use Rattle.claims.specs.Rows.{smaller}
 use Rattle.claims.specs.Run.{run}

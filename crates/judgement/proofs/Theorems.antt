@@ -16,10 +16,10 @@ use Rattle.card.specs.Card.{elements, copies, cells}
 use Rattle.card.specs.Admission.{admission}
 use Rattle.card.specs.declared.Card.{Card}
 use Rattle.card.specs.declared.Admission.the-variants.{Admitted}
-use Rattle.placement.specs.Rules.{spot}
-use Rattle.placement.specs.Placement.{cellOf, copyCells}
-use Rattle.placement.specs.declared.Spot.the-variants.{Inside}
-use Rattle.placement.proofs.Filling.{cells-length, cells-at}
+use Rattle.rules.specs.Rules.{spot}
+use Rattle.rules.specs.Copies.{cellOf, copyCells}
+use Rattle.rules.specs.declared.Spot.the-variants.{Inside}
+use Rattle.rules.proofs.Filling.{cells-length, cells-at}
 use Rattle.claims.specs.Claims.{Claims, NoneShare, occupied, OwnedTable as Owned}
 use Rattle.claims.specs.Rows.{Row}
 use Rattle.claims.proofs.Rows.{Among, among-claims, claims-among}

@@ -7,10 +7,10 @@ use Rattle.card.specs.Card.{elements, copies, cells}
 use Rattle.card.specs.Admission.{admission}
 use Rattle.card.specs.declared.Card.{Card}
 use Rattle.card.specs.declared.Admission.the-variants.{Admitted, Refused}
-use Rattle.placement.specs.Rules.{spot}
-use Rattle.placement.specs.Placement.{cellOf}
-use Rattle.placement.specs.declared.Spot.{Spot}
-use Rattle.placement.specs.declared.Spot.the-variants.{Inside, Outside}
+use Rattle.rules.specs.Rules.{spot}
+use Rattle.rules.specs.Copies.{cellOf}
+use Rattle.rules.specs.declared.Spot.{Spot}
+use Rattle.rules.specs.declared.Spot.the-variants.{Inside, Outside}
 use Rattle.claims.specs.Claims.{Layout, OwnedTable, FirstClash}
 
 -- where the copies of a card's elements go; one outside counts as cell 0, so a layout is asked only where every copy lies inside

@@ -9,9 +9,9 @@ use Rattle.card.specs.Admission.{admission}
 use Rattle.card.specs.declared.Card.{Card}
 use Rattle.card.specs.declared.Admission.{Admission}
 use Rattle.card.specs.declared.Admission.the-variants.{Admitted, Refused}
-use Rattle.placement.specs.Rules.{spot}
-use Rattle.placement.specs.declared.Spot.{Spot}
-use Rattle.placement.specs.declared.Spot.the-variants.{Inside, Outside}
+use Rattle.rules.specs.Rules.{spot}
+use Rattle.rules.specs.declared.Spot.{Spot}
+use Rattle.rules.specs.declared.Spot.the-variants.{Inside, Outside}
 use Rattle.claims.specs.Claims.{Outcome, Owned, Clash}
 use Rattle.claims.specs.Rows.{smaller}
 use Rattle.claims.specs.Run.{run}

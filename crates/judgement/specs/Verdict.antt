@@ -10,11 +10,11 @@ use Rattle.card.specs.Card.{elements, cells}
 use Rattle.card.specs.Admission.{admission}
 use Rattle.card.specs.declared.Card.{Card}
 use Rattle.card.specs.declared.Admission.the-variants.{Admitted}
-use Rattle.placement.specs.RowMajor.{position}
-use Rattle.placement.specs.Rules.{spotAt}
-use Rattle.placement.specs.Placement.{cellOf}
-use Rattle.placement.specs.declared.Spot.{Spot}
-use Rattle.placement.specs.declared.Spot.the-variants.{Outside}
+use Rattle.rules.specs.RowMajor.{position}
+use Rattle.rules.specs.Rules.{spotAt}
+use Rattle.rules.specs.Copies.{cellOf}
+use Rattle.rules.specs.declared.Spot.{Spot}
+use Rattle.rules.specs.declared.Spot.the-variants.{Outside}
 use Rattle.judgement.specs.Judgement.{LiesInside, Judgement, NotAdmitted, NoRoom, OutsideAt, Clashing, Passed, ComesTo}
 use Rattle.judgement.specs.declared.Verdict.{Verdict}
 use Rattle.judgement.specs.declared.Verdict.the-variants.{Approved, Refused}

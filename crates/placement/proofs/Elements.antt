@@ -10,13 +10,13 @@ use Rattle.answers.specs.declared.Flat.{Flat}
 use Rattle.card.specs.Lists.{within, product}
 use Rattle.card.specs.Limits.{mostElements}
 use Rattle.card.proofs.Lists.{within-numbers}
-use Rattle.placement.specs.RowMajor.{position}
+use Rattle.rules.specs.RowMajor.{position}
 use Rattle.placement.specs.Placement.{entries, mostDimensions, shapeAdmitted, coordinatesFit, flatten}
 use Rattle.placement.specs.Inside.{Shaped, element}
 use Rattle.placement.specs.declared.Tuple.{Tuple}
-use Rattle.placement.specs.declared.Position.the-variants.{At, Past}
+use Rattle.rules.specs.declared.Position.the-variants.{At, Past}
 use Rattle.placement.specs.declared.Found.the-variants.{Element, Nowhere}
-use Rattle.placement.proofs.Spots.{position-at, position-past}
+use Rattle.rules.proofs.Spots.{position-at, position-past}
 
 module _ (shape coordinates : Tuple) where
   pub element-uncounted : (coordinates .count ≡ shape .count → ⊥) → Nowhere ≡ element shape coordinates

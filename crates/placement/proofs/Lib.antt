@@ -1,16 +1,3 @@
-pub mod RowMajor
-pub mod Prefixes
-pub mod Below
-pub mod Along
-pub mod Lending
-pub mod Turn
-pub mod Located
-pub mod Spaces
-pub mod Filling
-pub mod Spots
-pub mod Numbers
-pub mod Cards
 pub mod Elements
 pub mod Placings
-pub mod Whole
 pub mod Theorems

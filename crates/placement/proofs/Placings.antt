@@ -12,7 +12,8 @@ use Rattle.card.specs.Card.{elements, copies}
 use Rattle.card.specs.Admission.{admission}
 use Rattle.card.specs.declared.Card.{Card}
 use Rattle.card.specs.declared.Admission.the-variants.{Admitted, Refused as NotAdmitted}
-use Rattle.placement.specs.Placement.{shapeAdmitted, coordinatesFit, flatten, copyCells, outsideAxis, placementAnswer, placementMemory, written, Placing}
+use Rattle.rules.specs.Copies.{copyCells, outsideAxis}
+use Rattle.placement.specs.Placement.{shapeAdmitted, coordinatesFit, flatten, placementAnswer, placementMemory, written, Placing}
 use Rattle.placement.specs.declared.Tuple.{Tuple}
 use Rattle.placement.specs.declared.Placement.{Placement}
 use Rattle.placement.specs.declared.Placement.the-variants.{Copies, Refused}

@@ -1,4 +1,2 @@
-pub mod RowMajor
-pub mod Rules
 pub mod Placement
 pub mod Inside

@@ -1,60 +1,25 @@
--- The placement of one element: its copies, the order of checks, and what is left in the lent memory.
-use Prim.Native.Nat.{ℕ, zero, suc, _+_, min}
+-- The placement of one element: the order of checks, and what is left in the lent memory.
+use Prim.Native.Nat.{ℕ}
 use mathlib.Core.Path.{_≡_}
 use mathlib.Core.Bool.{Bool, cond, not, _&&_}
-use mathlib.Core.List.{List, [], _∷_, _++_, map}
+use mathlib.Core.List.{List, _++_}
 use lib.Dec.{leb, eqb, ltb}
 use lib.ListN.{length, take, drop}
 use Rattle.answers.specs.Refusals.{answer, refusalNumbers}
 use Rattle.answers.specs.declared.Numbers.{Numbers}
-use Rattle.answers.specs.declared.Refusal.the-variants.{Shape, Coordinate, TooShort, Outside as NotInside}
+use Rattle.answers.specs.declared.Refusal.the-variants.{Shape, Coordinate, TooShort, Outside}
 use Rattle.card.specs.Lists.{within, product}
 use Rattle.card.specs.Card.{elements, copies}
 use Rattle.card.specs.Admission.{admission}
 use Rattle.card.specs.declared.Card.{Card}
 use Rattle.card.specs.declared.Admission.{Admission}
 use Rattle.card.specs.declared.Admission.the-variants.{Admitted, Refused as NotAdmitted}
-use Rattle.placement.specs.RowMajor.{rowMajor, inside}
-use Rattle.placement.specs.Rules.{axes, spot}
+use Rattle.rules.specs.RowMajor.{rowMajor, inside}
+use Rattle.rules.specs.Rules.{axes}
+use Rattle.rules.specs.Copies.{copyCells, outsideAxis}
 use Rattle.placement.specs.declared.Tuple.{Tuple}
-use Rattle.placement.specs.declared.Spot.{Spot}
-use Rattle.placement.specs.declared.Spot.the-variants.{Inside, Outside}
 use Rattle.placement.specs.declared.Placement.{Placement}
 use Rattle.placement.specs.declared.Placement.the-variants.{Copies, Refused}
-
--- the cell number of a spot, 0 outside
-abbrev pub cellOf : Spot → ℕ
-cellOf (Inside cell) = cell .0
-cellOf (Outside axis) = 0
-
--- the smallest axis on which a spot lies outside, or the number of axes
-abbrev pub pastAxis : Spot → ℕ
-pastAxis (Inside cell) = length axes
-pastAxis (Outside axis) = axis
-
--- n combinations from c on, by number
-abbrev pub combinations : ℕ → ℕ → List ℕ
-combinations c zero = []
-combinations c (suc n) = c ∷ combinations (c + 1) n
-
--- one cell number per combination, repeats kept
-abbrev pub cellsOf : (ℕ → Spot) → ℕ → List ℕ
-cellsOf at n = map (λ combination. cellOf (at combination)) (combinations 0 n)
-
--- the smallest axis on which one of them lies outside, or the number of axes
-abbrev pub smallest : List ℕ → ℕ
-smallest [] = length axes
-smallest (n ∷ ns) = min n (smallest ns)
-
-abbrev pub outsideOf : (ℕ → Spot) → ℕ → ℕ
-outsideOf at n = smallest (map (λ combination. pastAxis (at combination)) (combinations 0 n))
-
--- the cells of all copies of an element, 0 for one outside, and the smallest axis on which a copy lies outside
-unfoldable pub copyCells : Card → ℕ → List ℕ
-copyCells card flat = cellsOf (spot card flat) (copies card)
-
-unfoldable pub outsideAxis : Card → ℕ → ℕ
-outsideAxis card flat = outsideOf (spot card flat) (copies card)
 
 -- a counted list of numbers: entries past the count are ignored
 abbrev pub entries : Tuple → List ℕ
@@ -82,7 +47,7 @@ elementAnswer card shape coordinates room =
     (cond (not (coordinatesFit shape coordinates)) (Refused Coordinate)
     (cond (not (leb (copies card) room)) (Refused (TooShort (copies card)))
     (cond (ltb (outsideAxis card (flatten shape coordinates)) (length axes))
-    (Refused (NotInside (record { 0 = flatten shape coordinates }) (outsideAxis card (flatten shape coordinates))))
+    (Refused (Outside (record { 0 = flatten shape coordinates }) (outsideAxis card (flatten shape coordinates))))
     (Copies (copies card)))))
 
 abbrev pub afterAdmission : Admission → Placement → Placement

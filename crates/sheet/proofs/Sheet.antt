@@ -16,9 +16,10 @@ use Rattle.fragment.specs.Kinds.{computation, registers, place}
 use Rattle.descriptor.specs.Descriptor.{descriptorOf}
 use Rattle.mask.specs.Mask.{column, number, bytes, zeroed, firstUsed}
 use Rattle.card.specs.Admission.{admission}
-use Rattle.placement.specs.RowMajor.{position}
-use Rattle.placement.specs.Rules.{coordinates, spot}
-use Rattle.placement.specs.Placement.{copyCells, outsideAxis, placementAnswer, placementMemory}
+use Rattle.rules.specs.RowMajor.{position}
+use Rattle.rules.specs.Rules.{coordinates, spot}
+use Rattle.rules.specs.Copies.{copyCells, outsideAxis}
+use Rattle.placement.specs.Placement.{placementAnswer, placementMemory}
 use Rattle.card.specs.declared.Card.{Card}
 use Rattle.judgement.specs.Verdict.{VerdictPromise, OwnerPromise, verdictNumbers, ownerNumbers}
 use Rattle.judgement.specs.declared.Verdict.{Verdict}

@@ -14,9 +14,9 @@ use Rattle.card.specs.Limits.{lastAxis, mostLength, mostCells}
 use Rattle.card.specs.Lists.{all, within, product}
 use Rattle.card.specs.Admission.{spaceFits}
 use Rattle.card.proofs.Lists.{product-positive}
-use Rattle.placement.specs.RowMajor.{rowMajor, inside}
+use Rattle.rules.specs.RowMajor.{rowMajor, inside}
 use Rattle.laws.proofs.Products.{factors}
-use Rattle.placement.proofs.Prefixes.{product-parts, prefix-within}
+use Rattle.rules.proofs.Prefixes.{product-parts, prefix-within}
 use Rattle.table.specs.Stretch.{asked, stretchAnswer}
 use Rattle.table.specs.declared.Located.{Located}
 use Rattle.table.specs.declared.Located.the-variants.{Stretch, Refused}

@@ -15,9 +15,9 @@ use Rattle.answers.proofs.OneToOne.{readBack, refused-back, pinned}
 use Rattle.card.specs.Lists.{product}
 use Rattle.card.specs.Limits.{lastAxis}
 use Rattle.card.specs.Admission.{spaceFits}
-use Rattle.placement.specs.RowMajor.{rowMajor, components, inside, firstPast}
-use Rattle.placement.proofs.RowMajor.{components-inside, components-give-back, FirstPast, first-past}
-use Rattle.placement.proofs.Prefixes.{prefix-under}
+use Rattle.rules.specs.RowMajor.{rowMajor, components, inside, firstPast}
+use Rattle.rules.proofs.RowMajor.{components-inside, components-give-back, FirstPast, first-past}
+use Rattle.rules.proofs.Prefixes.{prefix-under}
 use Rattle.table.specs.Stretch.{asked, stretchUnder, stretchAnswer, stretchOf, stretchNumbers}
 use Rattle.table.specs.declared.Located.{Located}
 use Rattle.table.specs.declared.Located.the-variants.{Stretch, Refused}

@@ -11,7 +11,7 @@ use Rattle.answers.specs.declared.Refusal.the-variants.{Axis, Space, TooShort, 
 use Rattle.card.specs.Limits.{lastAxis}
 use Rattle.card.specs.Lists.{product}
 use Rattle.card.specs.Admission.{spaceFits}
-use Rattle.placement.specs.RowMajor.{rowMajor, inside, firstPast}
+use Rattle.rules.specs.RowMajor.{rowMajor, inside, firstPast}
 use Rattle.table.specs.declared.Located.{Located}
 use Rattle.table.specs.declared.Located.the-variants.{Stretch, Refused}
 

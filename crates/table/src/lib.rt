@@ -4,7 +4,7 @@ pub mod owners;
 use answers::Cell;
 use answers::Numbers;
 use answers::Refusal;
-use placement::Position;
+use rules::Position;
 ghost use mathlib.Core.Path.{_≡_};
 ghost use lib.ListN.{length};
 ghost use Rattle.table.specs.Stretch.{stretchAnswer, stretchOf, stretchNumbers};
@@ -26,7 +26,7 @@ pub fn locate_stretch(table: &[u32], lengths: [u64; 8], axis: u64, coordinates: 
     if !card::space_fits(lengths) {
         return Located::Refused(Refusal::Space);
     }
-    let number = match placement::locate(&lengths, &coordinates, axis + 1) {
+    let number = match rules::locate(&lengths, &coordinates, axis + 1) {
         Position::At(number) => number,
         Position::Past(outside) => {
             return Located::Refused(Refusal::CellOutside { axis: outside });

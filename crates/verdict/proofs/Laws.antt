@@ -11,14 +11,14 @@ use Rattle.card.specs.Admission.{admission}
 use Rattle.card.specs.declared.Card.{Card}
 use Rattle.card.specs.declared.Admission.the-variants.{Admitted}
 use Rattle.card.proofs.Admitted.{sized}
-use Rattle.placement.specs.Rules.{axes, spot}
-use Rattle.placement.specs.Inside.{Row}
-use Rattle.placement.specs.Placement.{cellOf, cellsOf, outsideOf, copyCells, outsideAxis}
-use Rattle.placement.specs.declared.Spot.{Spot}
-use Rattle.placement.specs.declared.Spot.the-variants.{Inside, Outside}
-use Rattle.placement.proofs.Spots.{cell-below}
-use Rattle.placement.proofs.Filling.{cells-length, cells-at}
-use Rattle.placement.proofs.Theorems.{outside-axis-smallest, outside-axis-none}
+use Rattle.rules.specs.Rules.{axes, spot}
+use Rattle.rules.specs.Inside.{Row}
+use Rattle.rules.specs.Copies.{cellOf, cellsOf, outsideOf, copyCells, outsideAxis}
+use Rattle.rules.specs.declared.Spot.{Spot}
+use Rattle.rules.specs.declared.Spot.the-variants.{Inside, Outside}
+use Rattle.rules.proofs.Spots.{cell-below}
+use Rattle.rules.proofs.Filling.{cells-length, cells-at}
+use Rattle.rules.proofs.Theorems.{outside-axis-smallest, outside-axis-none}
 use Rattle.claims.specs.Claims.{OwnedTable, FirstClash, Inside as InCells}
 use Rattle.claims.specs.Rows.{Row as ClaimRow, Within, entryMet, cellMet}
 use Rattle.claims.proofs.Steps.{row-within, owners-none, claimed-owners, met-clash}

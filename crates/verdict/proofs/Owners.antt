@@ -12,10 +12,10 @@ use Rattle.card.specs.Admission.{admission}
 use Rattle.card.specs.declared.Card.{Card}
 use Rattle.card.specs.declared.Admission.the-variants.{Admitted, Refused as NoCard}
 use Rattle.card.proofs.Admitted.{sized}
-use Rattle.placement.specs.Placement.{cellOf}
-use Rattle.placement.specs.declared.Spot.{Spot}
-use Rattle.placement.specs.declared.Spot.the-variants.{Inside, Outside}
-use Rattle.placement.proofs.Spots.{cell-small}
+use Rattle.rules.specs.Copies.{cellOf}
+use Rattle.rules.specs.declared.Spot.{Spot}
+use Rattle.rules.specs.declared.Spot.the-variants.{Inside, Outside}
+use Rattle.rules.proofs.Spots.{cell-small}
 use Rattle.judgement.specs.Judgement.{LiesInside, Judgement, NotAdmitted, NoRoom, OutsideAt, Clashing, Passed, ComesTo}
 use Rattle.judgement.specs.Verdict.{verdictOf, tableAfter, VerdictPromise, askedSpot, NoCell, ByVerdict, readEntry, OwnerPromise}
 use Rattle.verdict.specs.Inside.{ReadAt}

@@ -6,8 +6,8 @@ use lib.IntN.{ℤ}
 use lib.ListN.{length, getD}
 use Rattle.card.specs.Card.{elements, copies, cells}
 use Rattle.card.specs.declared.Card.{Card}
-use Rattle.placement.specs.Placement.{copyCells}
-use Rattle.placement.specs.Inside.{cardOf, LentCard}
+use Rattle.rules.specs.Copies.{copyCells}
+use Rattle.rules.specs.Inside.{cardOf, LentCard}
 use Rattle.claims.specs.Rows.{RowClaim}
 use Rattle.judgement.specs.Judgement.{AllInside, FirstOutside, Judgement, ComesTo}
 use Rattle.judgement.specs.Verdict.{verdictOf, tableAfter, readEntry}

@@ -7,7 +7,7 @@ use card::Card;
 use card::Sizes;
 use judgement::Owner;
 use judgement::Verdict;
-use placement::Spot;
+use rules::Spot;
 use table::owners;
 ghost use mathlib.Core.Path.{_≡_};
 ghost use Prim.Native.Nat.{_<_};
@@ -16,7 +16,7 @@ ghost use Rattle.card.specs.Card.{copies, cells};
 ghost use Rattle.card.specs.Inside.{sizes as sizesOf};
 ghost use Rattle.card.specs.Admission.{admission};
 ghost use Rattle.card.specs.declared.Admission.the-variants.{Admitted};
-ghost use Rattle.placement.specs.Inside.{cardOf, LentCard};
+ghost use Rattle.rules.specs.Inside.{cardOf, LentCard};
 ghost use Rattle.claims.specs.Rows.{Within, entryMet};
 ghost use Rattle.table.specs.Owners.{clashOf};
 ghost use Rattle.judgement.specs.Judgement.{AllInside};
@@ -46,7 +46,7 @@ fn first_outside(
 {
     let mut flat: u64 = 0;
     while flat < elements {
-        let axis = placement::place_row(
+        let axis = rules::place_row(
             shard,
             shard_strides,
             replica,
@@ -57,7 +57,7 @@ fn first_outside(
             Flat(flat),
             row,
         );
-        if axis < placement::AXES {
+        if axis < rules::AXES {
             return Search::Outside {
                 flat: Flat(flat),
                 axis,
@@ -87,7 +87,7 @@ fn claim_element(
     requires { ⌜ Claimable (cardOf (now shard) (now «shard_strides») (now replica) (now «replica_strides») (now offset) (now lengths) (now swizzle)) (flat .0) (now table) ⌝ }
     ensures { λ r. ⌜ ElementClaim (cardOf (now (shard .entry)) (now («shard_strides» .entry)) (now (replica .entry)) (now («replica_strides» .entry)) (now (offset .entry)) (now (lengths .entry)) (now (swizzle .entry))) (flat .0) r (now (row .exit)) (now (table .entry)) (now (table .exit)) ⌝ }
 {
-    placement::place_row(
+    rules::place_row(
         shard,
         shard_strides,
         replica,
@@ -217,8 +217,8 @@ fn judge_cells(card: Card, sizes: Sizes, table: &mut [u32]) -> Verdict
     let replica = card.replica;
     let offset = card.offset;
     let lengths = card.lengths;
-    let shard_numbers = placement::lend(shard);
-    let replica_numbers = placement::lend(replica);
+    let shard_numbers = rules::lend(shard);
+    let replica_numbers = rules::lend(replica);
     let shard_strides = card::strides(shard);
     let replica_strides = card::strides(replica);
     let swizzle = [card.swizzle.m, card.swizzle.b, card.swizzle.s];
@@ -282,7 +282,7 @@ pub fn owner_of(card: Card, coordinates: [u64; 8], table: &mut [u32]) -> Owner
         return Owner::Refused(refusal);
     }
     let lengths = card.lengths;
-    let spot = placement::spot_at(&lengths, &coordinates);
+    let spot = rules::spot_at(&lengths, &coordinates);
     match spot {
         Spot::Inside(cell) => owner_at(card, cell, table),
         Spot::Outside(axis) => Owner::Refused(Refusal::CellOutside { axis }),

@@ -8,15 +8,6 @@ use Rattle.placement.proofs.flatten.Tie as tie
 returns : tie.Need-returns
 returns c = let a = c .before .before .before .before .before .args in element-uncounted (a .shape) (a .coordinates) (c .if1 .taken)
 
-locate-requires : tie.Need-locate-requires
-locate-requires c κs = search needs
-
-enum-known-number : tie.Need-enum-known-number
-enum-known-number c = search needs
-
-enum-told : tie.Need-enum-told
-enum-told c = search needs
-
 returns-2 : tie.Need-returns-2
 returns-2 c =
     let l = c .before .before .before in
@@ -34,4 +25,4 @@ returns-3 c =
 pub flatten-spec : {M : Type 1} → statement M
 flatten-spec =
     tie.close
-    (tie.spec returns locate-requires enum-known-number enum-told returns-2 returns-3)
+    (tie.spec returns (λ c κs. search needs) (λ c. search needs) (λ c. search needs) returns-2 returns-3)

@@ -6,8 +6,8 @@ use Prim.Native.Nat.{ℕ, _≤_}
 use lib.ListN.{length, take, replicate}
 use lib.Seq.{length-take-le}
 use Rattle.card.proofs.Admitted.{sized}
-use Rattle.placement.specs.Rules.{spot}
-use Rattle.placement.specs.Placement.{outsideOf, outsideAxis}
+use Rattle.rules.specs.Rules.{spot}
+use Rattle.rules.specs.Copies.{outsideOf, outsideAxis}
 use Rattle.placement.proofs.outside_axis.Statement.{statement}
 use Rattle.placement.proofs.outside_axis.Tie as tie
 
@@ -23,9 +23,6 @@ array-borrow-prefix-row c = fits c
 slice-aggregate-place-card : tie.Need-slice-aggregate-place-card
 slice-aggregate-place-card c = sym (long (c .before))
 
-place-card-requires : tie.Need-place-card-requires
-place-card-requires c κs = search needs
-
 returns : tie.Need-returns
 unfolding outsideAxis
 returns c =
@@ -35,4 +32,4 @@ returns c =
 pub outside-axis-spec : {M : Type 1} → statement M
 outside-axis-spec =
     tie.close
-    (tie.spec array-borrow-prefix-row slice-aggregate-place-card place-card-requires returns)
+    (tie.spec array-borrow-prefix-row slice-aggregate-place-card (λ c κs. search needs) returns)

@@ -14,27 +14,19 @@ use Rattle.card.specs.Admission.{admission}
 use Rattle.card.specs.declared.Sizes.{Sizes}
 use Rattle.card.specs.declared.Admission.the-variants.{Admitted}
 use Rattle.card.proofs.Admitted.{sized}
-use Rattle.placement.specs.Rules.{spot}
-use Rattle.placement.specs.Placement.{cellsOf, copyCells, shapeAdmitted, coordinatesFit, flatten}
+use Rattle.rules.specs.Rules.{spot}
+use Rattle.rules.specs.Copies.{cellsOf, copyCells}
+use Rattle.placement.specs.Placement.{shapeAdmitted, coordinatesFit, flatten}
 use Rattle.placement.proofs.Elements.{named, unnamed, shaped}
 use Rattle.placement.proofs.Placings.{not-admitted, not-shaped, not-fitting, too-short, lies-outside, copied}
 use Rattle.placement.proofs.place.Statement.{statement}
 use Rattle.placement.proofs.place.Tie as tie
-
-admit-requires : tie.Need-admit-requires
-admit-requires c κs = search needs
-
-enum-known-admission : tie.Need-enum-known-admission
-enum-known-admission c = search needs
 
 returns : tie.Need-returns
 returns c =
     let d = c .before .before .before in
     let a = d .before .before .args in
     not-admitted (a .card) (a .shape) (a .coordinates) (a .memory .now) _ (sym (d .admit .ensures) ∙ c .before .admission .given .1)
-
-enum-told : tie.Need-enum-told
-enum-told c = search needs
 
 -- what each check that was passed says
 abbrev start : tie.After-measure → tie.Start
@@ -75,12 +67,6 @@ flatten-requires c κs =
     let a = start m .args in
     let n = sized (a .card) (admitted m) in
     shaped (a .shape) (elements (a .card)) (n .some-elements) (n .most-elements) (shape-fits c)
-
-enum-known-found : tie.Need-enum-known-found
-enum-known-found c = search needs
-
-enum-told-2 : tie.Need-enum-told-2
-enum-told-2 c = search needs
 
 returns-3 : tie.Need-returns-3
 returns-3 c =
@@ -124,9 +110,6 @@ returns-5 c =
     lies-outside (a .card) (a .shape) (a .coordinates) (a .memory .now) (admitted m) (shape-fits (k .before .before .before .before)) (flat-of k) (name-it k)
     (m .measure .result .copies) (c .before .outside-axis .result) (is-copies m) (c .before .before .if2 .left) (c .before .outside-axis .ensures) (c .if3 .taken)
 
-slice-relend-prefix-place-card : tie.Need-slice-relend-prefix-place-card
-slice-relend-prefix-place-card c = search needs
-
 slice-aggregate-place-card : tie.Need-slice-aggregate-place-card
 slice-aggregate-place-card c =
     let m = measured (c .before .before .before .before) in
@@ -134,9 +117,6 @@ slice-aggregate-place-card c =
 
 place-card-requires : tie.Need-place-card-requires
 place-card-requires c κs = admitted (c .before .before .before .before .before .before .before .before .before .before)
-
-same-length : tie.Need-same-length
-same-length c = search needs
 
 returns-6 : tie.Need-returns-6
 unfolding copyCells
@@ -157,22 +137,22 @@ pub place-spec : {M : Type 1} → statement M
 place-spec =
     tie.close
     (tie.spec
-    admit-requires
-    enum-known-admission
+    (λ c κs. search needs)
+    (λ c. search needs)
     returns
-    enum-told
+    (λ c. search needs)
     measure-requires
     is-admitted-requires
     returns-2
     flatten-requires
-    enum-known-found
-    enum-told-2
+    (λ c. search needs)
+    (λ c. search needs)
     returns-3
     returns-4
     outside-axis-requires
     returns-5
-    slice-relend-prefix-place-card
+    (λ c. search needs)
     slice-aggregate-place-card
     place-card-requires
-    same-length
+    (λ c. search needs)
     returns-6)

@@ -4,9 +4,9 @@ use borrow.Author.Needs.{needs}
 use lib.ListN.{length}
 use Rattle.card.specs.declared.Card.{Card}
 use Rattle.laws.proofs.Lists.{length-of}
-use Rattle.placement.specs.Rules.{spot}
-use Rattle.placement.specs.Inside.{Row}
-use Rattle.placement.proofs.Cards.{unpacked, lent-numbers}
+use Rattle.rules.specs.Rules.{spot}
+use Rattle.rules.specs.Inside.{Row}
+use Rattle.rules.proofs.Cards.{unpacked, lent-numbers}
 use Rattle.placement.proofs.place_card.Statement.{statement}
 use Rattle.placement.proofs.place_card.Tie as tie
 

@@ -13,10 +13,10 @@ use Rattle.card.specs.Limits.{lastAxis}
 use Rattle.card.specs.Inside.{beyond}
 use Rattle.card.specs.Lists.{product}
 use Rattle.card.specs.Admission.{spaceFits}
-use Rattle.placement.specs.RowMajor.{rowMajor, inside}
+use Rattle.rules.specs.RowMajor.{rowMajor}
 use Rattle.laws.proofs.Lists.{take-whole}
-use Rattle.placement.proofs.Spots.{Numbered, position-at, position-past}
-use Rattle.placement.proofs.Prefixes.{row-major-prefix, prefix-within}
+use Rattle.rules.proofs.Spots.{Numbered, position-at, position-past}
+use Rattle.rules.proofs.Prefixes.{row-major-prefix, prefix-within}
 use Rattle.table.specs.Stretch.{asked}
 use Rattle.table.proofs.Checks.{Parted, parted}
 use Rattle.table.proofs.locate_stretch.Statement.{statement}

@@ -6,7 +6,7 @@ use lib.ListN.{length, replicate, length-replicate}
 use Rattle.card.specs.Card.{elements, cells}
 use Rattle.card.specs.declared.Card.{Card}
 use Rattle.card.proofs.Admitted.{sized}
-use Rattle.placement.specs.Inside.{cardOf}
+use Rattle.rules.specs.Inside.{cardOf}
 use Rattle.claims.specs.Claims.{OwnedTable}
 use Rattle.judgement.specs.Judgement.{placed}
 use Rattle.verdict.specs.Inside.{Claimable}

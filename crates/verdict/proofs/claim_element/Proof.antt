@@ -1,8 +1,8 @@
 -- `verdict::claim_element` places the row and claims it: the row is the card's, so it lies in the cells.
 use mathlib.Core.Path.{_≡_}
 use Rattle.card.specs.declared.Card.{Card}
-use Rattle.placement.specs.Placement.{copyCells}
-use Rattle.placement.specs.Inside.{cardOf}
+use Rattle.rules.specs.Copies.{copyCells}
+use Rattle.rules.specs.Inside.{cardOf}
 use Rattle.verdict.proofs.Laws.{row-cells, row-ready}
 use borrow.Author.Needs.{needs}
 use Rattle.verdict.proofs.claim_element.Statement.{statement}

@@ -5,7 +5,7 @@ use native.Mathlib.Nat.{not-suc-le-zero}
 use native.Mathlib.Omega.{arith}
 use lib.ListN.{length}
 use Rattle.card.specs.declared.Card.{Card}
-use Rattle.placement.specs.Inside.{cardOf}
+use Rattle.rules.specs.Inside.{cardOf}
 use Rattle.verdict.proofs.Laws.{InsideBelow, inside-more, outside-first}
 use Rattle.verdict.proofs.first_outside.Statement.{statement}
 use Rattle.verdict.proofs.first_outside.Tie as tie

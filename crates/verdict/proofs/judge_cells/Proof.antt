@@ -9,7 +9,7 @@ use Rattle.card.specs.declared.Card.{Card}
 use Rattle.card.specs.declared.Sizes.{Sizes}
 use Rattle.card.proofs.Admitted.{sized}
 use Rattle.laws.proofs.Lists.{length-of}
-use Rattle.placement.proofs.Cards.{unpacked, lent-numbers}
+use Rattle.rules.proofs.Cards.{unpacked, lent-numbers}
 use Rattle.judgement.specs.Verdict.{VerdictPromise}
 use borrow.Author.Needs.{needs}
 use Rattle.verdict.proofs.judge_cells.Statement.{statement}

@@ -4,7 +4,7 @@ use mathlib.Core.Path.{_≡_, ap, _∙_}
 use lib.ListN.{replicate}
 use Rattle.card.specs.Card.{cells}
 use Rattle.card.specs.declared.Card.{Card}
-use Rattle.placement.specs.Inside.{cardOf}
+use Rattle.rules.specs.Inside.{cardOf}
 use Rattle.verdict.proofs.Promises.{outside-promise, cells-anew}
 use borrow.Author.Needs.{needs}
 use Rattle.verdict.proofs.judge_lent.Statement.{statement}

@@ -1,0 +1,4 @@
+pub mod RowMajor
+pub mod Rules
+pub mod Copies
+pub mod Inside
