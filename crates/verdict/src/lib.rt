@@ -238,14 +238,11 @@ fn judge_cells(card: Card, sizes: Sizes, table: &mut [u32]) -> Verdict
     )
 }
 
-// The verdict on any card: the checks in the document's order, then the owners in the table.
-pub fn judge(card: Card, table: &mut [u32]) -> Verdict
+// The verdict on an admitted card: room for its cells, then the owners in them.
+fn judge_admitted(card: Card, table: &mut [u32]) -> Verdict
+    requires { ⌜ admission card ≡ Admitted ⌝ }
     ensures { λ r. ⌜ VerdictPromise card (now (table .entry)) (now (table .exit)) r ⌝ }
 {
-    let admission = card::admit(card);
-    if let Admission::Refused(refusal) = admission {
-        return Verdict::Refused(refusal);
-    }
     let sizes = card::measure(card);
     let cells = sizes.cells;
     if (table.len() as u64) < cells {
@@ -255,13 +252,24 @@ pub fn judge(card: Card, table: &mut [u32]) -> Verdict
     judge_cells(card, sizes, &mut table[..end])
 }
 
+// The verdict on any card: the card's own checks, then the table's.
+pub fn judge(card: Card, table: &mut [u32]) -> Verdict
+    ensures { λ r. ⌜ VerdictPromise card (now (table .entry)) (now (table .exit)) r ⌝ }
+{
+    let admission = card::admit(card);
+    if let Admission::Refused(refusal) = admission {
+        return Verdict::Refused(refusal);
+    }
+    judge_admitted(card, table)
+}
+
 // The owner of a cell of an admitted card: the verdict, and then one entry is read.
 fn owner_at(card: Card, cell: Cell, table: &mut [u32]) -> Owner
     requires { ⌜ admission card ≡ Admitted ⌝ }
     requires { ⌜ cell .0 < cells card ⌝ }
     ensures { λ r. ⌜ ReadAt card (cell .0) (now (table .entry)) (now (table .exit)) r ⌝ }
 {
-    let verdict = judge(card, table);
+    let verdict = judge_admitted(card, table);
     match verdict {
         Verdict::Approved {
             elements: _,

@@ -75,9 +75,6 @@ refuse-clash-requires c κs =
     let met = claims-met (card s) (l .flat) (m .claim-element .result) (l .occupied) (l .inv .2) (m .claim-element .ensures) (c .before .before .if1 .taken) in
     (rw (met .1) (ready m .within), met .0)
 
-same-length : tie.Need-same-length Inv-loop μ-loop
-same-length c = omega arith
-
 same-length-2 : tie.Need-same-length-2 Inv-loop μ-loop
 same-length-2 c =
     let m = c .before .before .before .before .before .before .before .before .before .before in
@@ -104,12 +101,6 @@ add-occupied c =
     let n = sized (card s) (s .pre .0 .lent .admitted) in
     omega (arith, claims-count (card s) (l .flat) (m .claim-element .result) (l .occupied) (l .inv .2) (m .claim-element .ensures) (size m))
 
-add-flat : tie.Need-add-flat Inv-loop μ-loop
-add-flat c = omega arith
-
-loop-less : tie.Need-loop-less Inv-loop μ-loop
-loop-less c = omega arith
-
 loop-again : tie.Need-loop-again Inv-loop μ-loop
 loop-again c =
     let m = c .before .before .before .before .before in
@@ -119,9 +110,6 @@ loop-again c =
       m .claim-element .kept .1 .1 .1 .1 .1 .1 .1 .1 .0 ∙ l .inv .1,
       claims-more (card s) (l .flat) (m .claim-element .result) (l .occupied) (l .inv .2) (m .claim-element .ensures) (ready m .within) (size m) (omega arith),
     )
-
-same-length-3 : tie.Need-same-length-3 Inv-loop μ-loop
-same-length-3 c = omega arith
 
 same-length-4 : tie.Need-same-length-4 Inv-loop μ-loop
 same-length-4 c = omega (arith, exact (c .before .before .before .before))
@@ -143,13 +131,13 @@ claim-all-spec =
     loop-holds
     claim-element-requires
     refuse-clash-requires
-    same-length
+    (λ c. omega arith)
     same-length-2
     returns
     add-occupied
-    add-flat
-    loop-less
+    (λ c. omega arith)
+    (λ c. omega arith)
     loop-again
-    same-length-3
+    (λ c. omega arith)
     same-length-4
     returns-2)

@@ -21,21 +21,12 @@ start p = p .before .before .before .before
 is-placed : (p : tie.After-place-row) → p .place-row .last .1 .1 .1 .1 .1 .1 .1 .1 .0 ≡ copyCells (card (start p)) (start p .args .flat .0)
 is-placed p = row-cells (card (start p)) (start p .args .flat .0) (p .place-row .ensures) (start p .pre .1 .0)
 
-place-row-requires : tie.Need-place-row-requires
-place-row-requires c κs = search needs
-
 claim-row-requires : tie.Need-claim-row-requires
 claim-row-requires c κs =
     let p = c .before .before .before .before in
     let s = start p in
     let r = row-ready (card s) (s .args .flat .0) (s .args .table .now) (s .pre .0 .admitted) (s .pre .1 .1) (is-placed p) in
     (r .within, (r .some, r .small))
-
-same-length : tie.Need-same-length
-same-length c = search needs
-
-same-length-2 : tie.Need-same-length-2
-same-length-2 c = search needs
 
 returns : tie.Need-returns
 returns c =
@@ -44,4 +35,4 @@ returns c =
 
 pub claim-element-spec : {M : Type 1} → statement M
 claim-element-spec =
-    tie.close (tie.spec place-row-requires claim-row-requires same-length same-length-2 returns)
+    tie.close (tie.spec (λ c κs. search needs) claim-row-requires (λ c. search needs) (λ c. search needs) returns)

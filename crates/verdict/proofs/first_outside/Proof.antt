@@ -31,9 +31,6 @@ loop-holds c = (omega arith, refl, λ f r h. absurd (not-suc-le-zero h))
 place-row-requires : tie.Need-place-row-requires Inv-loop μ-loop
 place-row-requires c κs = c .before .before .before .before .pre .lent
 
-same-length : tie.Need-same-length Inv-loop μ-loop
-same-length c = omega arith
-
 returns : tie.Need-returns Inv-loop μ-loop
 returns c =
     let p = c .before .before .before in
@@ -41,12 +38,6 @@ returns c =
     let s = p .before .before .before .before .before in
     let all = s .pre .all-elements in
     outside-first (card s) (l .flat) (p .place-row .ensures) (l .inv .1 ∙ s .pre .one-each) (c .if1 .taken) (omega arith) (l .inv .2)
-
-add-flat : tie.Need-add-flat Inv-loop μ-loop
-add-flat c = omega arith
-
-loop-less : tie.Need-loop-less Inv-loop μ-loop
-loop-less c = omega arith
 
 loop-again : tie.Need-loop-again Inv-loop μ-loop
 loop-again c =
@@ -57,9 +48,6 @@ loop-again c =
       p .place-row .kept .1 .1 .1 .1 .1 .1 .1 .1 .0 ∙ l .inv .1,
       inside-more (card s) (l .flat) (p .place-row .ensures) (l .inv .1 ∙ s .pre .one-each) (s .pre .lent .eight-lengths) (c .if1 .left) (l .inv .2),
     )
-
-same-length-2 : tie.Need-same-length-2 Inv-loop μ-loop
-same-length-2 c = omega arith
 
 returns-2 : tie.Need-returns-2 Inv-loop μ-loop
 returns-2 c =
@@ -75,10 +63,10 @@ first-outside-spec =
     μ-loop
     loop-holds
     place-row-requires
-    same-length
+    (λ c. omega arith)
     returns
-    add-flat
-    loop-less
+    (λ c. omega arith)
+    (λ c. omega arith)
     loop-again
-    same-length-2
+    (λ c. omega arith)
     returns-2)

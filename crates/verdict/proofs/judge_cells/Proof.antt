@@ -36,18 +36,6 @@ few s = let n = sized (s .args .card) (s .pre .0) in let e = ap (λ (z : Sizes).
 long : (s : tie.Start) → length {A = ℕ} (take (s .args .sizes .copies) (replicate 64 0)) ≡ s .args .sizes .copies
 long s = length-take-le (s .args .sizes .copies) (replicate 64 0) (few s)
 
-lend-requires : tie.Need-lend-requires
-lend-requires c κs = search needs
-
-lend-requires-2 : tie.Need-lend-requires-2
-lend-requires-2 c κs = search needs
-
-strides-requires : tie.Need-strides-requires
-strides-requires c κs = search needs
-
-strides-requires-2 : tie.Need-strides-requires-2
-strides-requires-2 c κs = search needs
-
 array-borrow-prefix-row : tie.Need-array-borrow-prefix-row
 array-borrow-prefix-row c = few (start c)
 
@@ -68,9 +56,6 @@ judge-lent-requires c κs =
       s .pre .1 .1,
     )
 
-same-length : tie.Need-same-length
-same-length c = search needs
-
 returns : tie.Need-returns
 returns c =
     let m = c .before .before .before in
@@ -84,12 +69,12 @@ pub judge-cells-spec : {M : Type 1} → statement M
 judge-cells-spec =
     tie.close
     (tie.spec
-    lend-requires
-    lend-requires-2
-    strides-requires
-    strides-requires-2
+    (λ c κs. search needs)
+    (λ c κs. search needs)
+    (λ c κs. search needs)
+    (λ c κs. search needs)
     array-borrow-prefix-row
     slice-aggregate-judge-lent
     judge-lent-requires
-    same-length
+    (λ c. search needs)
     returns)

@@ -26,21 +26,6 @@ card s =
 is-cleared : (k : tie.After-clear) → k .clear .last .0 ≡ replicate (cells (card (start k))) 0
 is-cleared k = k .clear .ensures ∙ ap (λ (n : ℕ). replicate n 0) (start k .pre .1)
 
-clear-requires : tie.Need-clear-requires
-clear-requires c κs = search needs
-
-first-outside-requires : tie.Need-first-outside-requires
-first-outside-requires c κs = search needs
-
-enum-known-search : tie.Need-enum-known-search
-enum-known-search c = search needs
-
-same-length : tie.Need-same-length
-same-length c = search needs
-
-same-length-2 : tie.Need-same-length-2
-same-length-2 c = search needs
-
 returns : tie.Need-returns
 returns c =
     let p = c .before .before .before .before .before in
@@ -48,9 +33,6 @@ returns c =
     let s = start k in
     let first = rw (c .before .search .given .1) at (p .first-outside .ensures) in
     outside-promise (card s) (s .args .table .now) (s .pre .0 .lent .admitted) (s .pre .1) _ _ first (is-cleared k)
-
-enum-told : tie.Need-enum-told
-enum-told c = search needs
 
 claim-all-requires : tie.Need-claim-all-requires
 claim-all-requires c κs =
@@ -65,12 +47,6 @@ claim-all-requires c κs =
       (rw (c .before .before .enum-told .given .1) at (p .first-outside .ensures), is-cleared k),
     )
 
-same-length-3 : tie.Need-same-length-3
-same-length-3 c = search needs
-
-same-length-4 : tie.Need-same-length-4
-same-length-4 c = search needs
-
 returns-2 : tie.Need-returns-2
 returns-2 c =
     let m = c .before .before .before .before in
@@ -82,14 +58,14 @@ pub judge-lent-spec : {M : Type 1} → statement M
 judge-lent-spec =
     tie.close
     (tie.spec
-    clear-requires
-    first-outside-requires
-    enum-known-search
-    same-length
-    same-length-2
+    (λ c κs. search needs)
+    (λ c κs. search needs)
+    (λ c. search needs)
+    (λ c. search needs)
+    (λ c. search needs)
     returns
-    enum-told
+    (λ c. search needs)
     claim-all-requires
-    same-length-3
-    same-length-4
+    (λ c. search needs)
+    (λ c. search needs)
     returns-2)

@@ -8,23 +8,17 @@ use Rattle.verdict.proofs.owner_at.Statement.{statement}
 use Rattle.verdict.proofs.owner_at.Tie as tie
 
 -- an approved verdict: the cell is one of the table's
-abbrev judged : tie.After-enum-told → tie.After-judge
+abbrev judged : tie.After-enum-told → tie.After-judge-admitted
 judged k = k .before .before .before .before
 
-abbrev start : tie.After-judge → tie.Start
+abbrev start : tie.After-judge-admitted → tie.Start
 start j = j .before .before .before
 
-below : (k : tie.After-enum-told) → start (judged k) .args .cell .0 < length (judged k .judge .last .1 .0)
+below : (k : tie.After-enum-told) → start (judged k) .args .cell .0 < length (judged k .judge-admitted .last .1 .0)
 below k =
     let j = judged k in
-    let room = approved-room (j .judge .ensures) (k .enum-told .given .1) in
-    omega (arith, start j .pre .1, j .judge .kept .1 .0)
-
-judge-requires : tie.Need-judge-requires
-judge-requires c κs = search needs
-
-enum-told : tie.Need-enum-told
-enum-told c = search needs
+    let room = approved-room (j .judge-admitted .ensures) (k .enum-told .given .1) in
+    omega (arith, start j .pre .1, j .judge-admitted .kept .1 .0)
 
 mul-t10 : tie.Need-mul-t10
 mul-t10 c = omega (arith, below c)
@@ -35,36 +29,27 @@ slice-read-t12 c = below (c .before)
 cast-t13 : tie.Need-cast-t13
 cast-t13 c = omega (arith, c .slice-known3 .given (c .before .before .before .before .before .before .before .before .args .cell .0))
 
-enum-known-verdict : tie.Need-enum-known-verdict
-enum-known-verdict c = search needs
-
-same-length : tie.Need-same-length
-same-length c = search needs
-
 returns : tie.Need-returns
 returns c =
     let j = judged (c .before) in
-    entry-read (start j .args .cell .0) (j .judge .ensures) (c .before .enum-told .given .1)
-
-same-length-2 : tie.Need-same-length-2
-same-length-2 c = search needs
+    entry-read (start j .args .cell .0) (j .judge-admitted .ensures) (c .before .enum-told .given .1)
 
 returns-2 : tie.Need-returns-2
 returns-2 c =
     let j = c .before .before .before .before .before in
-    entry-read (start j .args .cell .0) (j .judge .ensures) (c .before .verdict .given .1)
+    entry-read (start j .args .cell .0) (j .judge-admitted .ensures) (c .before .verdict .given .1)
 
 pub owner-at-spec : {M : Type 1} → statement M
 owner-at-spec =
     tie.close
     (tie.spec
-    judge-requires
-    enum-told
+    (λ c κs. search needs)
+    (λ c. search needs)
     mul-t10
     slice-read-t12
     cast-t13
-    enum-known-verdict
-    same-length
+    (λ c. search needs)
+    (λ c. search needs)
     returns
-    same-length-2
+    (λ c. search needs)
     returns-2)

@@ -23,20 +23,11 @@ admitted k = sym (k .before .before .admit .ensures) ∙ k .enum-told .given .1
 abbrev told : tie.After-spot-at → tie.After-enum-told
 told p = p .before .before .before .before
 
-admit-requires : tie.Need-admit-requires
-admit-requires c κs = search needs
-
-enum-known-admission : tie.Need-enum-known-admission
-enum-known-admission c = search needs
-
 returns : tie.Need-returns
 returns c =
     let d = c .before .before .before in
     let a = d .before .before .args in
     owner-refused (a .card) (a .t2) (a .table .now) (sym (d .admit .ensures) ∙ c .before .admission .given .1)
-
-enum-told : tie.Need-enum-told
-enum-told c = search needs
 
 spot-at-requires : tie.Need-spot-at-requires
 spot-at-requires c κs =
@@ -44,21 +35,12 @@ spot-at-requires c κs =
     let s = start k in
     (record { eight-lengths = eight s .0; fits = checked (s .args .card) (admitted k) .space }, eight s .1)
 
-enum-known-spot : tie.Need-enum-known-spot
-enum-known-spot c = search needs
-
 owner-at-requires : tie.Need-owner-at-requires
 owner-at-requires c κs =
     let p = c .before .before .before .before in
     let k = told p in
     let a = start k .args in
     (admitted k, asked-below (a .card) (a .t2) (a .table .now) (admitted k) (sym (p .spot-at .ensures) ∙ c .before .before .spot .given .1))
-
-enum-known-spot-2 : tie.Need-enum-known-spot-2
-enum-known-spot-2 c = search needs
-
-same-length : tie.Need-same-length
-same-length c = search needs
 
 returns-2 : tie.Need-returns-2
 returns-2 c =
@@ -80,14 +62,14 @@ pub owner-of-spec : {M : Type 1} → statement M
 owner-of-spec =
     tie.close
     (tie.spec
-    admit-requires
-    enum-known-admission
+    (λ c κs. search needs)
+    (λ c. search needs)
     returns
-    enum-told
+    (λ c. search needs)
     spot-at-requires
-    enum-known-spot
+    (λ c. search needs)
     owner-at-requires
-    enum-known-spot-2
-    same-length
+    (λ c. search needs)
+    (λ c. search needs)
     returns-2
     returns-3)
