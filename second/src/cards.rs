@@ -46,7 +46,7 @@ pub fn shuffle<T>(random: &mut Random, things: &mut [T]) {
 }
 
 /// One to three axes, m among them half of the time.
-fn random_axes(random: &mut Random) -> Vec<u64> {
+pub fn random_axes(random: &mut Random) -> Vec<u64> {
     let count = random.between(1, 3);
     let mut axes: Vec<u64> = (0..count).map(|_| random.below(AXES as u64)).collect();
     if random.once_in(2) {
@@ -57,7 +57,7 @@ fn random_axes(random: &mut Random) -> Vec<u64> {
 
 /// Iters that count through their axes without gap or overlap, or with a
 /// gap now and then.
-fn orderly_iters(random: &mut Random, axes: &[u64]) -> Vec<Iter> {
+pub fn orderly_iters(random: &mut Random, axes: &[u64]) -> Vec<Iter> {
     let mut room = 1u64 << random.between(2, 10);
     let mut reached = [1u64; AXES];
     let count = random.between(1, 8);
@@ -89,7 +89,7 @@ fn dealt(random: &mut Random, iters: &[Iter]) -> (Vec<Iter>, Vec<Iter>) {
         }
     }
     if replica.len() < REPLICA_SLOTS && copies * 2 <= MOST_COPIES && random.once_in(8) {
-        // Two copies of one element in one cell are no clash.
+        // An idle copy.
         replica.push(iter(2, 0, random.below(AXES as u64)));
     }
     (shard, replica)

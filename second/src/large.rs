@@ -32,7 +32,8 @@ fn bit_tile(random: &mut Random, swizzle: [u64; 3]) -> Card {
     in_memory(&iters, &[], swizzle)
 }
 
-/// Cards whose copies are counted in the hundred thousands.
+/// Cards whose copies are counted in the hundred thousands, many of them
+/// idle.
 fn with_copies() -> Vec<Card> {
     let all = [iter(16_384, 1, 7)];
     let still = [iter(2, 0, 7), iter(2, 0, 0), iter(4, 0, 3), iter(4, 0, 7)];
@@ -104,6 +105,31 @@ fn backwards(random: &mut Random) -> Vec<Card> {
     [&[all, low, at_once, halves, rows, inside], &turned[..]].concat()
 }
 
+/// Cards with copies of which none is idle: all cells taken by 64, by 16 and
+/// by 8 copies, some iters turned round; 16,384 elements with 64 copies, the
+/// last outside, or all elements in the same cells.
+fn busy(random: &mut Random) -> Vec<Card> {
+    let four = [
+        iter(2, 8_192, 7),
+        iter(4, 2_048, 7),
+        iter(2, 1_024, 7),
+        iter(4, 256, 7),
+    ];
+    let tiles = [iter(32, 1, 5), iter(4, 1, 6), iter(16, 1, 7)];
+    let mut cards = vec![
+        in_memory(&[iter(256, 1, 7)], &four, [2, 3, 3]),
+        in_memory(&[iter(1_024, 1, 7)], &[iter(16, 1_024, 7)], [4, 4, 5]),
+        card_of(&tiles, &[iter(4, 32, 5), iter(2, 4, 6)]),
+    ];
+    for card in &mut cards {
+        turn_some(random, card, 2);
+    }
+    let eights = [iter(8, 8, 7), iter(8, 1, 7)];
+    cards.push(in_memory(&[iter(16_384, 1, 7)], &eights, [0, 0, 3]));
+    cards.push(in_memory(&[iter(16_384, 0, 7)], &eights, [3, 3, 3]));
+    cards
+}
+
 fn line(word: &str, parts: &[Vec<Number>]) -> Vec<u8> {
     let mut line = Question::new(word, &parts.concat()).bytes();
     line.push(b'\n');
@@ -138,6 +164,8 @@ pub fn large() -> Vec<u8> {
     }
     let cards = backwards(&mut random);
     lines.extend(judged(&mut random, &cards));
+    let cards = busy(&mut random);
+    lines.extend(judged(&mut random, &cards));
     lines
 }
 
@@ -162,12 +190,15 @@ mod tests {
             "7 1 7 0",
             "7 16256 7 0",
             "0 4096 16384 16384",
+            "17 0 2 0",
+            "0 1024 16384 16384",
+            "7 16321 7 0",
         ];
         for text in wanted {
             assert!(said.iter().any(|said| said == text), "{text}");
         }
-        assert!(said.iter().filter(verdicts).count() > 23);
-        assert_eq!(said.len(), 41);
+        assert!(said.iter().filter(verdicts).count() > 28);
+        assert_eq!(said.len(), 48);
         assert!(!said.iter().any(|text| text == "?"));
     }
 }

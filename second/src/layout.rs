@@ -18,7 +18,7 @@ pub const MOST_CELLS: u64 = 16_384;
 pub const MOST_ELEMENTS: u64 = 16_384;
 pub const MOST_COPIES: u64 = 64;
 
-/// Refusals 1 to 5 and 7 to 11 by name; 6 is the swizzle's.
+/// Refusals 1 to 5, 7, 9 to 11 and 17 by name; 6 is the swizzle's.
 pub const WRONG_COUNT: u64 = 1;
 pub const WRONG_NUMBER: u64 = 2;
 pub const WRONG_AXIS: u64 = 3;
@@ -28,6 +28,7 @@ pub const OUTSIDE_SPACE: u64 = 7;
 pub const SHAPE_NOT_ADMITTED: u64 = 9;
 pub const OUTSIDE_DIMENSION: u64 = 10;
 pub const TOO_SHORT: u64 = 11;
+pub const IDLE_COPY: u64 = 17;
 
 /// The program lends at most so many entries to a placement.
 const MOST_ENTRIES: u64 = 64;
@@ -233,6 +234,37 @@ impl Card {
         first.map(|(_, number)| Refusal::plain(*number))
     }
 
+    /// What each replica combination adds, last replica iter fastest. For a
+    /// card that passes checks 1 to 6.
+    fn replica_sums(&self) -> Vec<Sums> {
+        let sums = |combination| {
+            let mut sums = [0; AXES];
+            let components = split(combination, self.replica());
+            add_components(&mut sums, &components, self.replica());
+            sums
+        };
+        (0..self.copies() as u64).map(sums).collect()
+    }
+
+    /// Refusal 17, if two replica combinations add the same on every axis:
+    /// the smallest that adds what a smaller one does, and the smallest of
+    /// those. For a card that passes checks 1 to 6.
+    pub fn idle(&self) -> Option<Refusal> {
+        let sums = self.replica_sums();
+        let alike = |second: usize| (0..second).find(|first| sums[*first] == sums[second]);
+        let pair = |second| Some((alike(second)?, second));
+        let (first, second) = (0..sums.len()).find_map(pair)?;
+        Some(Refusal::with(IDLE_COPY, first as u64, second as u64))
+    }
+
+    /// Checks 1 to 6, then 17, with which every question about a card begins.
+    pub fn admitted(&self) -> Result<(), Refusal> {
+        match self.refusal().or_else(|| self.idle()) {
+            Some(refusal) => Err(refusal),
+            None => Ok(()),
+        }
+    }
+
     /// Rules 3 and 4: the finished coordinates of all copies of an element,
     /// last replica iter fastest. An m below zero is not swizzled. For a card
     /// that passes checks 1 to 6.
@@ -242,17 +274,14 @@ impl Card {
         for (coordinate, offset) in base.iter_mut().zip(&self.offset) {
             *coordinate += offset;
         }
-        let combinations = 0..self.copies() as u64;
-        let copy = |combination| {
-            let mut coordinates = base;
-            let components = split(combination, self.replica());
-            add_components(&mut coordinates, &components, self.replica());
+        let copy = |sums: Sums| {
+            let mut coordinates: Sums = std::array::from_fn(|axis| base[axis] + sums[axis]);
             if let Ok(m) = u64::try_from(coordinates[M_AXIS]) {
                 coordinates[M_AXIS] = self.swizzle.apply(m).into();
             }
             coordinates
         };
-        combinations.map(copy).collect()
+        self.replica_sums().into_iter().map(copy).collect()
     }
 
     /// Rule 5: row-major over the axes, pid first, m last. For coordinates
@@ -327,11 +356,9 @@ impl Spot {
     }
 }
 
-/// The cells of one element: checks 1 to 6, 9, 10, 11, then 7.
+/// The cells of one element: checks 1 to 6, 17, 9, 10, 11, then 7.
 fn place(card: &Card, spot: &Spot, length: u64) -> Result<Vec<Cell>, Refusal> {
-    if let Some(refusal) = card.refusal() {
-        return Err(refusal);
-    }
+    card.admitted()?;
     let flat = spot.flat(card.elements())?;
     let copies = card.copies() as u64;
     if length < copies {
@@ -569,6 +596,52 @@ mod tests {
         card.replica_count = 5;
         assert_eq!(refused(&card), Some(1));
         assert_eq!(refused(&cards::accumulator()), Some(4));
+    }
+
+    /// The pair of refusal 17 of copies with these extents, strides and axes.
+    fn pair(replica: &[(u64, i32, u64)]) -> Option<[u64; 2]> {
+        let iters: Vec<Iter> = replica
+            .iter()
+            .map(|(extent, stride, axis)| cards::iter(*extent, *stride, *axis))
+            .collect();
+        let [a, b, _] = cards::card_of(&[cards::iter(2, 1, 0)], &iters)
+            .idle()?
+            .details;
+        Some([a, b])
+    }
+
+    #[test]
+    fn idle_copies() {
+        assert_eq!(pair(&[]), None);
+        assert_eq!(pair(&[(1, 0, 7), (1, 0, 7)]), None);
+        assert_eq!(pair(&[(2, 0, 7)]), Some([0, 1]));
+        assert_eq!(pair(&[(2, 1, 7), (2, 1, 7)]), Some([1, 2]));
+        assert_eq!(pair(&[(2, 1, 6), (2, 1, 7)]), None);
+        assert_eq!(pair(&[(2, 2, 7), (2, -2, 7)]), Some([0, 3]));
+        assert_eq!(pair(&[(8, 7, 3), (8, 1, 3)]), Some([7, 8]));
+        assert_eq!(pair(&[(8, 8, 3), (8, 1, 3)]), None);
+        assert_eq!(pair(&[(2, -31, 3), (32, 1, 3)]), Some([0, 63]));
+        assert_eq!(pair(&[(2, 1, 6), (2, 65_535, 7), (2, 1, 7)]), None);
+    }
+
+    #[test]
+    fn the_second_of_an_idle_pair_is_the_smallest() {
+        // 0 and 4 are a pair too, with a smaller first.
+        assert_eq!(pair(&[(2, 0, 7), (2, 1, 7), (2, 1, 7)]), Some([1, 2]));
+        // Of 0, 1 and 2, which add the same, 0 and 1 are the pair.
+        assert_eq!(pair(&[(3, 0, 5)]), Some([0, 1]));
+    }
+
+    #[test]
+    fn idle_copies_are_judged_after_check_6_and_before_9() {
+        let mut card = cards::tile_x();
+        card.replica_slots[0].stride = 0;
+        let at = |card: &Card, flat| place(card, &spot(flat, 127), 0).map_err(|no| no.number);
+        assert_eq!(at(&card, 200), Err(17));
+        card.swizzle.m = 9;
+        assert_eq!(at(&card, 200), Err(6));
+        assert_eq!(card.idle(), Some(Refusal::with(17, 0, 1)));
+        assert_eq!(at(&cards::tile_x(), 200), Err(9));
     }
 
     #[test]

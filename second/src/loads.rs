@@ -2,8 +2,9 @@
 
 use crate::malformed::{Question, LONG_KINDS, SHORT_KINDS};
 use crate::minus::{minus_lines, misspelt};
+use crate::pairs::pair_lines;
 use crate::random::{seed_of, Random};
-use crate::words::{Further, Word, SIGNED, WORDS};
+use crate::words::{Further, Word, COPIED, SIGNED, WORDS};
 
 /// One line in so many is spoiled.
 const SPOILED_ONE_IN: u64 = 5;
@@ -56,12 +57,14 @@ pub fn blocks() -> Vec<u8> {
     let mut lines: Vec<u8> = WORDS.iter().flat_map(block).collect();
     lines.extend(SIGNED.iter().flat_map(further_block));
     lines.extend(minus_lines());
+    lines.extend(COPIED.iter().flat_map(further_block));
+    lines.extend(pair_lines());
     lines
 }
 
-/// A random line about a card with both signs.
-fn signed_line(random: &mut Random) -> Vec<u8> {
-    let further = &SIGNED[random.index(SIGNED.len())];
+/// A random line of one of these blocks, with a minus now and then.
+fn further_line(random: &mut Random, blocks: &[Further]) -> Vec<u8> {
+    let further = &blocks[random.index(blocks.len())];
     let question = Question::new(further.name, &(further.numbers)(random));
     if random.once_in(2 * SPOILED_ONE_IN) {
         misspelt(random, &question)
@@ -72,8 +75,10 @@ fn signed_line(random: &mut Random) -> Vec<u8> {
 
 /// One random line over all the words, without its line feed.
 fn random_line(random: &mut Random) -> Vec<u8> {
-    if random.once_in(3) {
-        return signed_line(random);
+    match random.below(12) {
+        0..=2 => return further_line(random, SIGNED),
+        3 | 4 => return further_line(random, COPIED),
+        _ => {}
     }
     let word = &WORDS[random.index(WORDS.len())];
     let question = question(random, word);
@@ -114,18 +119,22 @@ mod tests {
         ("fields", 12573368625545520938, 9576116403132297621),
         ("descriptor", 15439258021269911782, 1660580043652836152),
         ("mask", 14927742428564712994, 11739171236557157785),
-        ("place", 10852455078651942345, 10380206115902585465),
-        ("verdict", 12106579320104089481, 4612186209192508709),
-        ("owner", 12129378698091028315, 1812354774187261489),
+        ("place", 10852455078651942345, 10514649427637399433),
+        ("verdict", 12106579320104089481, 10473969381165453032),
+        ("owner", 12129378698091028315, 12246453439961588473),
         ("stretch", 16272147638502739761, 10244222593259610520),
     ];
 
     /// The same of the further blocks.
     const FURTHER_CHECKS: &[(&str, u64, u64)] = &[
-        ("signed place", 18402597439214138077, 13543764361806092965),
-        ("signed verdict", 769325158259103276, 10168840702218742869),
-        ("signed owner", 15539713363277863015, 7384937819183456542),
+        ("signed place", 18402597439214138077, 9412509698857426561),
+        ("signed verdict", 769325158259103276, 10179151962256668569),
+        ("signed owner", 15539713363277863015, 13408295019812259727),
         ("minus", 17708587910955146895, 13443572411003091850),
+        ("copied place", 11236351635196279685, 1539833793304660728),
+        ("copied verdict", 15991097115468551153, 8647755703567243651),
+        ("copied owner", 2822654530303547207, 13987248564741278814),
+        ("pairs", 13302408900494603311, 10263101843110043824),
     ];
 
     fn checked<'a>(name: &'a str, lines: &[u8]) -> (&'a str, u64, u64) {
@@ -143,6 +152,8 @@ mod tests {
     fn further_blocks_are_as_committed() {
         let mut blocks: Vec<Vec<u8>> = SIGNED.iter().map(further_block).collect();
         blocks.push(minus_lines());
+        blocks.extend(COPIED.iter().map(further_block));
+        blocks.push(pair_lines());
         let both = FURTHER_CHECKS.iter().zip(&blocks);
         let found = both.map(|((name, ..), lines)| checked(name, lines));
         assert_eq!(Vec::from_iter(found), FURTHER_CHECKS);
@@ -159,9 +170,9 @@ mod tests {
         ("fields", &[0, 15]),
         ("descriptor", &[0, 16]),
         ("mask", &[0, 11, 13, 15, 16]),
-        ("place", &[0, 1, 2, 3, 4, 5, 6, 7, 9, 10, 11]),
-        ("verdict", &[0, 1, 2, 3, 4, 5, 6, 7, 8, 11]),
-        ("owner", &[0, 1, 2, 3, 4, 5, 6, 7, 8, 11, 12]),
+        ("place", &[0, 1, 2, 3, 4, 5, 6, 7, 9, 10, 11, 17]),
+        ("verdict", &[0, 1, 2, 3, 4, 5, 6, 7, 8, 11, 17]),
+        ("owner", &[0, 1, 2, 3, 4, 5, 6, 7, 8, 11, 12, 17]),
         ("stretch", &[0, 3, 4, 11, 12]),
     ];
 
@@ -186,15 +197,13 @@ mod tests {
     }
 
     #[test]
-    fn signed_blocks_are_approved_and_refused() {
-        for further in SIGNED {
-            let reached = reached(&further_block(further));
-            let often = |number| reached.get(&number).copied().unwrap_or(0) > 15;
-            let wanted: &[u64] = match further.name {
-                "place" => &[0, 2, 7, 9],
-                _ => &[0, 2, 7, 8],
-            };
-            assert!(wanted.iter().all(|number| often(*number)), "{reached:?}");
+    fn further_blocks_are_approved_and_refused() {
+        for (blocks, refused) in [(SIGNED, &[2, 7][..]), (COPIED, &[17])] {
+            for further in blocks {
+                let reached = reached(&further_block(further));
+                let often = |number| reached.get(number).copied().unwrap_or(0) > 15;
+                assert!(often(&0) && refused.iter().all(often), "{reached:?}");
+            }
         }
     }
 
@@ -223,7 +232,8 @@ mod tests {
     #[test]
     fn every_block_has_its_own_seed() {
         let words = WORDS.iter().map(|word| word.seed);
-        let seeds = Vec::from_iter(words.chain(SIGNED.iter().map(|further| further.seed)));
+        let further = SIGNED.iter().chain(COPIED).map(|further| further.seed);
+        let seeds = Vec::from_iter(words.chain(further));
         for (at, seed) in seeds.iter().enumerate() {
             assert!(!seeds[..at].contains(seed));
         }

@@ -3,6 +3,7 @@
 //! which the two programs are compared.
 
 mod cards;
+mod copies;
 mod fragment;
 mod large;
 mod layout;
@@ -11,6 +12,7 @@ mod loads;
 mod malformed;
 mod mask;
 mod minus;
+mod pairs;
 mod random;
 mod signed;
 mod swizzle;

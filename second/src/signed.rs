@@ -65,7 +65,15 @@ fn turned(random: &mut Random) -> Card {
     card
 }
 
-/// Small iters that run either way, lifted until no coordinate is below zero.
+/// Raises the offsets until no coordinate is below zero.
+pub fn lift(card: &mut Card) {
+    for iter in [card.shard(), card.replica()].concat() {
+        let below = Number::from(iter.extent - 1) * -iter.stride.min(0);
+        card.offset[iter.axis as usize] += below;
+    }
+}
+
+/// Small iters that run either way, lifted.
 fn either_way(random: &mut Random) -> Card {
     let axes = [random.below(AXES as u64), random.below(AXES as u64)];
     let mut some = |count: u64, most: u64| -> Vec<Iter> {
@@ -79,10 +87,7 @@ fn either_way(random: &mut Random) -> Card {
     let (shard, replica) = (some(3, 4), some(2, 3));
     let used = random.index(3) + 1;
     let mut card = card_of(&shard[..used], &replica[..random.index(3)]);
-    for iter in [card.shard(), card.replica()].concat() {
-        let below = Number::from(iter.extent - 1) * -iter.stride.min(0);
-        card.offset[iter.axis as usize] += below;
-    }
+    lift(&mut card);
     fit(&mut card);
     some_swizzle(random, &mut card);
     card
@@ -90,7 +95,7 @@ fn either_way(random: &mut Random) -> Card {
 
 /// Changes a number so that some coordinate comes to lie below zero, or just
 /// does not.
-fn lower(random: &mut Random, card: &mut Card) {
+pub fn lower(random: &mut Random, card: &mut Card) {
     let axis = random.index(AXES);
     let used = some_iter(random, card).axis as usize;
     match random.below(12) {
@@ -120,7 +125,7 @@ fn lower(random: &mut Random, card: &mut Card) {
 }
 
 /// Puts a stride or an offset at a limit, or spoils what has no sign.
-fn limit(random: &mut Random, card: &mut Card) {
+pub fn limit(random: &mut Random, card: &mut Card) {
     let axis = random.index(AXES);
     let edge = random.pick(EDGES);
     match random.below(8) {

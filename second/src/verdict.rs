@@ -57,7 +57,7 @@ fn clash(holders: &Holders) -> Option<Refusal> {
     })
 }
 
-/// Fills the table for a card that passes checks 1 to 6: refusals 11, 7, 8.
+/// Fills the table for an admitted card: refusals 11, 7, 8.
 /// The cells are all 0 at 7 and 8, the owners otherwise.
 fn fill(card: &Card, table: &mut [u64]) -> Result<[u64; 3], Refusal> {
     let cells = card.cells() as u64;
@@ -76,7 +76,7 @@ fn fill(card: &Card, table: &mut [u64]) -> Result<[u64; 3], Refusal> {
 }
 
 fn verdict(card: &Card, table: &mut [u64]) -> Result<[u64; 3], Refusal> {
-    card.refusal().map_or(Ok(()), Err)?;
+    card.admitted()?;
     fill(card, table)
 }
 
@@ -87,7 +87,7 @@ fn asked_outside(space: &[u64; AXES], asked: &[u64]) -> Option<Refusal> {
 }
 
 fn owner(card: &Card, asked: &Coordinates, table: &mut [u64]) -> Result<[u64; 3], Refusal> {
-    card.refusal().map_or(Ok(()), Err)?;
+    card.admitted()?;
     asked_outside(&card.space, asked).map_or(Ok(()), Err)?;
     fill(card, table)?;
     Ok([table[card.cell(asked).0 as usize], 0, 0])
@@ -339,6 +339,19 @@ mod tests {
     }
 
     #[test]
+    fn idle_copies_are_judged_before_12_and_11_and_touch_nothing() {
+        let mut card = cards::tile_x();
+        card.replica_slots[0].stride = 0;
+        let mut table = lent_entries(703);
+        let refused = Refusal::with(17, 0, 1);
+        assert_eq!(verdict(&card, &mut table), Err(refused));
+        assert_eq!(owner(&card, &[99; AXES], &mut table), Err(refused));
+        card.space[1] = 1;
+        assert_eq!(verdict(&card, &mut table), Err(refused));
+        assert_eq!(table, lent_entries(703));
+    }
+
+    #[test]
     fn a_short_table_is_untouched() {
         let mut table = lent_entries(703);
         let refused = verdict(&cards::tile_x(), &mut table);
@@ -407,7 +420,7 @@ mod tests {
         for at in 0..600 {
             let make = [random_card, signed_card][at % 2];
             let card = make(&mut random);
-            if card.refusal().is_some() || card.elements() * card.copies() > 4_096 {
+            if card.admitted().is_err() || card.elements() * card.copies() > 4_096 {
                 continue;
             }
             let (said, table, cells) = judged(&card);

@@ -4,6 +4,7 @@
 //! as they are, so no entry is moved, and no seed, count or length changed.
 
 use crate::cards;
+use crate::copies;
 use crate::fragment;
 use crate::layout;
 use crate::lines::{plain, whole, Answer, Number};
@@ -53,6 +54,9 @@ pub const STRETCH_SEED: u64 = 0x7374_7265_7463_680b;
 pub const SIGNED_PLACE_SEED: u64 = 0x7369_676e_6564_0001;
 pub const SIGNED_VERDICT_SEED: u64 = 0x7369_676e_6564_0002;
 pub const SIGNED_OWNER_SEED: u64 = 0x7369_676e_6564_0003;
+pub const COPIED_PLACE_SEED: u64 = 0x636f_7069_6573_0001;
+pub const COPIED_VERDICT_SEED: u64 = 0x636f_7069_6573_0002;
+pub const COPIED_OWNER_SEED: u64 = 0x636f_7069_6573_0003;
 
 pub const WORDS: &[Word] = &[
     Word {
@@ -175,5 +179,27 @@ pub const SIGNED: &[Further] = &[
         numbers: signed::owner_numbers,
         seed: SIGNED_OWNER_SEED,
         lines: 200,
+    },
+];
+
+/// Cards with several copies, idle ones among them.
+pub const COPIED: &[Further] = &[
+    Further {
+        name: "place",
+        numbers: copies::place_numbers,
+        seed: COPIED_PLACE_SEED,
+        lines: 150,
+    },
+    Further {
+        name: "verdict",
+        numbers: copies::verdict_numbers,
+        seed: COPIED_VERDICT_SEED,
+        lines: 200,
+    },
+    Further {
+        name: "owner",
+        numbers: copies::owner_numbers,
+        seed: COPIED_OWNER_SEED,
+        lines: 150,
     },
 ];

@@ -8,7 +8,7 @@ use borrow.Author.Tests.{ltb-true, ne-eqb}
 use Rattle.answers.specs.Refusals.{refusalNumbers}
 use Rattle.answers.specs.declared.Numbers.{Numbers}
 use Rattle.answers.specs.declared.Refusal.{Refusal}
-use Rattle.answers.specs.declared.Refusal.the-variants.{Counts, Limits, Axis, Space, TooMany, Swizzle, Outside, Shared, Shape, Coordinate, TooShort, CellOutside, MaskSize, Fragment, Reserved, Shift}
+use Rattle.answers.specs.declared.Refusal.the-variants.{Counts, Limits, Axis, Space, TooMany, Swizzle, Outside, Shared, Shape, Coordinate, TooShort, CellOutside, MaskSize, Fragment, Reserved, Shift, Idle}
 
 -- the refusal that has this number, then with these details
 abbrev refusalOf : ℕ → Numbers → Refusal
@@ -28,7 +28,8 @@ refusalOf n r =
     (cond (eqb n 13) MaskSize
     (cond (eqb n 14) Fragment
     (cond (eqb n 15) Reserved
-    (Shift (r .a))))))))))))))))
+    (cond (eqb n 16) (Shift (r .a))
+    (Idle (r .a) (r .b)))))))))))))))))
 
 -- the left inverse reads each refusal back, and no refusal has number 0
 back : (p : Refusal) → (refusalOf (refusalNumbers p .number) (refusalNumbers p) ≡ p) × (ltb 0 (refusalNumbers p .number) ≡ true)
@@ -48,6 +49,7 @@ back MaskSize = (refl, refl)
 back Fragment = (refl, refl)
 back Reserved = (refl, refl)
 back (Shift limit) = (refl, refl)
+back (Idle a b) = (refl, refl)
 
 pub refusal-one-to-one : (p q : Refusal) → refusalNumbers p ≡ refusalNumbers q → p ≡ q
 refusal-one-to-one p q e = sym (back p .0) ∙ ap (λ (r : Numbers). refusalOf (r .number) r) e ∙ back q .0

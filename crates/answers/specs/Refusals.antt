@@ -1,8 +1,8 @@
--- Document 01's table of refusals: the number and the details of each.
+-- Document 01's table of refusals, with those of document 02: the number and the details of each.
 use Prim.Native.Nat.{ℕ}
 use Rattle.answers.specs.declared.Numbers.{Numbers}
 use Rattle.answers.specs.declared.Refusal.{Refusal}
-use Rattle.answers.specs.declared.Refusal.the-variants.{Counts, Limits, Axis, Space, TooMany, Swizzle, Outside, Shared, Shape, Coordinate, TooShort, CellOutside, MaskSize, Fragment, Reserved, Shift}
+use Rattle.answers.specs.declared.Refusal.the-variants.{Counts, Limits, Axis, Space, TooMany, Swizzle, Outside, Shared, Shape, Coordinate, TooShort, CellOutside, MaskSize, Fragment, Reserved, Shift, Idle}
 
 -- an answer's number and its details a, b, c
 abbrev pub answer : ℕ → ℕ → ℕ → ℕ → Numbers
@@ -26,3 +26,4 @@ refusalNumbers MaskSize = answer 13 0 0 0
 refusalNumbers Fragment = answer 14 0 0 0
 refusalNumbers Reserved = answer 15 0 0 0
 refusalNumbers (Shift limit) = answer 16 limit 0 0
+refusalNumbers (Idle a b) = answer 17 a b 0

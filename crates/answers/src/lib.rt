@@ -9,7 +9,7 @@ pub struct Flat(pub u64);
 // The number of a cell.
 pub struct Cell(pub u64);
 
-// Why the desk says no, in the order of the refusals' numbers, 1 to 16.
+// Why the desk says no, in the order of the refusals' numbers, 1 to 17.
 pub enum Refusal {
     // 1: shard or replica iter count outside limits
     Counts,
@@ -43,6 +43,8 @@ pub enum Refusal {
     Reserved,
     // 16: mask shift above its limit
     Shift { limit: u64 },
+    // 17: two replica combinations give the same sum on every axis
+    Idle { a: u64, b: u64 },
 }
 
 // An answer as plain numbers: its number and three details.
@@ -81,5 +83,6 @@ pub fn refusal_numbers(refusal: Refusal) -> Numbers
         Refusal::Fragment => answer(14, 0, 0, 0),
         Refusal::Reserved => answer(15, 0, 0, 0),
         Refusal::Shift { limit } => answer(16, limit, 0, 0),
+        Refusal::Idle { a, b } => answer(17, a, b, 0),
     }
 }

@@ -1,8 +1,15 @@
--- What the admission means, in plain statements: it is settled, its numbers are one-to-one, and what stands past a count plays no part.
+-- What the admission means, in plain statements: it is settled, its numbers are one-to-one and at most 6, and what stands past a count plays
+-- no part.
 use mathlib.Core.Path.{_≡_, refl, sym, _∙_}
+use mathlib.Core.Bool.{Bool, true, false, cond, not}
+use Prim.Native.Nat.{ℕ, _≤_}
+use native.Mathlib.Omega.{arith}
+use Rattle.answers.specs.Refusals.{refusalNumbers}
+use Rattle.answers.specs.declared.Refusal.{Refusal}
+use Rattle.answers.specs.declared.Refusal.the-variants.{Counts, Limits, Axis, Space, TooMany, Swizzle}
 use Rattle.answers.proofs.OneToOne.{readBack, refused-back, pinned}
 use Rattle.card.specs.Card.{listed}
-use Rattle.card.specs.Admission.{admission, admissionNumbers}
+use Rattle.card.specs.Admission.{countsFit, numbersFit, axesFit, spaceFits, fewEnough, swizzleFits, admission, admissionNumbers}
 use Rattle.card.specs.declared.Card.{Card}
 use Rattle.card.specs.declared.Iters.{Iters}
 use Rattle.card.specs.declared.Admission.{Admission}
@@ -25,6 +32,22 @@ admission-one-to-one = pinned (λ n. Admitted) Refused admissionNumbers admissio
 pub checked-admitted : (card : Card) → Checked card → admission card ≡ Admitted
 unfolding admission
 checked-admitted card k = rw (k .counts, k .numbers, k .axes, k .space, k .few, k .swizzle)
+
+-- checks 1 to 6 refuse by a number up to 6
+rung : (b : Bool) (s r : Refusal) (rest : Admission) → refusalNumbers s .number ≤ 6 → (rest ≡ Refused r → refusalNumbers r .number ≤ 6)
+    → cond (not b) (Refused s) rest ≡ Refused r → refusalNumbers r .number ≤ 6
+rung true s r rest few next e = next e
+rung false s r rest few next e = let same : s ≡ r = cc in rw (sym same) few
+
+pub admission-number : (card : Card) (r : Refusal) → admission card ≡ Refused r → refusalNumbers r .number ≤ 6
+unfolding admission
+admission-number card r =
+    rung (countsFit card) Counts r _ (omega arith)
+    (rung (numbersFit card) Limits r _ (omega arith)
+    (rung (axesFit card) Axis r _ (omega arith)
+    (rung (spaceFits (card .lengths)) Space r _ (omega arith)
+    (rung (fewEnough card) TooMany r _ (omega arith)
+    (rung (swizzleFits card) Swizzle r Admitted (omega arith) (λ e. let z : _≡_ {A = ℕ} 0 1 = cc in absurd (omega arith)))))))
 
 -- two lists of iters that differ past the count alone
 pub record Alike (a b : Iters) : Type 0 where

@@ -231,8 +231,9 @@ pub fn space_fits(lengths: [u64; 8]) -> bool
     all_within(lengths, 8, 1, MOST_LENGTH) & (product(lengths, 8) <= MOST_CELLS)
 }
 
-// The product of the extents of a list of iters, told apart below BEYOND.
-fn size(iters: Iters) -> u64
+// The product of the extents of a list of iters, told apart below BEYOND. Public, with a requires, for
+// the crates above.
+pub fn size(iters: Iters) -> u64
     requires { ⌜ iters .count ≤ 8 ⌝ }
     ensures { λ r. ⌜ r ≡ min (size iters) beyond ⌝ }
 {

@@ -1,6 +1,5 @@
 -- What the verdict and the owner leave in the lent table, entry by entry, from the judgement: a front of the cells, then what stood there.
 use mathlib.Core.Path.{_≡_, refl, sym, ap, _∙_}
-use mathlib.Core.Bool.{Bool, true, false, cond, not}
 use mathlib.Core.Logic.{_⊎_, ⊎-elim}
 use mathlib.Core.List.{List, _++_}
 use Prim.Native.Nat.{ℕ, _+_, _-_, _≤_, _<_}
@@ -9,15 +8,13 @@ use lib.ListN.{length, getD, drop, replicate, length-replicate, getD-replicate, 
 use lib.Seq.{length-front, length-take-le, getD-append-add, getD-drop}
 use Rattle.answers.specs.Refusals.{refusalNumbers}
 use Rattle.answers.specs.declared.Refusal.{Refusal}
-use Rattle.answers.specs.declared.Refusal.the-variants.{Counts, Limits, Axis, Space, TooMany, Swizzle, CellOutside}
+use Rattle.answers.specs.declared.Refusal.the-variants.{CellOutside}
 use Rattle.card.specs.Card.{cells}
-use Rattle.card.specs.Admission.{countsFit, numbersFit, axesFit, spaceFits, fewEnough, swizzleFits, admission}
 use Rattle.card.specs.declared.Card.{Card}
-use Rattle.card.specs.declared.Admission.{Admission}
-use Rattle.card.specs.declared.Admission.the-variants.{Admitted, Refused}
 use Rattle.rules.specs.RowMajor.{position}
 use Rattle.rules.proofs.RowMajor.{FirstPast, first-past}
 use Rattle.rules.proofs.Spots.{position-past, outside-past}
+use Rattle.idle.proofs.Theorems.{full-number}
 use Rattle.judgement.specs.Judgement.{Judgement, NotAdmitted, NoRoom, OutsideAt, Clashing, Passed, ComesTo}
 use Rattle.judgement.specs.Verdict.{verdictOf, cleared, tableAfter, VerdictPromise, OwnerJudgement, NoCell, ByVerdict, OwnerComesTo, readEntry, ownerTableAfter, ownerOf, OwnerPromise, verdictNumbers, ownerNumbers}
 use Rattle.judgement.specs.declared.Verdict.{Verdict}
@@ -36,22 +33,6 @@ pub record Leaves (card : Card) (before after : List ℕ) (number : ℕ) : Type 
   pub untouched : 0 < number → (number ≡ 7 → ⊥) → (number ≡ 8 → ⊥) → after ≡ before
 
 module _ (card : Card) where
-  -- checks 1 to 6 refuse by a number up to 6
-  rung : (b : Bool) (s r : Refusal) (rest : Admission) → refusalNumbers s .number ≤ 6 → (rest ≡ Refused r → refusalNumbers r .number ≤ 6)
-      → cond (not b) (Refused s) rest ≡ Refused r → refusalNumbers r .number ≤ 6
-  rung true s r rest few next e = next e
-  rung false s r rest few next e = let same : s ≡ r = cc in rw (sym same) few
-
-  admission-number : (r : Refusal) → admission card ≡ Refused r → refusalNumbers r .number ≤ 6
-  unfolding admission
-  admission-number r =
-      rung (countsFit card) Counts r _ (omega arith)
-      (rung (numbersFit card) Limits r _ (omega arith)
-      (rung (axesFit card) Axis r _ (omega arith)
-      (rung (spaceFits (card .lengths)) Space r _ (omega arith)
-      (rung (fewEnough card) TooMany r _ (omega arith)
-      (rung (swizzleFits card) Swizzle r Admitted (omega arith) (λ e. let z : _≡_ {A = ℕ} 0 1 = cc in absurd (omega arith)))))))
-
   module _ (before : List ℕ) where
     -- a refusal other than 7 and 8
     leaves-all : (number : ℕ) → (number ≡ 7 → ⊥) → (number ≡ 8 → ⊥) → Leaves card before before number
@@ -92,7 +73,9 @@ module _ (card : Card) where
     judgement-leaves : (j : Judgement) → ComesTo card (length before) j
         → Leaves card before (tableAfter card j before) (verdictNumbers (verdictOf card j) .number)
     judgement-leaves (NotAdmitted r) h =
-        let few = admission-number r h in leaves-all (refusalNumbers r .number) (λ e. omega arith) (λ e. omega arith)
+        let number = full-number card r h in
+        leaves-all (refusalNumbers r .number) (λ e. ⊎-elim (λ few. omega arith) (λ is. omega arith) number)
+        (λ e. ⊎-elim (λ few. omega arith) (λ is. omega arith) number)
     judgement-leaves NoRoom h = leaves-all 11 (λ e. omega arith) (λ e. omega arith)
     judgement-leaves (OutsideAt flat axis) h = leaves-empty 7 (h .0 .enough) (λ u v. u refl)
     judgement-leaves (Clashing x y cell) h = leaves-empty 8 (h .0 .enough) (λ u v. v refl)
@@ -132,7 +115,7 @@ owner-outside card coordinates before after axis same p = go (p .judgement) (p .
     named (NotAdmitted r) entry h e =
         let same-refusal : CellOutside axis ≡ r = cc in
         let number = ap (λ (s : Refusal). refusalNumbers s .number) same-refusal in
-        omega (arith, admission-number card r h)
+        ⊎-elim (λ few. omega arith) (λ is. omega arith) (full-number card r h)
     named NoRoom entry h e = let z : _≡_ {A = ℕ} 0 1 = cc in omega arith
     named (OutsideAt flat a) entry h e = let z : _≡_ {A = ℕ} 0 1 = cc in omega arith
     named (Clashing x y cell) entry h e = let z : _≡_ {A = ℕ} 0 1 = cc in omega arith

@@ -3,3 +3,5 @@ pub mod Run
 pub mod Theorems
 pub mod Leaves
 pub mod PastTheCount
+pub mod Idle
+pub mod Apart

@@ -6,10 +6,11 @@ use lib.ListN.{length}
 use Rattle.card.specs.Lists.{product}
 use Rattle.card.specs.Card.{extentOf, elements, copies, cells}
 use Rattle.card.specs.declared.Card.{Card}
-use Rattle.card.proofs.Theorems.{AlikeCards, past-the-count}
+use Rattle.card.proofs.Theorems.{AlikeCards}
 use Rattle.rules.specs.RowMajor.{position}
 use Rattle.rules.specs.Rules.{spotAt}
 use Rattle.rules.proofs.Theorems.{same-spot}
+use Rattle.idle.proofs.Theorems.{past-the-count-idle}
 use Rattle.judgement.specs.Judgement.{placed, LiesInside, AllInside, FirstOutside, Judgement, NotAdmitted, NoRoom, OutsideAt, Clashing, Passed, Judged, ComesTo}
 use Rattle.judgement.specs.Verdict.{verdictOf, tableAfter, VerdictPromise, askedSpot, OwnerJudgement, NoCell, ByVerdict, OwnerComesTo, ownerTableAfter, ownerOf, OwnerPromise}
 use Rattle.judgement.specs.declared.Verdict.{Verdict}
@@ -29,7 +30,7 @@ module _ (a b : Card) (alike : AlikeCards a b) where
   same-layout = rw (same-copies, same-spot a b alike)
 
   judged : {room : ℕ} → Judged a room → Judged b room
-  judged h = record { admitted = sym (past-the-count a b alike) ∙ h .admitted; enough = rw same-cells at (h .enough) }
+  judged h = record { admitted = sym (past-the-count-idle a b alike) ∙ h .admitted; enough = rw same-cells at (h .enough) }
 
   all-inside : AllInside a → AllInside b
   all-inside h = rw (same-elements, same-copies, same-spot a b alike) at h
@@ -45,8 +46,8 @@ module _ (a b : Card) (alike : AlikeCards a b) where
   }
 
   comes-alike : (room : ℕ) (j : Judgement) → ComesTo a room j → ComesTo b room j
-  comes-alike room (NotAdmitted r) h = sym (past-the-count a b alike) ∙ h
-  comes-alike room NoRoom h = (sym (past-the-count a b alike) ∙ h .0, rw same-cells at (h .1))
+  comes-alike room (NotAdmitted r) h = sym (past-the-count-idle a b alike) ∙ h
+  comes-alike room NoRoom h = (sym (past-the-count-idle a b alike) ∙ h .0, rw same-cells at (h .1))
   comes-alike room (OutsideAt flat axis) h = (judged (h .0), first-outside (h .1))
   comes-alike room (Clashing x y cell) h = (judged (h .0), all-inside (h .1), rw (same-layout, same-elements) at (h .2))
   comes-alike room (Passed owners n) h = (judged (h .0), all-inside (h .1), rw (same-layout, same-elements, same-cells) at (h .2))
@@ -78,9 +79,9 @@ module _ (a b : Card) (alike : AlikeCards a b) where
   same-asked xs = ap (λ (lengths : List ℕ). spotAt (position lengths xs)) (alike .lengths)
 
   owner-comes-alike : (xs : List ℕ) (room : ℕ) (j : OwnerJudgement) → OwnerComesTo a xs room j → OwnerComesTo b xs room j
-  owner-comes-alike xs room (NoCell axis) h = (sym (past-the-count a b alike) ∙ h .0, sym (same-asked xs) ∙ h .1)
+  owner-comes-alike xs room (NoCell axis) h = (sym (past-the-count-idle a b alike) ∙ h .0, sym (same-asked xs) ∙ h .1)
   owner-comes-alike xs room (ByVerdict j) h =
-      (λ admitted. subst LiesInside (same-asked xs) (h .0 (past-the-count a b alike ∙ admitted)), comes-alike room j (h .1))
+      (λ admitted. subst LiesInside (same-asked xs) (h .0 (past-the-count-idle a b alike ∙ admitted)), comes-alike room j (h .1))
 
   same-owner : (xs : List ℕ) (j : OwnerJudgement) (table : List ℕ) → ownerOf a xs j table ≡ ownerOf b xs j table
   same-owner xs (NoCell axis) table = refl

@@ -11,7 +11,6 @@ use lib.ListN.{length}
 use borrow.Author.Tests.{leb-true, leb-false}
 use Rattle.laws.proofs.Order.{le-or-lt}
 use Rattle.card.specs.Card.{elements, copies, cells}
-use Rattle.card.specs.Admission.{admission}
 use Rattle.card.specs.declared.Card.{Card}
 use Rattle.card.specs.declared.Admission.{Admission}
 use Rattle.card.specs.declared.Admission.the-variants.{Admitted, Refused}
@@ -20,6 +19,7 @@ use Rattle.rules.specs.Copies.{cellOf}
 use Rattle.rules.specs.declared.Spot.{Spot}
 use Rattle.rules.specs.declared.Spot.the-variants.{Inside, Outside}
 use Rattle.rules.proofs.Spots.{cell-below}
+use Rattle.idle.specs.Admission.{fullAdmission}
 use Rattle.claims.specs.Claims.{Inside as Within, Outcome, Owned, Clash, ClaimsComeTo as Comes}
 use Rattle.claims.specs.Rows.{smaller}
 use Rattle.claims.specs.Run.{run}
@@ -140,15 +140,15 @@ module _ (card : Card) where
 
   -- the run comes to the judgement
   pub judge-comes : (room : ℕ) → ComesTo card room (judge card room)
-  judge-comes room = after (admission card) refl
+  judge-comes room = after (fullAdmission card) refl
     where
-      with-room : (b : Bool) → leb (cells card) room ≡ b → admission card ≡ Admitted → ComesTo card room (judgeWith card b)
+      with-room : (b : Bool) → leb (cells card) room ≡ b → fullAdmission card ≡ Admitted → ComesTo card room (judgeWith card b)
       with-room true t e =
           judge-from room (record { admitted = e; enough = leb-true (cells card) room t }) (elements card) 0 (zero-add (elements card))
           (λ f r h. absurd (omega arith))
       with-room false t e = (e, leb-false (cells card) room t)
 
-      after : (a : Admission) → admission card ≡ a → ComesTo card room (judgeAfter card room a)
+      after : (a : Admission) → fullAdmission card ≡ a → ComesTo card room (judgeAfter card room a)
       after Admitted e = with-room (leb (cells card) room) refl e
       after (Refused refusal) e = e
 
@@ -166,13 +166,13 @@ module _ (card : Card) where
 
   -- and so is asking for the owner of a cell
   pub owner-run-comes : (coordinates : List ℕ) (room : ℕ) → OwnerComesTo card coordinates room (ownerRun card coordinates room)
-  owner-run-comes coordinates room = after (admission card) refl
+  owner-run-comes coordinates room = after (fullAdmission card) refl
     where
-      at-spot : (s : Spot) → askedSpot card coordinates ≡ s → admission card ≡ Admitted → OwnerComesTo card coordinates room (ownerAt card room s)
+      at-spot : (s : Spot) → askedSpot card coordinates ≡ s → fullAdmission card ≡ Admitted → OwnerComesTo card coordinates room (ownerAt card room s)
       at-spot (Inside cell) q e = (λ h. rw q tt, judge-comes room)
       at-spot (Outside axis) q e = (e, q)
 
-      after : (a : Admission) → admission card ≡ a → OwnerComesTo card coordinates room (ownerAfter card coordinates room a)
+      after : (a : Admission) → fullAdmission card ≡ a → OwnerComesTo card coordinates room (ownerAfter card coordinates room a)
       after Admitted e = at-spot (askedSpot card coordinates) refl e
       after (Refused refusal) e = (λ h. absurd (not-both card e h), e)
 

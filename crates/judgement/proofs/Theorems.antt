@@ -20,6 +20,8 @@ use Rattle.rules.specs.Rules.{spot}
 use Rattle.rules.specs.Copies.{cellOf, copyCells}
 use Rattle.rules.specs.declared.Spot.the-variants.{Inside}
 use Rattle.rules.proofs.Filling.{cells-length, cells-at}
+use Rattle.idle.specs.Idle.{NoIdlePair}
+use Rattle.idle.proofs.Theorems.{admitted-exactly}
 use Rattle.claims.specs.Claims.{Claims, NoneShare, occupied, OwnedTable as Owned}
 use Rattle.claims.specs.Rows.{Row}
 use Rattle.claims.proofs.Rows.{Among, among-claims, claims-among}
@@ -141,15 +143,15 @@ module _ (card : Card) where
             (a .counted ∙ ap occupied (sym (take-at owners past (cells card) (a .size))));
       }
 
--- Demand 3, for a layout whose numbers lie within the limits and a long enough table: approved exactly when every copy of every element
--- lies in the stated space and no two different elements share a cell; once approved, each cell's owner is the one element placed there, or
--- nobody exactly when none is
-pub demand-3 : (card : Card) (before after : List ℕ) (verdict : Verdict) → admission card ≡ Admitted → cells card ≤ length before
-    → VerdictPromise card before after verdict → Demand3 card after verdict
-demand-3 card before after verdict admitted long p = rw (p .answers, p .leaves) (go (p .judgement) (p .comes))
+-- Demand 3, for a layout whose numbers lie within the limits and which has no two replica combinations with the same sums, and a long enough
+-- table: approved exactly when every copy of every element lies in the stated space and no two different elements share a cell; once approved,
+-- each cell's owner is the one element placed there, or nobody exactly when none is
+pub demand-3 : (card : Card) (before after : List ℕ) (verdict : Verdict) → admission card ≡ Admitted → NoIdlePair (card .replica)
+    → cells card ≤ length before → VerdictPromise card before after verdict → Demand3 card after verdict
+demand-3 card before after verdict admitted no-pair long p = rw (p .answers, p .leaves) (go (p .judgement) (p .comes))
   where
     go : (j : Judgement) → ComesTo card (length before) j → Demand3 card (tableAfter card j before) (verdictOf card j)
-    go (NotAdmitted r) h = absurd (not-both card h admitted)
+    go (NotAdmitted r) h = absurd (not-both card h (admitted-exactly card .1 (admitted, no-pair)))
     go NoRoom h = absurd (omega arith)
     go (OutsideAt flat axis) h = demand-3-refused card _ _ (λ so. inside-not-outside card (so .0) (h .1))
     go (Clashing x y cell) h =
@@ -162,10 +164,10 @@ pub copy-row : (card : Card) (f : ℕ) → Row (placed card) f (copyCells card f
 unfolding copyCells
 copy-row card f = record { size = cells-length (spot card f) (copies card); cells = cells-at (spot card f) (copies card) }
 
-module _ (card : Card) (before after : List ℕ) (verdict : Verdict) (admitted : admission card ≡ Admitted) (long : cells card ≤ length before)
-    (promise : VerdictPromise card before after verdict) where
+module _ (card : Card) (before after : List ℕ) (verdict : Verdict) (admitted : admission card ≡ Admitted) (no-pair : NoIdlePair (card .replica))
+    (long : cells card ≤ length before) (promise : VerdictPromise card before after verdict) where
   demand : Demand3 card after verdict
-  demand = demand-3 card before after verdict admitted long promise
+  demand = demand-3 card before after verdict admitted no-pair long promise
 
   -- both ways: once approved, a cell's entry names element f exactly when the cell is among those that placement gives for f
   pub owner-and-placement : IsApproval verdict → (c f : ℕ) → c < cells card
@@ -181,7 +183,7 @@ module _ (card : Card) (before after : List ℕ) (verdict : Verdict) (admitted :
             (o .0, claims-copy card inside f c (o .0) (among-claims (placed card) f (copyCells card f) row c (o .1))),
       )
 
-  -- two copies of one element in one cell are no clash: one element alone is approved, wherever in the space its copies lie
+  -- copies of one element are no clash: one element alone is approved, wherever in the space its copies lie
   pub copies-no-clash : elements card ≡ 1 → AllInside card → IsApproval verdict
   copies-no-clash one inside = demand .approved .1 (inside, λ x y r s c hx hy hr hs e d. omega arith)
 
@@ -192,7 +194,7 @@ module _ (card : Card) (before after : List ℕ) (verdict : Verdict) (admitted :
     where
       go : (j : Judgement) → ComesTo card (length before) j → verdictOf card j ≡ Refused (Shared x y cell)
           → (x .0 < y .0) × (y .0 < elements card) × HasCopyIn card (x .0) (cell .0) × HasCopyIn card (y .0) (cell .0)
-      go (NotAdmitted r) h q = absurd (not-both card h admitted)
+      go (NotAdmitted r) h q = absurd (not-both card h (admitted-exactly card .1 (admitted, no-pair)))
       go NoRoom h q = absurd (omega arith)
       go (OutsideAt flat axis) h q = absurd (omega (arith, ap (λ v. verdictNumbers v .number) q))
       go (Clashing a b c) h q =
@@ -208,11 +210,11 @@ module _ (card : Card) (before after : List ℕ) (verdict : Verdict) (admitted :
           )
       go (Passed owners n) h q = absurd (omega (arith, ap (λ v. verdictNumbers v .number) q))
 
--- the owner of a cell is the verdict with one entry read: for an admitted card and coordinates that name a cell
-pub owner-by-verdict : (card : Card) (coordinates before after : List ℕ) (owner : Owner) (cell : Cell) → admission card ≡ Admitted
+-- the owner of a cell is the verdict with one entry read, for coordinates that name a cell
+pub owner-by-verdict : (card : Card) (coordinates before after : List ℕ) (owner : Owner) (cell : Cell)
     → askedSpot card coordinates ≡ Inside cell → OwnerPromise card coordinates before after owner
     → (v : Verdict) × VerdictPromise card before after v × (owner ≡ readEntry v (getD after (cell .0) 0))
-owner-by-verdict card coordinates before after owner cell admitted asked p = go (p .judgement) (p .comes) (p .answers) (p .leaves)
+owner-by-verdict card coordinates before after owner cell asked p = go (p .judgement) (p .comes) (p .answers) (p .leaves)
   where
     go : (j : OwnerJudgement) → OwnerComesTo card coordinates (length before) j → owner ≡ ownerOf card coordinates j before
         → after ≡ ownerTableAfter card j before → (v : Verdict) × VerdictPromise card before after v × (owner ≡ readEntry v (getD after (cell .0) 0))

@@ -5,9 +5,9 @@ use Prim.Native.Nat.{ℕ}
 use native.Mathlib.Omega.{arith}
 use Rattle.answers.specs.declared.Refusal.{Refusal}
 use Rattle.card.specs.Card.{elements, cells}
-use Rattle.card.specs.Admission.{admission}
 use Rattle.card.specs.declared.Card.{Card}
 use Rattle.card.specs.declared.Admission.the-variants.{Admitted, Refused}
+use Rattle.idle.specs.Admission.{fullAdmission}
 use Rattle.claims.specs.Claims.{Outcome, Owned, Clash, ClaimsComeTo as Comes}
 use Rattle.claims.proofs.Theorems.{outcome-unique}
 use Rattle.judgement.specs.Judgement.{placed, LiesInside, AllInside, FirstOutside, Judgement, NotAdmitted, NoRoom, OutsideAt, Clashing, Passed, ComesTo}
@@ -16,7 +16,7 @@ use Rattle.judgement.specs.Run.{claimed}
 
 module _ (card : Card) where
   -- a card is not both refused and admitted
-  pub not-both : {r : Refusal} → admission card ≡ Refused r → admission card ≡ Admitted → ⊥
+  pub not-both : {r : Refusal} → fullAdmission card ≡ Refused r → fullAdmission card ≡ Admitted → ⊥
   not-both e f = let z : _≡_ {A = ℕ} 0 1 = cc in omega arith
 
   -- where every copy lies inside, none lies outside

@@ -1,16 +1,16 @@
--- What a card comes to in a table of so many entries: document 01's order 1, 2, 3, 4, 5, 6, 11, 7, 8.
+-- What a card comes to in a table of so many entries: the order 1, 2, 3, 4, 5, 6, 17, 11, 7, 8 of document 01 with document 02's 17.
 use mathlib.Core.Path.{_≡_}
 use mathlib.Core.List.{List}
 use Prim.Native.Nat.{ℕ, _≤_, _<_}
 use Rattle.answers.specs.declared.Refusal.{Refusal}
 use Rattle.card.specs.Card.{elements, copies, cells}
-use Rattle.card.specs.Admission.{admission}
 use Rattle.card.specs.declared.Card.{Card}
 use Rattle.card.specs.declared.Admission.the-variants.{Admitted, Refused}
 use Rattle.rules.specs.Rules.{spot}
 use Rattle.rules.specs.Copies.{cellOf}
 use Rattle.rules.specs.declared.Spot.{Spot}
 use Rattle.rules.specs.declared.Spot.the-variants.{Inside, Outside}
+use Rattle.idle.specs.Admission.{fullAdmission}
 use Rattle.claims.specs.Claims.{Layout, OwnedTable, FirstClash}
 
 -- where the copies of a card's elements go; one outside counts as cell 0, so a layout is asked only where every copy lies inside
@@ -41,14 +41,14 @@ pub data Judgement : Type 0 where
   Clashing : (x y cell : ℕ) → Judgement
   Passed : (owners : List ℕ) (occupied : ℕ) → Judgement
 
--- checks 1 to 6 and 11 are passed
+-- checks 1 to 6, 17 and 11 are passed
 pub record Judged (card : Card) (room : ℕ) : Type 0 where
-  pub admitted : admission card ≡ Admitted
+  pub admitted : fullAdmission card ≡ Admitted
   pub enough : cells card ≤ room
 
 abbrev pub ComesTo : Card → ℕ → Judgement → Type 0
-ComesTo card room (NotAdmitted refusal) = admission card ≡ Refused refusal
-ComesTo card room NoRoom = (admission card ≡ Admitted) × (room < cells card)
+ComesTo card room (NotAdmitted refusal) = fullAdmission card ≡ Refused refusal
+ComesTo card room NoRoom = (fullAdmission card ≡ Admitted) × (room < cells card)
 ComesTo card room (OutsideAt flat axis) = Judged card room × FirstOutside card flat axis
 ComesTo card room (Clashing x y cell) = Judged card room × AllInside card × FirstClash (placed card) (elements card) x y cell
 ComesTo card room (Passed owners occupied) =

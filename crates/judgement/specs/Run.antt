@@ -5,13 +5,13 @@ use mathlib.Core.List.{List}
 use Prim.Native.Nat.{ℕ, zero, suc, _+_}
 use lib.Dec.{leb}
 use Rattle.card.specs.Card.{elements, copies, cells}
-use Rattle.card.specs.Admission.{admission}
 use Rattle.card.specs.declared.Card.{Card}
 use Rattle.card.specs.declared.Admission.{Admission}
 use Rattle.card.specs.declared.Admission.the-variants.{Admitted, Refused}
 use Rattle.rules.specs.Rules.{spot}
 use Rattle.rules.specs.declared.Spot.{Spot}
 use Rattle.rules.specs.declared.Spot.the-variants.{Inside, Outside}
+use Rattle.idle.specs.Admission.{fullAdmission}
 use Rattle.claims.specs.Claims.{Outcome, Owned, Clash}
 use Rattle.claims.specs.Rows.{smaller}
 use Rattle.claims.specs.Run.{run}
@@ -48,7 +48,7 @@ judgeAfter card room (Refused refusal) = NotAdmitted refusal
 
 -- what a card comes to in a table of so many entries
 abbrev pub judge : Card → ℕ → Judgement
-judge card room = judgeAfter card room (admission card)
+judge card room = judgeAfter card room (fullAdmission card)
 
 abbrev pub ownerAt : Card → ℕ → Spot → OwnerJudgement
 ownerAt card room (Inside cell) = ByVerdict (judge card room)
@@ -60,4 +60,4 @@ ownerAfter card coordinates room (Refused refusal) = ByVerdict (NotAdmitted refu
 
 -- and what asking for the owner of a cell comes to
 abbrev pub ownerRun : Card → List ℕ → ℕ → OwnerJudgement
-ownerRun card coordinates room = ownerAfter card coordinates room (admission card)
+ownerRun card coordinates room = ownerAfter card coordinates room (fullAdmission card)

@@ -7,7 +7,6 @@ use Rattle.answers.specs.Refusals.{answer, refusalNumbers}
 use Rattle.answers.specs.declared.Numbers.{Numbers}
 use Rattle.answers.specs.declared.Refusal.the-variants.{Outside as NotInside, Shared, TooShort, CellOutside}
 use Rattle.card.specs.Card.{elements, cells}
-use Rattle.card.specs.Admission.{admission}
 use Rattle.card.specs.declared.Card.{Card}
 use Rattle.card.specs.declared.Admission.the-variants.{Admitted}
 use Rattle.rules.specs.RowMajor.{position}
@@ -15,6 +14,7 @@ use Rattle.rules.specs.Rules.{spotAt}
 use Rattle.rules.specs.Copies.{cellOf}
 use Rattle.rules.specs.declared.Spot.{Spot}
 use Rattle.rules.specs.declared.Spot.the-variants.{Outside}
+use Rattle.idle.specs.Admission.{fullAdmission}
 use Rattle.judgement.specs.Judgement.{LiesInside, Judgement, NotAdmitted, NoRoom, OutsideAt, Clashing, Passed, ComesTo}
 use Rattle.judgement.specs.declared.Verdict.{Verdict}
 use Rattle.judgement.specs.declared.Verdict.the-variants.{Approved, Refused}
@@ -51,15 +51,15 @@ pub record VerdictPromise (card : Card) (before after : List ℕ) (verdict : Ver
 abbrev pub askedSpot : Card → List ℕ → Spot
 askedSpot card coordinates = spotAt (position (card .lengths) coordinates)
 
--- the owner adds 12 after 6, and then is the verdict with one entry read
+-- the owner adds 12 after 17, and then is the verdict with one entry read
 pub data OwnerJudgement : Type 0 where
   NoCell : (axis : ℕ) → OwnerJudgement
   ByVerdict : (judgement : Judgement) → OwnerJudgement
 
 abbrev pub OwnerComesTo : Card → List ℕ → ℕ → OwnerJudgement → Type 0
-OwnerComesTo card coordinates room (NoCell axis) = (admission card ≡ Admitted) × (askedSpot card coordinates ≡ Outside axis)
+OwnerComesTo card coordinates room (NoCell axis) = (fullAdmission card ≡ Admitted) × (askedSpot card coordinates ≡ Outside axis)
 OwnerComesTo card coordinates room (ByVerdict judgement) =
-    (admission card ≡ Admitted → LiesInside (askedSpot card coordinates)) × ComesTo card room judgement
+    (fullAdmission card ≡ Admitted → LiesInside (askedSpot card coordinates)) × ComesTo card room judgement
 
 abbrev pub readEntry : Verdict → ℕ → Owner
 readEntry (Approved elements occupied cells) entry = Entry entry

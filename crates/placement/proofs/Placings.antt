@@ -9,10 +9,10 @@ use Rattle.answers.specs.declared.Flat.{Flat}
 use Rattle.answers.specs.declared.Refusal.{Refusal}
 use Rattle.answers.specs.declared.Refusal.the-variants.{Shape, Coordinate, TooShort, Outside}
 use Rattle.card.specs.Card.{elements, copies}
-use Rattle.card.specs.Admission.{admission}
 use Rattle.card.specs.declared.Card.{Card}
 use Rattle.card.specs.declared.Admission.the-variants.{Admitted, Refused as NotAdmitted}
 use Rattle.rules.specs.Copies.{copyCells, outsideAxis}
+use Rattle.idle.specs.Admission.{fullAdmission}
 use Rattle.placement.specs.Placement.{shapeAdmitted, coordinatesFit, flatten, placementAnswer, placementMemory, written, Placing}
 use Rattle.placement.specs.declared.Tuple.{Tuple}
 use Rattle.placement.specs.declared.Placement.{Placement}
@@ -27,11 +27,11 @@ module _ (card : Card) (shape coordinates : Tuple) (before : List ℕ) where
     memory-is = sym (ap (λ (p : Placement). written p (copyCells card (flatten shape coordinates)) before) e);
   }
 
-  pub not-admitted : (refusal : Refusal) → admission card ≡ NotAdmitted refusal → Placing card shape coordinates before before (Refused refusal)
+  pub not-admitted : (refusal : Refusal) → fullAdmission card ≡ NotAdmitted refusal → Placing card shape coordinates before before (Refused refusal)
   unfolding placementAnswer
   not-admitted refusal a = refused refusal (rw a)
 
-  module _ (a : admission card ≡ Admitted) where
+  module _ (a : fullAdmission card ≡ Admitted) where
     pub not-shaped : shapeAdmitted shape (elements card) ≡ false → Placing card shape coordinates before before (Refused Shape)
     unfolding placementAnswer
     not-shaped s = refused Shape (rw (a, s))

@@ -1,6 +1,7 @@
 -- What the placement of one element means, in plain for-alls.
 use mathlib.Core.Path.{_≡_, refl, sym, ap, _∙_}
 use mathlib.Core.Bool.{Bool, true, false, cond, not}
+use mathlib.Core.Logic.{_↔_}
 use mathlib.Core.List.{List, _++_}
 use Prim.Native.Nat.{ℕ, _≤_, _<_}
 use native.Mathlib.Omega.{arith}
@@ -8,22 +9,26 @@ use borrow.Author.Tests.{ltb-false}
 use lib.Dec.{leb, ltb}
 use lib.ListN.{length, getD, drop, List·getD-append}
 use lib.Seq.{drop-at}
+use Rattle.answers.specs.Refusals.{refusalNumbers}
 use Rattle.answers.specs.declared.Refusal.{Refusal}
-use Rattle.answers.specs.declared.Refusal.the-variants.{Shape, Coordinate, TooShort}
+use Rattle.answers.specs.declared.Refusal.the-variants.{Shape, Coordinate, TooShort, Outside, Idle}
 use Rattle.answers.proofs.OneToOne.{readBack, refused-back, pinned}
 use Rattle.card.specs.Card.{elements, copies}
 use Rattle.card.specs.Admission.{admission}
 use Rattle.card.specs.declared.Card.{Card}
 use Rattle.card.specs.declared.Admission.{Admission}
 use Rattle.card.specs.declared.Admission.the-variants.{Admitted, Refused as NotAdmitted}
-use Rattle.card.proofs.Theorems.{AlikeCards, past-the-count}
+use Rattle.card.proofs.Theorems.{AlikeCards}
 use Rattle.rules.specs.Rules.{axes, spot}
 use Rattle.rules.specs.Copies.{cellOf, copyCells, outsideAxis}
 use Rattle.rules.specs.declared.Spot.the-variants.{Inside}
 use Rattle.rules.proofs.Spots.{spot-inside}
 use Rattle.rules.proofs.Filling.{cells-length, cells-at, outside-least}
 use Rattle.rules.proofs.Theorems.{OneToOne, one-to-one, same-spot}
-use Rattle.placement.specs.Placement.{entries, shapeAdmitted, coordinatesFit, flatten, afterAdmission, placementAnswer, written, placementMemory, placementNumbers, Placing}
+use Rattle.idle.specs.Idle.{IdlePair}
+use Rattle.idle.specs.Admission.{fullAdmission}
+use Rattle.idle.proofs.Theorems.{idle-exactly, past-the-count-idle}
+use Rattle.placement.specs.Placement.{entries, shapeAdmitted, coordinatesFit, flatten, elementAnswer, afterAdmission, placementAnswer, written, placementMemory, placementNumbers, Placing}
 use Rattle.placement.specs.declared.Tuple.{Tuple}
 use Rattle.placement.specs.declared.Placement.{Placement}
 use Rattle.placement.specs.declared.Placement.the-variants.{Copies, Refused}
@@ -65,7 +70,7 @@ all-inside : (card : Card) (shape coordinates : Tuple) (room n : ℕ) → Copies
 unfolding placementAnswer
 all-inside card shape coordinates room n e =
     let flat = flatten shape coordinates in
-    let e1 = past-admission (admission card) _ n e in
+    let e1 = past-admission (fullAdmission card) _ n e in
     let e2 = past-rung (shapeAdmitted shape (elements card)) Shape _ n e1 in
     let e3 = past-rung (coordinatesFit shape coordinates) Coordinate _ n e2 in
     let e4 = past-rung (leb (copies card) room) (TooShort (copies card)) _ n e3 in
@@ -101,11 +106,44 @@ placement-copies card shape coordinates before after n eight p =
       rest = ap (drop n) filled ∙ drop-at cells (drop n before) n long;
     }
 
+-- the element's own checks refuse by a number up to 11
+abbrev number : Placement → ℕ
+number p = placementNumbers p .number
+
+rung : (b : Bool) (r : Refusal) (rest : Placement) → refusalNumbers r .number ≤ 11 → number rest ≤ 11 → number (cond b (Refused r) rest) ≤ 11
+rung true r rest few next = few
+rung false r rest few next = next
+
+element-number : (card : Card) (shape coordinates : Tuple) (room : ℕ) → number (elementAnswer card shape coordinates room) ≤ 11
+element-number card shape coordinates room =
+    let flat = flatten shape coordinates in
+    rung (not (shapeAdmitted shape (elements card))) Shape _ (omega arith)
+    (rung (not (coordinatesFit shape coordinates)) Coordinate _ (omega arith)
+    (rung (not (leb (copies card) room)) (TooShort (copies card)) _ (omega arith)
+    (rung (ltb (outsideAxis card flat) (length axes)) (Outside (record { 0 = flat }) (outsideAxis card flat)) (Copies (copies card)) (omega arith) (omega arith))))
+
+-- 17 is given exactly when checks 1 to 6 are passed and this is the pair, and touches nothing
+pub placement-idle : (card : Card) (shape coordinates : Tuple) (before after : List ℕ) (p : Placement) → Placing card shape coordinates before after p
+    → (a b : ℕ)
+    → ((p ≡ Refused (Idle a b)) ↔ ((admission card ≡ Admitted) × IdlePair (card .replica) a b)) × (p ≡ Refused (Idle a b) → after ≡ before)
+unfolding placementAnswer placementMemory
+placement-idle card shape coordinates before after p placing a b = (
+  (
+    λ e. idle-exactly card a b .0 (given (fullAdmission card) (sym e ∙ placing .answer-is)),
+    λ h. placing .answer-is ∙ rw (idle-exactly card a b .1 h),
+  ),
+  λ e. placing .memory-is ∙ rw (sym (placing .answer-is), e),
+)
+  where
+    given : (x : Admission) → Refused (Idle a b) ≡ afterAdmission x (elementAnswer card shape coordinates (length before)) → x ≡ NotAdmitted (Idle a b)
+    given Admitted e = absurd (omega (arith, ap number e, element-number card shape coordinates (length before)))
+    given (NotAdmitted r) e = let same : Idle a b ≡ r = cc in ap NotAdmitted (sym same)
+
 -- iters past a count play no part in the placement of an element
 module _ (a b : Card) (k : AlikeCards a b) (shape xs : Tuple) where
   same-answer : (room : ℕ) → placementAnswer a shape xs room ≡ placementAnswer b shape xs room
   unfolding placementAnswer outsideAxis
-  same-answer room = rw (past-the-count a b k, k .shard .iters, k .replica .iters, same-spot a b k)
+  same-answer room = rw (past-the-count-idle a b k, k .shard .iters, k .replica .iters, same-spot a b k)
 
   same-memory : (before : List ℕ) → placementMemory a shape xs before ≡ placementMemory b shape xs before
   unfolding placementMemory copyCells

@@ -10,13 +10,13 @@ use Rattle.answers.specs.declared.Numbers.{Numbers}
 use Rattle.answers.specs.declared.Refusal.the-variants.{Shape, Coordinate, TooShort, Outside}
 use Rattle.card.specs.Lists.{within, product}
 use Rattle.card.specs.Card.{elements, copies}
-use Rattle.card.specs.Admission.{admission}
 use Rattle.card.specs.declared.Card.{Card}
 use Rattle.card.specs.declared.Admission.{Admission}
 use Rattle.card.specs.declared.Admission.the-variants.{Admitted, Refused as NotAdmitted}
 use Rattle.rules.specs.RowMajor.{rowMajor, inside}
 use Rattle.rules.specs.Rules.{axes}
 use Rattle.rules.specs.Copies.{copyCells, outsideAxis}
+use Rattle.idle.specs.Admission.{fullAdmission}
 use Rattle.placement.specs.declared.Tuple.{Tuple}
 use Rattle.placement.specs.declared.Placement.{Placement}
 use Rattle.placement.specs.declared.Placement.the-variants.{Copies, Refused}
@@ -40,7 +40,7 @@ coordinatesFit shape coordinates = eqb (coordinates .count) (shape .count) && in
 abbrev pub flatten : Tuple → Tuple → ℕ
 flatten shape coordinates = rowMajor (entries shape) (entries coordinates)
 
--- after checks 1 to 6: 9, 10, 11, then 7 for this element alone
+-- after checks 1 to 6 and 17: 9, 10, 11, then 7 for this element alone
 abbrev pub elementAnswer : Card → Tuple → Tuple → ℕ → Placement
 elementAnswer card shape coordinates room =
     cond (not (shapeAdmitted shape (elements card))) (Refused Shape)
@@ -56,7 +56,7 @@ afterAdmission (NotAdmitted refusal) placement = Refused refusal
 
 -- the answer for any numbers and a lent memory of this length
 unfoldable pub placementAnswer : Card → Tuple → Tuple → ℕ → Placement
-placementAnswer card shape coordinates room = afterAdmission (admission card) (elementAnswer card shape coordinates room)
+placementAnswer card shape coordinates room = afterAdmission (fullAdmission card) (elementAnswer card shape coordinates room)
 
 -- the lent memory: the cells of the copies, entries past the last as they were; a refusal touches nothing
 abbrev pub written : Placement → List ℕ → List ℕ → List ℕ

@@ -110,7 +110,7 @@ fn outside_axis(card: Card, flat: Flat, end: usize) -> u64
 pub fn place(card: Card, shape: Tuple, coordinates: Tuple, memory: &mut [u32]) -> Placement
     ensures { λ r. ⌜ Placing card shape coordinates (now (memory .entry)) (now (memory .exit)) r ⌝ }
 {
-    let admission = card::admit(card);
+    let admission = idle::admit(card);
     if let Admission::Refused(refusal) = admission {
         return Placement::Refused(refusal);
     }

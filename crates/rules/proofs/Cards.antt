@@ -20,7 +20,7 @@ use Rattle.card.proofs.Lists.{all-at, stride-far}
 use Rattle.card.proofs.Listed.{Counted, counted}
 use Rattle.card.proofs.Admitted.{Checked, checked}
 use Rattle.rules.specs.Rules.{axes, part, sum, coordinates, spot}
-use Rattle.rules.specs.Inside.{itersOf, numbersOf, walked, spotFrom, Row, roomy, Lent, Sums, Ready, cardOf, LentCard}
+use Rattle.rules.specs.Inside.{itersOf, numbersOf, walked, spotFrom, Row, roomy, Lent, Sums, Ready, cardOf, OfEight, LentCard}
 use Rattle.rules.proofs.Along.{axes-at, on-axes}
 use Rattle.rules.proofs.Lending.{lent-back}
 use Rattle.rules.proofs.Turn.{along-room}
@@ -131,7 +131,7 @@ module _ {shard : List ℕ} {shardStrides : List ℤ} {replica : List ℕ} {repl
 -- the numbers of a card are those of this card and no other
 module _ (card : Card) {shard replica : List ℕ} {shardStrides replicaStrides : List ℤ} (s : shard ≡ numbersOf (card .shard)) (t : shardStrides ≡ map strideOf (card .shard .at))
     (r : replica ≡ numbersOf (card .replica)) (u : replicaStrides ≡ map strideOf (card .replica .at))
-    (eight : (length (card .shard .at) ≡ 8) × (length (card .replica .at) ≡ 8) × (length (card .offset) ≡ 8) × (length (card .lengths) ≡ 8)) where
+    (eight : OfEight card) where
   abbrev swizzle : List ℕ
   swizzle = card .swizzle .m ∷ card .swizzle .b ∷ card .swizzle .s ∷ []
 

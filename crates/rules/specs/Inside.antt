@@ -132,6 +132,10 @@ cardOf shard shardStrides replica replicaStrides offset lengths swizzle = record
   swizzle = swizzleOf swizzle;
 }
 
+-- a card's lists are of eight, as its arrays are
+abbrev pub OfEight : Card → Type 0
+OfEight card = (length (card .shard .at) ≡ 8) × (length (card .replica .at) ≡ 8) × (length (card .offset) ≡ 8) × (length (card .lengths) ≡ 8)
+
 -- an admitted card's numbers, lent as arrays
 pub record LentCard (shard : List ℕ) (shardStrides : List ℤ) (replica : List ℕ) (replicaStrides offset : List ℤ) (lengths swizzle : List ℕ) : Type 0 where
   pub whole-shard : length shard ≡ 17

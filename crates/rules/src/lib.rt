@@ -68,8 +68,8 @@ fn step(sum: i64, component: u64, stride: i64) -> i64
 }
 
 // Adds to the sums what the iters add to each axis at an index: one walk over the iters for all
-// eight axes, from the last, which runs fastest.
-fn walk(iters: &[u64; 17], strides: &[i64; 8], index: u64, sums: &mut [i64; 8])
+// eight axes, from the last, which runs fastest. Public, with a requires, for the crates above.
+pub fn walk(iters: &[u64; 17], strides: &[i64; 8], index: u64, sums: &mut [i64; 8])
     requires { ⌜ Lent (now iters) (now strides) × Sums (now sums) ⌝ }
     ensures { λ r. ⌜ now (sums .exit) ≡ walked (itersOf (now (iters .entry)) (now (strides .entry))) index (now (sums .entry)) ⌝ }
 {

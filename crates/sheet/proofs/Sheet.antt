@@ -19,6 +19,8 @@ use Rattle.card.specs.Admission.{admission}
 use Rattle.rules.specs.RowMajor.{position}
 use Rattle.rules.specs.Rules.{coordinates, spot}
 use Rattle.rules.specs.Copies.{copyCells, outsideAxis}
+use Rattle.idle.specs.Run.{pairOf}
+use Rattle.idle.specs.Admission.{fullAdmission}
 use Rattle.placement.specs.Placement.{placementAnswer, placementMemory}
 use Rattle.card.specs.declared.Card.{Card}
 use Rattle.judgement.specs.Verdict.{VerdictPromise, OwnerPromise, verdictNumbers, ownerNumbers}
@@ -77,7 +79,7 @@ meets k load = same (asked (load .question)) (load .stated)
 
 -- the computed test
 test : every meets 0 loads ≡ true
-unfolding meets asked loads swizzled bitLength leadingZeros computation registers place descriptorOf column number bytes zeroed firstUsed admission position coordinates spot copyCells outsideAxis placementAnswer placementMemory
+unfolding meets asked loads swizzled bitLength leadingZeros computation registers place descriptorOf column number bytes zeroed firstUsed admission pairOf fullAdmission position coordinates spot copyCells outsideAxis placementAnswer placementMemory
 test = refl
 
 -- every load of the sheet has its stated answer

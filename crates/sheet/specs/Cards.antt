@@ -112,9 +112,17 @@ inTensorMemory shard replica lanes columns =
 abbrev pub wideTile : Card
 wideTile = inTensorMemory (2 by 112 on TCol ∷ 128 by 1 on TLane ∷ 112 by 1 on TCol ∷ []) [] 128 224
 
--- two elements, of which each has its two copies in one cell
-abbrev pub doubled : Card
-doubled = fromM (2 by 1 on m ∷ []) (2 by 0 on m ∷ []) (pos 0) 2 unswizzled
+-- two elements with a replica of stride 0: the two copies of each would lie in one cell
+abbrev pub doubled : ℕ → Swizzle → Card
+doubled = fromM (2 by 1 on m ∷ []) (2 by 0 on m ∷ []) (pos 0)
+
+-- one element with these copies, from an offset on m
+abbrev pub copied : List Iter → ℕ → Card
+copied replica offset = fromM (1 by 0 on m ∷ []) replica (pos offset) 3 unswizzled
+
+-- one element in tensor memory with copies to both sides, by the same stride
+abbrev pub bothSides : Card
+bothSides = inTensorMemory (1 by 0 on TLane ∷ []) (2 by 1 on TLane ∷ 2 by 1 on TCol ∷ []) 2 2
 
 -- 004's scale factors: 32 rows, routed to the four warps of a warpgroup
 abbrev pub scaleFactors : Card

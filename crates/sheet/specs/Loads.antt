@@ -9,7 +9,7 @@ use Rattle.answers.specs.Refusals.{answer}
 use Rattle.descriptor.specs.Descriptor.{descriptorOf}
 use Rattle.descriptor.specs.declared.Fields.{Fields}
 use Rattle.sheet.specs.Questions.{Question, swizzle, mode, fragment, descriptor, mask, place, verdict, owner, stretch, Reply, reply}
-use Rattle.sheet.specs.Cards.{tuple, tile, tileX, unswizzled, onM, atM, backwards, lastRowFirst, copiesBack, _by_on_, _back_on_, m, wideTile, doubled, scaleFactors, sixtyFive, figure189}
+use Rattle.sheet.specs.Cards.{tuple, tile, tileX, unswizzled, onM, atM, backwards, lastRowFirst, copiesBack, _by_on_, _back_on_, m, wideTile, doubled, copied, bothSides, scaleFactors, sixtyFive, figure189}
 use Rattle.sheet.specs.Cards.{swizzle as swizzleBy}
 
 pub record Load : Type 0 where
@@ -113,8 +113,17 @@ loads =
     ∷ (verdict (tile 10 4) (table 704) is reply (answer 7 8 1 0) [])
     ∷ (verdict (tile 11 1) (table 704) is reply (answer 8 0 8 384) [])
     ∷ (verdict tileX (table 703) is reply (answer 11 704 0 0) [])
-    -- two copies of one element in one cell are no clash
-    ∷ (verdict doubled (table 2) is reply (answer 0 2 2 2) [])
+    -- idle copies (document 02): a replica of stride 0; before 12 and 11, before 9 and 11, before 7; after 6
+    ∷ (verdict (doubled 2 unswizzled) (table 2) is reply (answer 17 0 1 0) [])
+    ∷ (owner (doubled 2 unswizzled) (replicate 8 9) (table 1) is reply (answer 17 0 1 0) [])
+    ∷ (place (doubled 2 unswizzled) (tuple (3 ∷ [])) (tuple (5 ∷ [])) (table 1) is reply (answer 17 0 1 0) (table 1))
+    ∷ (verdict (doubled 1 unswizzled) (table 1) is reply (answer 17 0 1 0) [])
+    ∷ (verdict (doubled 2 (swizzleBy 3 3 2)) (table 2) is reply (answer 6 0 0 0) [])
+    -- the smallest second first: 1 and 2, although 0 and 4 give the same sums too
+    ∷ (verdict (copied (2 by 0 on m ∷ 2 by 1 on m ∷ 2 by 1 on m ∷ []) 0) (table 3) is reply (answer 17 1 2 0) [])
+    -- one copy forwards and one backwards meet where they began; tile X, above, has no such pair, nor have equal strides on different axes
+    ∷ (verdict (copied (2 by 1 on m ∷ 2 back 1 on m ∷ []) 1) (table 3) is reply (answer 17 0 3 0) [])
+    ∷ (verdict bothSides (table 4) is reply (answer 0 1 4 4) [])
     -- the scale factors: TLane 37 and TCol 2 is cell 150, and belongs to element 22, which has four copies
     ∷ (stretch (scaleFactors .lengths) 7 (0 ∷ 0 ∷ 0 ∷ 0 ∷ 0 ∷ 37 ∷ 2 ∷ 0 ∷ []) (table 512) is reply (answer 0 150 1 0) (1000000 ∷ []))
     ∷ (place scaleFactors (tuple (32 ∷ 4 ∷ [])) (tuple (5 ∷ 2 ∷ [])) (table 4) is reply (answer 0 4 0 0) (22 ∷ 150 ∷ 278 ∷ 406 ∷ []))

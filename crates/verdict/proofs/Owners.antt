@@ -8,7 +8,6 @@ use Rattle.answers.specs.declared.Cell.{Cell}
 use Rattle.answers.specs.declared.Refusal.{Refusal}
 use Rattle.answers.specs.declared.Refusal.the-variants.{CellOutside}
 use Rattle.card.specs.Card.{cells}
-use Rattle.card.specs.Admission.{admission}
 use Rattle.card.specs.declared.Card.{Card}
 use Rattle.card.specs.declared.Admission.the-variants.{Admitted, Refused as NoCard}
 use Rattle.card.proofs.Admitted.{sized}
@@ -16,6 +15,8 @@ use Rattle.rules.specs.Copies.{cellOf}
 use Rattle.rules.specs.declared.Spot.{Spot}
 use Rattle.rules.specs.declared.Spot.the-variants.{Inside, Outside}
 use Rattle.rules.proofs.Spots.{cell-small}
+use Rattle.idle.specs.Admission.{fullAdmission}
+use Rattle.idle.proofs.Theorems.{checks-passed}
 use Rattle.judgement.specs.Judgement.{LiesInside, Judgement, NotAdmitted, NoRoom, OutsideAt, Clashing, Passed, ComesTo}
 use Rattle.judgement.specs.Verdict.{verdictOf, tableAfter, VerdictPromise, askedSpot, NoCell, ByVerdict, readEntry, OwnerPromise}
 use Rattle.verdict.specs.Inside.{ReadAt}
@@ -47,7 +48,7 @@ entry-read cell p e = record {
 }
 
 module _ (card : Card) (coordinates before : List ℕ) where
-  pub owner-refused : {refusal : Refusal} → admission card ≡ NoCard refusal → OwnerPromise card coordinates before before (NoOwner refusal)
+  pub owner-refused : {refusal : Refusal} → fullAdmission card ≡ NoCard refusal → OwnerPromise card coordinates before before (NoOwner refusal)
   owner-refused {refusal} e = record {
     judgement = ByVerdict (NotAdmitted refusal);
     comes = (λ a. let z : _≡_ {A = ℕ} 0 1 = cc in absurd (omega arith), e);
@@ -55,7 +56,7 @@ module _ (card : Card) (coordinates before : List ℕ) where
     leaves = refl;
   }
 
-  module _ (admitted : admission card ≡ Admitted) where
+  module _ (admitted : fullAdmission card ≡ Admitted) where
     pub no-cell-promise : {axis : ℕ} → askedSpot card coordinates ≡ Outside axis → OwnerPromise card coordinates before before (NoOwner (CellOutside axis))
     no-cell-promise {axis} e = record { judgement = NoCell axis; comes = (admitted, e); answers = refl; leaves = refl }
 
@@ -63,7 +64,7 @@ module _ (card : Card) (coordinates before : List ℕ) where
       -- the cell is one of the cells
       pub asked-below : cell .0 < cells card
       asked-below =
-          let n = sized card admitted in
+          let n = sized card (checks-passed card admitted) in
           subst (λ (p : Spot). cellOf p < cells card) e (cell-small (card .lengths) coordinates (cells card) (n .some-cells) (omega arith))
 
       pub owner-read : {after : List ℕ} {owner : Owner} → ReadAt card (cell .0) before after owner → OwnerPromise card coordinates before after owner

@@ -9,9 +9,9 @@ use Rattle.answers.specs.declared.Flat.{Flat}
 use Rattle.answers.specs.declared.Refusal.{Refusal}
 use Rattle.answers.specs.declared.Refusal.the-variants.{Outside as NotInside, TooShort}
 use Rattle.card.specs.Card.{elements, cells}
-use Rattle.card.specs.Admission.{admission}
 use Rattle.card.specs.declared.Card.{Card}
 use Rattle.card.specs.declared.Admission.the-variants.{Admitted, Refused as NoCard}
+use Rattle.idle.specs.Admission.{fullAdmission}
 use Rattle.claims.specs.Claims.{FirstClash, OwnedTable as Owned}
 use Rattle.claims.specs.Rows.{entryMet, cellMet}
 use Rattle.table.specs.Owners.{clashOf}
@@ -25,7 +25,7 @@ none-past : (n : ℕ) (table : List ℕ) → length table ≡ n → (t : List �
 none-past n table e t = sym (ap (λ (l : List ℕ). t ++ l) (drop-of-length-le table {i = n} (omega arith)) ∙ append-nil t)
 
 -- an admitted card and a table of exactly its cells
-module _ (card : Card) (before : List ℕ) (admitted : admission card ≡ Admitted) (exact : length before ≡ cells card) where
+module _ (card : Card) (before : List ℕ) (admitted : fullAdmission card ≡ Admitted) (exact : length before ≡ cells card) where
   judged : Judged card (length before)
   judged = record { admitted = admitted; enough = omega arith }
 
@@ -63,7 +63,7 @@ module _ (card : Card) (before : List ℕ) (admitted : admission card ≡ Admitt
     }
 
 -- of exactly the cells it does not matter what they were
-module _ (card : Card) (before other : List ℕ) (admitted : admission card ≡ Admitted) (exact : length before ≡ cells card)
+module _ (card : Card) (before other : List ℕ) (admitted : fullAdmission card ≡ Admitted) (exact : length before ≡ cells card)
     (alike : length other ≡ cells card) where
   past : (t : List ℕ) → t ++ drop (cells card) other ≡ t ++ drop (cells card) before
   past t = sym (none-past (cells card) other alike t) ∙ none-past (cells card) before exact t
@@ -85,10 +85,10 @@ module _ (card : Card) (before other : List ℕ) (admitted : admission card ≡ 
 
 -- the caller's table: a refusal before the cells are judged leaves it
 module _ (card : Card) (before : List ℕ) where
-  pub not-admitted : {refusal : Refusal} → admission card ≡ NoCard refusal → VerdictPromise card before before (Refused refusal)
+  pub not-admitted : {refusal : Refusal} → fullAdmission card ≡ NoCard refusal → VerdictPromise card before before (Refused refusal)
   not-admitted {refusal} e = record { judgement = NotAdmitted refusal; comes = e; answers = refl; leaves = refl }
 
-  pub too-short : {n : ℕ} → admission card ≡ Admitted → n ≡ cells card → length before < n → VerdictPromise card before before (Refused (TooShort n))
+  pub too-short : {n : ℕ} → fullAdmission card ≡ Admitted → n ≡ cells card → length before < n → VerdictPromise card before before (Refused (TooShort n))
   too-short {n} admitted e h = record {
     judgement = NoRoom;
     comes = (admitted, omega arith);

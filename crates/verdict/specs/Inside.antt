@@ -6,8 +6,10 @@ use lib.IntN.{ℤ}
 use lib.ListN.{length, getD}
 use Rattle.card.specs.Card.{elements, copies, cells}
 use Rattle.card.specs.declared.Card.{Card}
+use Rattle.card.specs.declared.Admission.the-variants.{Admitted}
 use Rattle.rules.specs.Copies.{copyCells}
 use Rattle.rules.specs.Inside.{cardOf, LentCard}
+use Rattle.idle.specs.Admission.{fullAdmission}
 use Rattle.claims.specs.Rows.{RowClaim}
 use Rattle.judgement.specs.Judgement.{AllInside, FirstOutside, Judgement, ComesTo}
 use Rattle.judgement.specs.Verdict.{verdictOf, tableAfter, readEntry}
@@ -18,6 +20,7 @@ use Rattle.verdict.specs.declared.Search.the-variants.{Outside, NoneOuts
 -- what a pass over the elements is lent: an admitted card's numbers, how many elements it has, and a row as long as its copies
 pub record Pass (shard : List ℕ) (shardStrides : List ℤ) (replica : List ℕ) (replicaStrides offset : List ℤ) (lengths swizzle : List ℕ) (count : ℕ) (row : List ℕ) : Type 0 where
   pub lent : LentCard shard shardStrides replica replicaStrides offset lengths swizzle
+  pub admitted : fullAdmission (cardOf shard shardStrides replica replicaStrides offset lengths swizzle) ≡ Admitted
   pub all-elements : count ≡ elements (cardOf shard shardStrides replica replicaStrides offset lengths swizzle)
   pub one-each : length row ≡ copies (cardOf shard shardStrides replica replicaStrides offset lengths swizzle)
 

@@ -14,9 +14,9 @@ ghost use Prim.Native.Nat.{_<_};
 ghost use lib.ListN.{length, replicate};
 ghost use Rattle.card.specs.Card.{copies, cells};
 ghost use Rattle.card.specs.Inside.{sizes as sizesOf};
-ghost use Rattle.card.specs.Admission.{admission};
 ghost use Rattle.card.specs.declared.Admission.the-variants.{Admitted};
 ghost use Rattle.rules.specs.Inside.{cardOf, LentCard};
+ghost use Rattle.idle.specs.Admission.{fullAdmission};
 ghost use Rattle.claims.specs.Rows.{Within, entryMet};
 ghost use Rattle.table.specs.Owners.{clashOf};
 ghost use Rattle.judgement.specs.Judgement.{AllInside};
@@ -208,7 +208,7 @@ fn judge_lent(
 // The verdict on an admitted card, in a table of exactly its cells: the card is unpacked once and its
 // numbers lent, and so is one row for the copies of an element.
 fn judge_cells(card: Card, sizes: Sizes, table: &mut [u32]) -> Verdict
-    requires { ⌜ admission card ≡ Admitted ⌝ }
+    requires { ⌜ fullAdmission card ≡ Admitted ⌝ }
     requires { ⌜ sizes ≡ sizesOf card ⌝ }
     requires { ⌜ length (now table) ≡ cells card ⌝ }
     ensures { λ r. ⌜ VerdictPromise card (now (table .entry)) (now (table .exit)) r ⌝ }
@@ -240,7 +240,7 @@ fn judge_cells(card: Card, sizes: Sizes, table: &mut [u32]) -> Verdict
 
 // The verdict on an admitted card: room for its cells, then the owners in them.
 fn judge_admitted(card: Card, table: &mut [u32]) -> Verdict
-    requires { ⌜ admission card ≡ Admitted ⌝ }
+    requires { ⌜ fullAdmission card ≡ Admitted ⌝ }
     ensures { λ r. ⌜ VerdictPromise card (now (table .entry)) (now (table .exit)) r ⌝ }
 {
     let sizes = card::measure(card);
@@ -256,7 +256,7 @@ fn judge_admitted(card: Card, table: &mut [u32]) -> Verdict
 pub fn judge(card: Card, table: &mut [u32]) -> Verdict
     ensures { λ r. ⌜ VerdictPromise card (now (table .entry)) (now (table .exit)) r ⌝ }
 {
-    let admission = card::admit(card);
+    let admission = idle::admit(card);
     if let Admission::Refused(refusal) = admission {
         return Verdict::Refused(refusal);
     }
@@ -265,7 +265,7 @@ pub fn judge(card: Card, table: &mut [u32]) -> Verdict
 
 // The owner of a cell of an admitted card: the verdict, and then one entry is read.
 fn owner_at(card: Card, cell: Cell, table: &mut [u32]) -> Owner
-    requires { ⌜ admission card ≡ Admitted ⌝ }
+    requires { ⌜ fullAdmission card ≡ Admitted ⌝ }
     requires { ⌜ cell .0 < cells card ⌝ }
     ensures { λ r. ⌜ ReadAt card (cell .0) (now (table .entry)) (now (table .exit)) r ⌝ }
 {
@@ -285,7 +285,7 @@ fn owner_at(card: Card, cell: Cell, table: &mut [u32]) -> Owner
 pub fn owner_of(card: Card, coordinates: [u64; 8], table: &mut [u32]) -> Owner
     ensures { λ r. ⌜ OwnerPromise card coordinates (now (table .entry)) (now (table .exit)) r ⌝ }
 {
-    let admission = card::admit(card);
+    let admission = idle::admit(card);
     if let Admission::Refused(refusal) = admission {
         return Owner::Refused(refusal);
     }

@@ -16,6 +16,8 @@ use Rattle.card.specs.declared.Admission.the-variants.{Admitted}
 use Rattle.card.proofs.Admitted.{sized}
 use Rattle.rules.specs.Rules.{spot}
 use Rattle.rules.specs.Copies.{cellsOf, copyCells}
+use Rattle.idle.specs.Admission.{fullAdmission}
+use Rattle.idle.proofs.Theorems.{checks-passed}
 use Rattle.placement.specs.Placement.{shapeAdmitted, coordinatesFit, flatten}
 use Rattle.placement.proofs.Elements.{named, unnamed, shaped}
 use Rattle.placement.proofs.Placings.{not-admitted, not-shaped, not-fitting, too-short, lies-outside, copied}
@@ -32,8 +34,11 @@ returns c =
 abbrev start : tie.After-measure → tie.Start
 start m = m .before .before .before .before .before
 
-admitted : (m : tie.After-measure) → admission (start m .args .card) ≡ Admitted
+admitted : (m : tie.After-measure) → fullAdmission (start m .args .card) ≡ Admitted
 admitted m = sym (m .before .before .before .admit .ensures) ∙ m .before .enum-told .given .1
+
+checks : (m : tie.After-measure) → admission (start m .args .card) ≡ Admitted
+checks m = checks-passed (start m .args .card) (admitted m)
 
 is-copies : (m : tie.After-measure) → m .measure .result .copies ≡ copies (start m .args .card)
 is-copies m = ap (λ (z : Sizes). z .copies) (m .measure .ensures)
@@ -47,11 +52,12 @@ shape-fits : (c : tie.Else1) → shapeAdmitted (start (c .before .before) .args 
 shape-fits c = is-shape (c .before) ∙ not-false _ (c .if1 .left)
 
 measure-requires : tie.Need-measure-requires
-measure-requires c κs = sym (c .before .before .admit .ensures) ∙ c .enum-told .given .1
+measure-requires c κs =
+    let d = c .before .before in checks-passed (d .before .before .args .card) (sym (d .admit .ensures) ∙ c .enum-told .given .1)
 
 is-admitted-requires : tie.Need-is-admitted-requires
 is-admitted-requires c κs =
-    let n = sized (start c .args .card) (admitted c) in
+    let n = sized (start c .args .card) (checks c) in
     let e = ap (λ (z : Sizes). z .elements) (c .measure .ensures) in
     omega arith
 
@@ -65,7 +71,7 @@ flatten-requires : tie.Need-flatten-requires
 flatten-requires c κs =
     let m = c .before .before in
     let a = start m .args in
-    let n = sized (a .card) (admitted m) in
+    let n = sized (a .card) (checks m) in
     shaped (a .shape) (elements (a .card)) (n .some-elements) (n .most-elements) (shape-fits c)
 
 returns-3 : tie.Need-returns-3
@@ -100,7 +106,7 @@ returns-4 c =
     (m .measure .result .copies) (is-copies m) (c .if2 .taken)
 
 outside-axis-requires : tie.Need-outside-axis-requires
-outside-axis-requires c κs = let m = c .before .before .before .before .before .before .before in (admitted m, is-copies m)
+outside-axis-requires c κs = let m = c .before .before .before .before .before .before .before in (checks m, is-copies m)
 
 returns-5 : tie.Need-returns-5
 returns-5 c =
@@ -116,7 +122,7 @@ slice-aggregate-place-card c =
     sym (length-take-le (m .measure .result .copies) (start m .args .memory .now) (c .before .before .before .if2 .left))
 
 place-card-requires : tie.Need-place-card-requires
-place-card-requires c κs = admitted (c .before .before .before .before .before .before .before .before .before .before)
+place-card-requires c κs = checks (c .before .before .before .before .before .before .before .before .before .before)
 
 returns-6 : tie.Need-returns-6
 unfolding copyCells

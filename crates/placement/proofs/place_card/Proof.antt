@@ -1,17 +1,16 @@
 -- `placement::place_card` is the row of the card: its numbers, lent, are those of this card and no other.
-use mathlib.Core.Path.{_≡_, subst}
+use mathlib.Core.Path.{subst}
 use borrow.Author.Needs.{needs}
-use lib.ListN.{length}
 use Rattle.card.specs.declared.Card.{Card}
 use Rattle.laws.proofs.Lists.{length-of}
 use Rattle.rules.specs.Rules.{spot}
-use Rattle.rules.specs.Inside.{Row}
+use Rattle.rules.specs.Inside.{Row, OfEight}
 use Rattle.rules.proofs.Cards.{unpacked, lent-numbers}
 use Rattle.placement.proofs.place_card.Statement.{statement}
 use Rattle.placement.proofs.place_card.Tie as tie
 
 -- the card's arrays are of eight
-eight : (s : tie.Start) → (length (s .args .card .shard .at) ≡ 8) × (length (s .args .card .replica .at) ≡ 8) × (length (s .args .card .offset) ≡ 8) × (length (s .args .card .lengths) ≡ 8)
+eight : (s : tie.Start) → OfEight (s .args .card)
 eight s = (search (needs, length-of), search (needs, length-of), search needs, search needs)
 
 -- both lists of iters are numbers and strides, and the function's start from there

@@ -88,7 +88,7 @@ returns c =
     let l = test m .before .loop in
     let s = test m .before .before .before .before in
     let a = s .args in
-    clash-promise (card s) (a .table .now) (s .pre .0 .lent .admitted) (exact s) (s .pre .1 .0)
+    clash-promise (card s) (a .table .now) (s .pre .0 .admitted) (exact s) (s .pre .1 .0)
     (m .claim-element .last .1 .1 .1 .1 .1 .1 .1 .1 .1 .0) (m .claim-element .last .1 .1 .1 .1 .1 .1 .1 .1 .0) (record { 0 = l .flat })
     (claims-clash (card s) (l .flat) (m .claim-element .result) (l .occupied) (l .inv .2) (m .claim-element .ensures) (claimable (test m) .element) (i .if1 .taken))
     (r .refuse-clash .ensures .0) (r .refuse-clash .ensures .1 ∙ ap (λ (n : ℕ). replicate n 0) (size m))
@@ -119,7 +119,7 @@ returns-2 c =
     let l = c .before .loop in
     let s = c .before .before .before .before in
     let end : l .flat ≡ elements (card s) = omega (arith, s .pre .0 .all-elements) in
-    approved-promise (card s) (s .args .table .now) (s .pre .0 .lent .admitted) (exact s) (s .pre .1 .0)
+    approved-promise (card s) (s .args .table .now) (s .pre .0 .admitted) (exact s) (s .pre .1 .0)
     (rw end at (l .inv .2)) (s .pre .0 .all-elements) (l .inv .2 .size)
 
 pub claim-all-spec : {M : Type 1} → statement M

@@ -4,6 +4,7 @@ use borrow.Author.Needs.{needs}
 use lib.Seq.{length-take-le}
 use Rattle.card.specs.Card.{cells}
 use Rattle.card.specs.declared.Sizes.{Sizes}
+use Rattle.idle.proofs.Theorems.{checks-passed}
 use Rattle.verdict.proofs.Promises.{too-short, whole-table}
 use Rattle.verdict.proofs.judge_admitted.Statement.{statement}
 use Rattle.verdict.proofs.judge_admitted.Tie as tie
@@ -13,6 +14,9 @@ start m = m .before .before
 
 is-cells : (m : tie.After-measure) → m .measure .result .cells ≡ cells (start m .args .card)
 is-cells m = ap (λ (z : Sizes). z .cells) (m .measure .ensures)
+
+measure-requires : tie.Need-measure-requires
+measure-requires c κs = let s = c .before in checks-passed (s .args .card) (s .pre)
 
 returns : tie.Need-returns
 returns c =
@@ -42,7 +46,7 @@ pub judge-admitted-spec : {M : Type 1} → statement M
 judge-admitted-spec =
     tie.close
     (tie.spec
-    (λ c κs. search needs)
+    measure-requires
     returns
     (λ c. search needs)
     slice-aggregate-judge-cells

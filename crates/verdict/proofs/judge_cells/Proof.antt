@@ -9,7 +9,10 @@ use Rattle.card.specs.declared.Card.{Card}
 use Rattle.card.specs.declared.Sizes.{Sizes}
 use Rattle.card.proofs.Admitted.{sized}
 use Rattle.laws.proofs.Lists.{length-of}
+use Rattle.rules.specs.Inside.{OfEight}
 use Rattle.rules.proofs.Cards.{unpacked, lent-numbers}
+use Rattle.idle.specs.Admission.{fullAdmission}
+use Rattle.idle.proofs.Theorems.{checks-passed}
 use Rattle.judgement.specs.Verdict.{VerdictPromise}
 use borrow.Author.Needs.{needs}
 use Rattle.verdict.proofs.judge_cells.Statement.{statement}
@@ -26,12 +29,12 @@ abbrev start : tie.After-swizzle → tie.Start
 start c = both c .before .before .before .before .before .before .before
 
 -- the card's arrays are of eight
-eight : (s : tie.Start) → (length (s .args .card .shard .at) ≡ 8) × (length (s .args .card .replica .at) ≡ 8) × (length (s .args .card .offset) ≡ 8) × (length (s .args .card .lengths) ≡ 8)
+eight : (s : tie.Start) → OfEight (s .args .card)
 eight s = (search (needs, length-of), search (needs, length-of), search needs, search needs)
 
 -- the row is as long as there are copies
 few : (s : tie.Start) → s .args .sizes .copies ≤ 64
-few s = let n = sized (s .args .card) (s .pre .0) in let e = ap (λ (z : Sizes). z .copies) (s .pre .1 .0) in omega arith
+few s = let n = sized (s .args .card) (checks-passed (s .args .card) (s .pre .0)) in let e = ap (λ (z : Sizes). z .copies) (s .pre .1 .0) in omega arith
 
 long : (s : tie.Start) → length {A = ℕ} (take (s .args .sizes .copies) (replicate 64 0)) ≡ s .args .sizes .copies
 long s = length-take-le (s .args .sizes .copies) (replicate 64 0) (few s)
@@ -49,7 +52,8 @@ judge-lent-requires c κs =
     let card = s .args .card in
     let same = unpacked card (both l .before .lend .ensures) (strided l .before .strides .ensures) (both l .lend2 .ensures) (strided l .strides2 .ensures) (eight s) in (
       record {
-        lent = lent-numbers card (both l .before .lend .ensures) (strided l .before .strides .ensures) (both l .lend2 .ensures) (strided l .strides2 .ensures) (eight s) (s .pre .0);
+        lent = lent-numbers card (both l .before .lend .ensures) (strided l .before .strides .ensures) (both l .lend2 .ensures) (strided l .strides2 .ensures) (eight s) (checks-passed card (s .pre .0));
+        admitted = ap fullAdmission same ∙ s .pre .0;
         all-elements = ap (λ (z : Sizes). z .elements) (s .pre .1 .0) ∙ ap elements (sym same);
         one-each = long s ∙ ap (λ (z : Sizes). z .copies) (s .pre .1 .0) ∙ ap copies (sym same);
       },

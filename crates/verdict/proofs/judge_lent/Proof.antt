@@ -32,7 +32,7 @@ returns c =
     let k = clearing p in
     let s = start k in
     let first = rw (c .before .search .given .1) at (p .first-outside .ensures) in
-    outside-promise (card s) (s .args .table .now) (s .pre .0 .lent .admitted) (s .pre .1) _ _ first (is-cleared k)
+    outside-promise (card s) (s .args .table .now) (s .pre .0 .admitted) (s .pre .1) _ _ first (is-cleared k)
 
 claim-all-requires : tie.Need-claim-all-requires
 claim-all-requires c κs =
@@ -41,6 +41,7 @@ claim-all-requires c κs =
     let s = start k in (
       record {
         lent = s .pre .0 .lent;
+        admitted = s .pre .0 .admitted;
         all-elements = s .pre .0 .all-elements;
         one-each = p .first-outside .kept .1 .1 .1 .1 .1 .1 .1 .1 .0 ∙ s .pre .0 .one-each;
       },
@@ -52,7 +53,7 @@ returns-2 c =
     let m = c .before .before .before .before in
     let k = clearing (m .before .before .before .before .before .before .before) in
     let s = start k in
-    cells-anew (card s) (s .args .table .now) (k .clear .last .0) (s .pre .0 .lent .admitted) (s .pre .1) (k .clear .kept .0 ∙ s .pre .1) (m .claim-all .ensures)
+    cells-anew (card s) (s .args .table .now) (k .clear .last .0) (s .pre .0 .admitted) (s .pre .1) (k .clear .kept .0 ∙ s .pre .1) (m .claim-all .ensures)
 
 pub judge-lent-spec : {M : Type 1} → statement M
 judge-lent-spec =

@@ -1,9 +1,10 @@
 -- `verdict::owner_of` is the ladder of checks, and then the entry read at the cell that the coordinates name.
 use mathlib.Core.Path.{_≡_, sym, _∙_}
 use lib.ListN.{length}
-use Rattle.card.specs.Admission.{admission}
 use Rattle.card.specs.declared.Admission.the-variants.{Admitted}
 use Rattle.card.proofs.Admitted.{checked}
+use Rattle.idle.specs.Admission.{fullAdmission}
+use Rattle.idle.proofs.Theorems.{checks-passed}
 use Rattle.verdict.proofs.Owners.{owner-refused, no-cell-promise, asked-below, owner-read}
 use borrow.Author.Needs.{needs}
 use Rattle.verdict.proofs.owner_of.Statement.{statement}
@@ -17,7 +18,7 @@ eight s = (search needs, search needs)
 abbrev start : tie.After-enum-told → tie.Start
 start k = k .before .before .before .before
 
-admitted : (k : tie.After-enum-told) → admission (start k .args .card) ≡ Admitted
+admitted : (k : tie.After-enum-told) → fullAdmission (start k .args .card) ≡ Admitted
 admitted k = sym (k .before .before .admit .ensures) ∙ k .enum-told .given .1
 
 abbrev told : tie.After-spot-at → tie.After-enum-told
@@ -33,7 +34,7 @@ spot-at-requires : tie.Need-spot-at-requires
 spot-at-requires c κs =
     let k = c .before .before .before in
     let s = start k in
-    (record { eight-lengths = eight s .0; fits = checked (s .args .card) (admitted k) .space }, eight s .1)
+    (record { eight-lengths = eight s .0; fits = checked (s .args .card) (checks-passed (s .args .card) (admitted k)) .space }, eight s .1)
 
 owner-at-requires : tie.Need-owner-at-requires
 owner-at-requires c κs =

@@ -1,0 +1,5 @@
+pub mod Laws
+pub mod Run
+pub mod Replica
+pub mod Theorems
+pub mod Apart

@@ -1,0 +1,4 @@
+pub mod Idle
+pub mod Run
+pub mod Inside
+pub mod Admission

@@ -1,0 +1,48 @@
+-- An approved card has elements times copies occupied cells: it has no idle pair, so each copy has a cell of its own.
+use mathlib.Core.Path.{_≡_, sym, ap, _∙_}
+use mathlib.Core.List.{List}
+use Prim.Native.Nat.{ℕ, _*_}
+use native.Mathlib.Omega.{arith}
+use lib.ListN.{length}
+use Rattle.card.specs.Card.{elements, copies}
+use Rattle.card.specs.declared.Card.{Card}
+use Rattle.card.specs.declared.Admission.the-variants.{Admitted}
+use Rattle.card.proofs.Admitted.{sized}
+use Rattle.rules.specs.Rules.{spot}
+use Rattle.rules.specs.Copies.{cellOf}
+use Rattle.rules.specs.declared.Spot.the-variants.{Inside}
+use Rattle.idle.specs.Admission.{fullAdmission}
+use Rattle.idle.proofs.Theorems.{admitted-exactly, checks-passed}
+use Rattle.idle.proofs.Apart.{copies-apart}
+use Rattle.claims.proofs.Apart.{CopiesApart, all-occupied}
+use Rattle.judgement.specs.Judgement.{placed, AllInside, Judgement, NotAdmitted, NoRoom, OutsideAt, Clashing, Passed, ComesTo}
+use Rattle.judgement.specs.Verdict.{verdictOf, VerdictPromise, verdictNumbers}
+use Rattle.judgement.specs.declared.Verdict.{Verdict}
+use Rattle.judgement.specs.declared.Verdict.the-variants.{Approved}
+use Rattle.judgement.proofs.Run.{lies-inside}
+
+module _ (card : Card) (eight : length (card .lengths) ≡ 8) where
+  -- two different copies of one element never lie in one cell
+  placed-apart : fullAdmission card ≡ Admitted → AllInside card → CopiesApart (placed card) (elements card)
+  placed-apart admitted inside f r s hf hr hs e =
+      let free = admitted-exactly card .0 admitted in
+      copies-apart card (free .0) eight (free .1) f r s (record { 0 = cellOf (spot card f r) }) hr hs (lies-inside (spot card f r) (inside f r hf hr))
+      (lies-inside (spot card f s) (inside f s hf hs) ∙ ap (λ (c : ℕ). Inside (record { 0 = c })) (sym e))
+
+  pub approved-occupies : (before after : List ℕ) (n occupied m : ℕ) → VerdictPromise card before after (Approved n occupied m)
+      → occupied ≡ elements card * copies card
+  approved-occupies before after n occupied m p = go (p .judgement) (p .comes) (p .answers)
+    where
+      number : (j : Judgement) → Approved n occupied m ≡ verdictOf card j → 0 ≡ verdictNumbers (verdictOf card j) .number
+      number j q = ap (λ (v : Verdict). verdictNumbers v .number) q
+
+      go : (j : Judgement) → ComesTo card (length before) j → Approved n occupied m ≡ verdictOf card j → occupied ≡ elements card * copies card
+      go (NotAdmitted r) h q = let z : _≡_ {A = ℕ} 0 1 = cc in absurd (omega arith)
+      go NoRoom h q = absurd (omega (arith, number NoRoom q))
+      go (OutsideAt flat axis) h q = absurd (omega (arith, number (OutsideAt flat axis) q))
+      go (Clashing x y cell) h q = absurd (omega (arith, number (Clashing x y cell) q))
+      go (Passed owners count) h q =
+          ap (λ (v : Verdict). verdictNumbers v .b) q
+          ∙ h .2 .counted
+          ∙ all-occupied (placed card) (elements card) owners (sized card (checks-passed card (h .0 .admitted)) .some-copies) (h .2 .owners)
+          (placed-apart (h .0 .admitted) (h .1))
