@@ -2,13 +2,11 @@
 //! as its formulas stand, and searched when asked the other way.
 
 use crate::lines::Answer;
-use crate::random::Random;
 
 /// Refusal: unknown kind, or something outside it.
 pub const OUTSIDE_FRAGMENT: u64 = 14;
 
 const LANES: u64 = 32;
-const KINDS: u64 = 9;
 
 /// Where a lane's register lies.
 #[derive(Clone, Copy, Debug, PartialEq, Eq, PartialOrd, Ord)]
@@ -109,63 +107,10 @@ pub fn answer_holder(numbers: &[u64]) -> Option<Answer> {
     })
 }
 
-/// Mostly inside, sometimes at the edge, now and then anything.
-fn near(random: &mut Random, inside: u64) -> u64 {
-    match random.below(20) {
-        0..=16 => random.below(inside),
-        17 | 18 => random.around(inside),
-        _ => random.hostile(),
-    }
-}
-
-pub fn fragment_numbers(random: &mut Random) -> Vec<u64> {
-    let kind = near(random, KINDS);
-    let lane = near(random, LANES);
-    let register = near(random, registers(kind).unwrap_or(8));
-    vec![kind, lane, register]
-}
-
-pub fn holder_numbers(random: &mut Random) -> Vec<u64> {
-    let kind = near(random, KINDS);
-    let (computations, rows, columns) = match kind {
-        0 | 1 => (4, 8, 4),
-        2 | 3 => (4, 4, 8),
-        4 | 5 => (4, 8, 8),
-        6 => (1, 8, 4),
-        7 => (1, 4, 8),
-        _ => (1, 8, 8),
-    };
-    let computation = near(random, computations);
-    let row = near(random, rows);
-    vec![kind, computation, row, near(random, columns)]
-}
-
-/// Every question of both words with numbers up to one beyond each edge.
-pub fn exhaustive() -> Vec<u8> {
-    let mut lines = String::new();
-    for kind in 0..=KINDS {
-        for lane in 0..=LANES {
-            for register in 0..=8 {
-                lines += &format!("fragment {kind} {lane} {register}\n");
-            }
-        }
-    }
-    for kind in 0..=KINDS {
-        for computation in 0..=4 {
-            for row in 0..=8 {
-                for column in 0..=8 {
-                    lines += &format!("holder {kind} {computation} {row} {column}\n");
-                }
-            }
-        }
-    }
-    lines.into_bytes()
-}
-
 #[cfg(test)]
 mod tests {
     use super::*;
-    use crate::lines::{answers, says};
+    use crate::lines::says;
     use std::collections::BTreeSet;
 
     #[test]
@@ -210,7 +155,7 @@ mod tests {
     #[test]
     fn the_table_of_document_01_and_both_ways() {
         let sizes = [128, 128, 128, 128, 256, 256, 32, 32, 64];
-        for kind in 0..KINDS {
+        for (kind, size) in (0..).zip(sizes) {
             let mut places = BTreeSet::new();
             for lane in 0..LANES {
                 for register in 0..registers(kind).unwrap_or(0) {
@@ -221,20 +166,7 @@ mod tests {
                     places.insert(found);
                 }
             }
-            assert_eq!(places.len(), sizes[kind as usize]);
+            assert_eq!(places.len(), size);
         }
-    }
-
-    #[test]
-    fn exhaustive_lines_are_all_questions() {
-        let lines = exhaustive();
-        let said: Vec<String> = answers(&lines).collect();
-        assert_eq!(said.len(), 10 * 33 * 9 + 10 * 5 * 9 * 9);
-        let held = 4 * 128 + 2 * 256 + 2 * 32 + 64;
-        let at = 10 * 33 * 9;
-        let given = |part: &[String]| part.iter().filter(|text| text.starts_with("0 ")).count();
-        assert_eq!(given(&said[..at]), held);
-        assert_eq!(given(&said[at..]), held);
-        assert!(!said.iter().any(|text| text == "?\n"));
     }
 }

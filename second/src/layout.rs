@@ -10,13 +10,13 @@ pub const M_AXIS: usize = 7;
 pub const SHARD_SLOTS: usize = 8;
 pub const REPLICA_SLOTS: usize = 4;
 
-pub const MOST_EXTENT: u64 = 16_384;
-pub const LEAST_STRIDE: Number = -65_536;
-pub const MOST_STRIDE: Number = 65_535;
-pub const MOST_LENGTH: u64 = 16_384;
-pub const MOST_CELLS: u64 = 16_384;
-pub const MOST_ELEMENTS: u64 = 16_384;
-pub const MOST_COPIES: u64 = 64;
+const MOST_EXTENT: u64 = 16_384;
+const LEAST_STRIDE: Number = -65_536;
+const MOST_STRIDE: Number = 65_535;
+const MOST_LENGTH: u64 = 16_384;
+const MOST_CELLS: u64 = 16_384;
+const MOST_ELEMENTS: u64 = 16_384;
+const MOST_COPIES: u64 = 64;
 
 /// Refusals 1 to 5, 7, 9 to 11 and 17 by name; 6 is the swizzle's.
 pub const WRONG_COUNT: u64 = 1;
@@ -123,6 +123,12 @@ fn add_components(sums: &mut Sums, components: &[u64], iters: &[Iter]) {
     }
 }
 
+/// Check 4: each length and the cells are within their limits.
+pub fn space_permitted(space: &[u64; AXES]) -> bool {
+    let lengths = space.iter().all(|n| (1..=MOST_LENGTH).contains(n));
+    lengths && whole_product(space) <= u128::from(MOST_CELLS)
+}
+
 fn extents(iters: &[Iter]) -> Vec<u64> {
     iters.iter().map(|iter| iter.extent).collect()
 }
@@ -218,15 +224,13 @@ impl Card {
             .all(|iter| (1..=MOST_EXTENT).contains(&iter.extent) && signed(&iter.stride))
             && self.offset.iter().all(signed);
         let axes = iters.iter().all(|iter| iter.axis < AXES as u64);
-        let lengths = self.space.iter().all(|n| (1..=MOST_LENGTH).contains(n));
-        let space = lengths && self.cells() <= u128::from(MOST_CELLS);
         let few = self.elements() <= u128::from(MOST_ELEMENTS)
             && self.copies() <= u128::from(MOST_COPIES);
         let checks = [
             (counts, WRONG_COUNT),
             (numbers, WRONG_NUMBER),
             (axes, WRONG_AXIS),
-            (space, WRONG_SPACE),
+            (space_permitted(&self.space), WRONG_SPACE),
             (few, TOO_MANY),
             (self.swizzle.permitted(), NOT_ALLOWED),
         ];
@@ -395,7 +399,7 @@ pub fn answer_place(numbers: &[Number]) -> Option<Answer> {
 #[cfg(test)]
 mod tests {
     use super::*;
-    use crate::cards;
+    use crate::loads::cards;
 
     fn spot(flat: u64, elements: u64) -> Spot {
         Spot {
@@ -622,6 +626,18 @@ mod tests {
         assert_eq!(pair(&[(8, 8, 3), (8, 1, 3)]), None);
         assert_eq!(pair(&[(2, -31, 3), (32, 1, 3)]), Some([0, 63]));
         assert_eq!(pair(&[(2, 1, 6), (2, 65_535, 7), (2, 1, 7)]), None);
+        assert_eq!(pair(&[(4, 4, 7), (2, 2, 7), (2, -1, 7)]), None);
+        assert_eq!(pair(&[(2, 1, 6), (2, 64, 7)]), None);
+        assert_eq!(pair(&[(1, 5, 2), (2, 0, 2)]), Some([0, 1]));
+        assert_eq!(pair(&[(2, 0, 6), (2, 1, 7)]), Some([0, 2]));
+        assert_eq!(pair(&[(2, -65_536, 7), (2, -65_536, 7)]), Some([1, 2]));
+        assert_eq!(pair(&[(2, -5, 6), (3, 1, 6), (3, 2, 6)]), Some([1, 6]));
+        assert_eq!(pair(&[(3, 1, 4), (2, 2, 4)]), Some([1, 4]));
+        assert_eq!(pair(&[(2, 1, 1), (2, 1, 1), (2, 1, 2)]), Some([2, 4]));
+        let four = [(2, 7, 5), (2, 1, 5), (2, 2, 5), (2, 4, 5)];
+        assert_eq!(pair(&four), Some([7, 8]));
+        let four = [(2, -1, 0), (2, 1, 1), (2, -1, 2), (2, 1, 5)];
+        assert_eq!(pair(&four), None);
     }
 
     #[test]

@@ -5,7 +5,7 @@ use crate::words::{Word, WORDS};
 use std::fmt::Write;
 
 /// A line of more bytes than this is no question.
-pub const LONGEST_LINE: usize = 4096;
+const LONGEST_LINE: usize = 4096;
 
 /// What is said to a line that is no question.
 pub const NO_QUESTION: &str = "?";
@@ -132,10 +132,21 @@ pub fn says(line: &str, answer: &str) {
     );
 }
 
+/// For the tests: how often each number stands in the answers to lines.
+#[cfg(test)]
+pub fn reached(lines: &[u8]) -> std::collections::BTreeMap<u64, u64> {
+    let number = |text: String| text.split(' ').next()?.parse().ok();
+    let mut reached = std::collections::BTreeMap::new();
+    for number in answers(lines).filter_map(number) {
+        *reached.entry(number).or_default() += 1;
+    }
+    reached
+}
+
 #[cfg(test)]
 mod tests {
     use super::*;
-    use crate::random::Random;
+    use crate::loads::random::Random;
 
     fn all(input: &[u8]) -> String {
         answers(input).collect()

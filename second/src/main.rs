@@ -1,33 +1,31 @@
 //! An independent second program for the line protocol of `desk`: it answers
-//! the same lines straight from the documents, and it makes the loads on
-//! which the two programs are compared.
+//! the same lines straight from the documents, and it keeps and makes the
+//! loads on which the two programs are compared.
 
-mod cards;
-mod copies;
 mod fragment;
-mod large;
+mod frozen;
 mod layout;
 mod lines;
 mod loads;
-mod malformed;
 mod mask;
-mod minus;
-mod pairs;
-mod random;
-mod signed;
 mod swizzle;
 mod verdict;
 mod words;
 
+use lines::number;
+use loads::every;
 use std::env;
 use std::io::{self, BufWriter, Read, Write};
 use std::process::ExitCode;
 
 const USAGE: &str = "usage: second answer
        second blocks
-       second random SEED COUNT
-       second exhaustive
        second large
+       second exhaustive
+       second masks SEED
+       second random SEED COUNT
+       second block WORD SEED COUNT
+       second block large SEED COUNT
 ";
 
 /// Answers standard input to its end.
@@ -40,8 +38,8 @@ fn answer(out: &mut impl Write) -> io::Result<()> {
     Ok(())
 }
 
-fn print_random(out: &mut impl Write, seed: &[u8], count: u64) -> io::Result<()> {
-    for line in loads::random_lines(seed, count) {
+fn print(out: &mut impl Write, lines: impl Iterator<Item = Vec<u8>>) -> io::Result<()> {
+    for line in lines {
         out.write_all(&line)?;
     }
     Ok(())
@@ -51,10 +49,13 @@ fn print_random(out: &mut impl Write, seed: &[u8], count: u64) -> io::Result<()>
 fn run(arguments: &[&[u8]], out: &mut impl Write) -> Option<io::Result<()>> {
     Some(match *arguments {
         [b"answer"] => answer(out),
-        [b"blocks"] => out.write_all(&loads::blocks()),
-        [b"exhaustive"] => out.write_all(&fragment::exhaustive()),
-        [b"large"] => out.write_all(&large::large()),
-        [b"random", seed, count] => print_random(out, seed, lines::number(count)?),
+        [b"blocks"] => out.write_all(&frozen::blocks()),
+        [b"large"] => out.write_all(&frozen::large()),
+        [b"exhaustive"] => out.write_all(&every::fragments()),
+        [b"masks", seed] => out.write_all(&every::masks(seed)),
+        [b"random", seed, count] => print(out, loads::random_lines(seed, number(count)?)),
+        [b"block", b"large", seed, count] => print(out, loads::large_block(seed, number(count)?)),
+        [b"block", word, seed, count] => print(out, loads::block(word, seed, number(count)?)?),
         _ => return None,
     })
 }

@@ -2,7 +2,6 @@
 //! reading of the spans: the examples decide).
 
 use crate::lines::Answer;
-use crate::random::Random;
 
 /// Refusals.
 const WRONG_M_OR_N: u64 = 13;
@@ -31,7 +30,7 @@ pub struct Fields {
 
 impl Fields {
     /// The twelve numbers in the protocol's order.
-    fn numbers(&self) -> Vec<u64> {
+    pub fn numbers(&self) -> Vec<u64> {
         let rest = [
             self.non_zero_mask,
             self.skip_span,
@@ -71,7 +70,7 @@ impl Fields {
     }
 
     /// The descriptor of fields that fit their places; reserved bits clear.
-    fn write(&self) -> u64 {
+    pub fn write(&self) -> u64 {
         let mut descriptor = 0;
         for i in 0..4 {
             descriptor |= self.start_counts[i] << (8 * i);
@@ -195,92 +194,12 @@ pub fn answer_mask(numbers: &[u64]) -> Option<Answer> {
     })
 }
 
-/// Small spans and counts make busy masks; large ones reach past the end.
-fn random_byte(random: &mut Random) -> u64 {
-    match random.below(4) {
-        0 | 1 => random.below(8),
-        2 => random.below(64),
-        _ => random.pick(&[0, 1, 127, 128, 129, 254, 255, 255]),
-    }
-}
-
-fn random_shift(random: &mut Random) -> u64 {
-    match random.below(8) {
-        0 | 1 => 0,
-        2..=5 => random.below(33),
-        6 => random.between(30, 34),
-        _ => random.below(64),
-    }
-}
-
-fn random_fields(random: &mut Random) -> Fields {
-    Fields {
-        start_counts: [0; 4].map(|_: u64| random_byte(random)),
-        first_spans: [0; 4].map(|_: u64| random.below(2)),
-        non_zero_mask: u64::from(!random.once_in(8)),
-        skip_span: random_byte(random),
-        use_span: random_byte(random),
-        shift: random_shift(random),
-    }
-}
-
-/// A descriptor: of random fields, sometimes with reserved bits, or any.
-fn random_descriptor(random: &mut Random) -> u64 {
-    let descriptor = random_fields(random).write();
-    match random.below(16) {
-        0 => descriptor | 1 << random.pick(&[36, 37, 38, 62, 63]),
-        1 => random.hostile(),
-        2 => random.next() & !(7 << 36) & !(3 << 62),
-        _ => descriptor,
-    }
-}
-
-pub fn fields_numbers(random: &mut Random) -> Vec<u64> {
-    vec![random_descriptor(random)]
-}
-
-pub fn descriptor_numbers(random: &mut Random) -> Vec<u64> {
-    let mut numbers = random_fields(random).numbers();
-    if random.once_in(6) {
-        numbers[11] = random.hostile();
-    }
-    if random.once_in(6) {
-        // Beyond what the program takes, or just inside it.
-        let at = random.index(numbers.len());
-        numbers[at] = random.pick(&[2, 255, 256, 257, 511, 1 << 32, u64::MAX]);
-    }
-    numbers
-}
-
-fn random_n(random: &mut Random) -> u64 {
-    match random.below(40) {
-        0..=35 => 8 * random.between(1, 32),
-        36 | 37 => random.below(300),
-        38 => random.pick(&[0, 7, 8, 9, 248, 255, 256, 257, 264, 512]),
-        _ => random.hostile(),
-    }
-}
-
-pub fn mask_numbers(random: &mut Random) -> Vec<u64> {
-    let m = match random.below(20) {
-        0..=17 => random.pick(&[32, 64, 128]),
-        18 => random.pick(&[0, 1, 8, 16, 31, 33, 63, 65, 96, 127, 129, 256]),
-        _ => random.hostile(),
-    };
-    let n = random_n(random);
-    let length = match random.below(12) {
-        0..=6 => n / 8 % 64,
-        7 | 8 => random.around(n / 8 % 64),
-        9 | 10 => random.below(65),
-        _ => random.pick(&[0, 32, 33, 63, 64, 65, 66, 128, 1 << 32, u64::MAX]),
-    };
-    vec![m, n, random_descriptor(random), length]
-}
-
 #[cfg(test)]
 mod tests {
     use super::*;
     use crate::lines::says;
+    use crate::loads::random::Random;
+    use crate::loads::small::random_fields;
 
     /// The bits of a mask, highest first, as 003 prints them.
     fn printed(bits: &[bool]) -> String {

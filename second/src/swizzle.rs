@@ -2,14 +2,13 @@
 //! addresses, and the numbers that element bits and a mode give.
 
 use crate::lines::Answer;
-use crate::random::Random;
 
 /// Refusal: swizzle numbers, bits or mode not allowed.
 pub const NOT_ALLOWED: u64 = 6;
 
-pub const MOST_M: u64 = 8;
-pub const MOST_B: u64 = 4;
-pub const MOST_S: u64 = 8;
+const MOST_M: u64 = 8;
+const MOST_B: u64 = 4;
+const MOST_S: u64 = 8;
 
 #[derive(Clone, Copy, Debug)]
 pub struct Swizzle {
@@ -71,78 +70,12 @@ pub fn answer_mode(numbers: &[u64]) -> Option<Answer> {
     })
 }
 
-/// Permitted triples most of the time, else the neighbourhood of the limits,
-/// now and then anything.
-pub fn random_swizzle(random: &mut Random) -> Swizzle {
-    match random.below(8) {
-        0..=3 => {
-            let b = random.between(0, MOST_B);
-            Swizzle {
-                m: random.between(0, MOST_M),
-                b,
-                s: random.between(b, MOST_S),
-            }
-        }
-        4..=6 => Swizzle {
-            m: random.below(10),
-            b: random.below(6),
-            s: random.below(10),
-        },
-        _ => {
-            let mut any = || match random.below(3) {
-                0 => random.hostile(),
-                _ => random.below(10),
-            };
-            Swizzle {
-                m: any(),
-                b: any(),
-                s: any(),
-            }
-        }
-    }
-}
-
-/// An address: small ones, single bits, ends of widths, any.
-fn random_address(random: &mut Random) -> u64 {
-    match random.below(4) {
-        0 => random.below(4096),
-        1 => random.hostile(),
-        2 => {
-            let bits = random.below(24);
-            random.next() >> (40 + bits)
-        }
-        _ => random.next(),
-    }
-}
-
-pub fn swizzle_numbers(random: &mut Random) -> Vec<u64> {
-    let Swizzle { m, b, s } = random_swizzle(random);
-    vec![m, b, s, random_address(random)]
-}
-
-pub fn mode_numbers(random: &mut Random) -> Vec<u64> {
-    const PERMITTED: [u64; 6] = [4, 8, 16, 32, 64, 128];
-    let bits = match random.below(8) {
-        0..=3 => random.pick(&PERMITTED),
-        4 | 5 => {
-            let near = random.pick(&[0, 1, 2, 3, 4, 5, 8, 16, 32, 64, 128, 256]);
-            random.around(near)
-        }
-        6 => random.below(300),
-        _ => random.hostile(),
-    };
-    let mode = match random.below(8) {
-        0..=4 => random.below(4),
-        5 | 6 => random.below(6),
-        _ => random.hostile(),
-    };
-    vec![bits, mode]
-}
-
 #[cfg(test)]
 mod tests {
     use super::*;
     use crate::lines::says;
+    use crate::loads::random::Random;
+    use crate::loads::small::{random_address, random_swizzle};
 
     #[test]
     fn the_sheet() {

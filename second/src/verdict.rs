@@ -2,13 +2,11 @@
 //! Who lies where is written down as sets, and each refusal is read off them
 //! in the words of document 01.
 
-use crate::cards::random_card;
 use crate::layout::{
-    lent_entries, whole_product, Card, Cell, Coordinates, Flat, Refusal, AXES, MOST_CELLS,
-    MOST_LENGTH, TOO_SHORT, WRONG_AXIS, WRONG_SPACE,
+    lent_entries, space_permitted, whole_product, Card, Cell, Coordinates, Flat, Refusal, AXES,
+    TOO_SHORT, WRONG_AXIS, WRONG_SPACE,
 };
-use crate::lines::{plain, whole, Answer, Number};
-use crate::random::Random;
+use crate::lines::{plain, Answer, Number};
 use std::collections::{BTreeMap, BTreeSet};
 
 /// Refusals: two elements share a cell, an asked cell outside the space.
@@ -103,15 +101,14 @@ fn stretch(
     if axis >= AXES as u64 {
         return Err(Refusal::plain(WRONG_AXIS));
     }
-    let cells = whole_product(space);
-    let lengths = space.iter().all(|n| (1..=MOST_LENGTH).contains(n));
-    if !lengths || cells > u128::from(MOST_CELLS) {
+    if !space_permitted(space) {
         return Err(Refusal::plain(WRONG_SPACE));
     }
     let asked = &asked[..=axis as usize];
     asked_outside(space, asked).map_or(Ok(()), Err)?;
-    if u128::from(length) < cells {
-        return Err(Refusal::with(TOO_SHORT, cells as u64, 0));
+    let cells = whole_product(space) as u64;
+    if length < cells {
+        return Err(Refusal::with(TOO_SHORT, cells, 0));
     }
     let under = whole_product(&space[asked.len()..]) as u64;
     let both = asked.iter().zip(space);
@@ -165,103 +162,14 @@ pub fn answer_stretch(numbers: &[u64]) -> Option<Answer> {
     })
 }
 
-/// The length of a table for so many cells: enough, mostly.
-fn random_length(random: &mut Random, cells: u128) -> u64 {
-    let cells = cells.min(u128::from(MOST_CELLS)) as u64;
-    match random.below(16) {
-        0..=8 => cells,
-        9 | 10 => cells + random.below(5),
-        11 | 12 => random.around(cells),
-        13 => random.below(cells),
-        14 => random.pick(&[0, 1, 16_383, 16_384]),
-        _ => random.pick(&[16_384, 16_385, 16_386, 1 << 32, u64::MAX]),
-    }
-}
-
-/// Coordinates in a space, mostly inside it.
-fn random_asked(random: &mut Random, space: &[u64; AXES]) -> Coordinates {
-    let mut asked = space.map(|length| random.below(length));
-    let at = random.index(AXES);
-    match random.below(12) {
-        0 => asked[at] = space[at],
-        1 => asked[at] = random.hostile(),
-        2 => asked = space.map(|length| length.saturating_sub(1)),
-        _ => {}
-    }
-    asked
-}
-
-/// The numbers of a verdict on this card.
-pub fn verdict_on(random: &mut Random, card: &Card) -> Vec<Number> {
-    let length = random_length(random, card.cells());
-    [card.numbers(), whole(&[length])].concat()
-}
-
-/// The numbers of a question for the owner of some cell of this card.
-pub fn owner_on(random: &mut Random, card: &Card) -> Vec<Number> {
-    let asked = random_asked(random, &card.space);
-    let length = random_length(random, card.cells());
-    [card.numbers(), whole(&asked), whole(&[length])].concat()
-}
-
-pub fn verdict_numbers(random: &mut Random) -> Vec<Number> {
-    let card = random_card(random);
-    verdict_on(random, &card)
-}
-
-pub fn owner_numbers(random: &mut Random) -> Vec<Number> {
-    let card = random_card(random);
-    owner_on(random, &card)
-}
-
-/// Lengths of a space: a few axes of some length, sometimes too many cells.
-fn random_space(random: &mut Random) -> [u64; AXES] {
-    let mut space = [1; AXES];
-    let mut room = 1u64 << random.between(0, 14);
-    for _ in 0..random.between(1, 8) {
-        let length = random.between(1, room.min(40));
-        space[random.index(AXES)] = length;
-        room /= length;
-    }
-    let at = random.index(AXES);
-    match random.below(20) {
-        0 => space[at] = random.pick(&[0, 16_384, 16_385]),
-        1 => space[at] = random.hostile(),
-        2 => space = [random.pick(&[2, 3, 4, 16_384, 1 << 16]); AXES],
-        3 => {
-            space = [1; AXES];
-            space[at] = random.pick(&[16_383, 16_384, 16_385, 128, 127, 129]);
-            space[random.index(AXES)] *= random.pick(&[1, 2, 127, 128, 129]);
-        }
-        _ => {}
-    }
-    space
-}
-
-pub fn stretch_numbers(random: &mut Random) -> Vec<u64> {
-    let space = random_space(random);
-    let mut asked = random_asked(random, &space);
-    let axis = match random.below(16) {
-        0 => random.around(8),
-        1 => random.hostile(),
-        _ => random.below(AXES as u64),
-    };
-    if random.once_in(2) {
-        // Past the asked axis no coordinate is looked at.
-        let past = (axis as usize).saturating_add(1).min(AXES);
-        asked[past..].fill(random.hostile());
-    }
-    let length = random_length(random, whole_product(&space));
-    [&space[..], &[axis], &asked, &[length]].concat()
-}
-
 #[cfg(test)]
 mod tests {
     use super::*;
-    use crate::cards;
     use crate::layout::M_AXIS;
     use crate::lines::answer_line;
-    use crate::signed::signed_card;
+    use crate::loads::cards::{self, random_card};
+    use crate::loads::random::Random;
+    use crate::loads::signed::signed_card;
 
     /// The verdict's number and details on a card with a table to spare, the
     /// table after it, and the number of cells.

@@ -1,7 +1,4 @@
-//! A splitmix64 generator and the pickers the loads are made with.
-//!
-//! The committed blocks are made with these, so what a picker gives for a
-//! given state is never changed; a new need gets a new picker.
+//! A splitmix64 generator and the pickers that random lines are made with.
 
 use crate::lines::Number;
 
@@ -67,6 +64,12 @@ impl Random {
             1 => limit,
             _ => limit.saturating_add(1),
         }
+    }
+
+    /// One of the limits, or a neighbour of it.
+    pub fn around_one_of(&mut self, limits: &[u64]) -> u64 {
+        let limit = self.pick(limits);
+        self.around(limit)
     }
 
     /// Numbers that arithmetic trips over: powers of two and their

@@ -2,13 +2,12 @@
 //! tangled ones whose elements clash, tiles in memory that a swizzle moves,
 //! cards of the test sheet, and all of them nudged or spoiled at a limit.
 
-use crate::layout::{
-    Card, Flat, Iter, Spot, AXES, MOST_CELLS, MOST_COPIES, MOST_EXTENT, MOST_LENGTH, MOST_STRIDE,
-    M_AXIS, REPLICA_SLOTS, SHARD_SLOTS,
-};
-use crate::lines::{whole, Number};
-use crate::random::Random;
-use crate::swizzle::{from_mode, random_swizzle, Swizzle, MOST_B, MOST_M, MOST_S};
+use super::limits::{AXIS, COPIES, MOST_B, SIZES, STRIDES};
+use super::random::Random;
+use super::small::{permitted_swizzle, random_swizzle};
+use crate::layout::{Card, Flat, Iter, AXES, M_AXIS, REPLICA_SLOTS, SHARD_SLOTS};
+use crate::lines::Number;
+use crate::swizzle::{from_mode, Swizzle};
 
 pub const NO_SWIZZLE: Swizzle = Swizzle { m: 0, b: 0, s: 3 };
 
@@ -80,7 +79,7 @@ fn dealt(random: &mut Random, iters: &[Iter]) -> (Vec<Iter>, Vec<Iter>) {
     let (mut shard, mut replica) = (vec![iters[0]], Vec::new());
     let mut copies = 1;
     for iter in &iters[1..] {
-        let fits = replica.len() < REPLICA_SLOTS && copies * iter.extent <= MOST_COPIES;
+        let fits = replica.len() < REPLICA_SLOTS && copies * iter.extent <= COPIES;
         if fits && random.once_in(3) {
             copies *= iter.extent;
             replica.push(*iter);
@@ -88,7 +87,7 @@ fn dealt(random: &mut Random, iters: &[Iter]) -> (Vec<Iter>, Vec<Iter>) {
             shard.push(*iter);
         }
     }
-    if replica.len() < REPLICA_SLOTS && copies * 2 <= MOST_COPIES && random.once_in(8) {
+    if replica.len() < REPLICA_SLOTS && copies * 2 <= COPIES && random.once_in(8) {
         // An idle copy.
         replica.push(iter(2, 0, random.below(AXES as u64)));
     }
@@ -118,14 +117,7 @@ pub fn some_swizzle(random: &mut Random, card: &mut Card) {
                 s: b + random.below(2),
             }
         }
-        _ => {
-            let b = random.between(0, MOST_B);
-            Swizzle {
-                m: random.between(0, MOST_M),
-                b,
-                s: random.between(b, MOST_S),
-            }
-        }
+        _ => permitted_swizzle(random),
     };
     let block = 1 << (card.swizzle.m + card.swizzle.b);
     let rounded = card.space[M_AXIS].div_ceil(block) * block;
@@ -337,8 +329,7 @@ pub fn some_iter<'a>(random: &mut Random, card: &'a mut Card) -> &'a mut Iter {
 }
 
 /// Changes one number a little, so that the card is just no longer, or just
-/// still, what it was.
-/// For strides that are not below zero.
+/// still, what it was. For strides that are not below zero.
 fn nudge(random: &mut Random, card: &mut Card) {
     let axis = random.index(AXES);
     match random.below(10) {
@@ -371,18 +362,27 @@ fn nudge(random: &mut Random, card: &mut Card) {
     }
 }
 
-/// Factors of 16,384, of a little more, and of numbers that would wrap to
-/// something small in 32 or in 64 bits.
+/// Factors of 16,384 and of 65,536, of a little more, and of numbers that
+/// would wrap to something small in 32 or in 64 bits.
 fn large_factors(random: &mut Random) -> Vec<u64> {
     let factors = random.pick(&[
         &[16_384, 1][..],
         &[128, 128],
         &[5, 29, 113],
+        &[145, 113],
         &[128, 129],
         &[2, 16_384],
+        &[65_536],
+        &[256, 256],
+        &[18, 3_641],
+        &[6, 10_923],
+        &[2, 65_536],
+        &[65_537],
         &[16_384, 16_384, 16],
         &[16_384, 16_384, 17],
+        &[65_536; 2],
         &[16_384, 16_384, 16_384, 16_384, 256],
+        &[65_536; 4],
         &[16_384, 16_384, 16_384, 16_384, 16_384, 4],
         &[16_384; 8],
     ]);
@@ -410,6 +410,7 @@ fn many_copies(random: &mut Random, card: &mut Card) {
         &[2, 33],
         &[16_384, 16_384, 16],
         &[16_384; 4],
+        &[65_536; 4],
         &[4, 4, 4, 1],
         &[4, 4, 4, 2],
     ]);
@@ -420,44 +421,38 @@ fn many_copies(random: &mut Random, card: &mut Card) {
 }
 
 /// Lengths at and above the most cells.
-fn many_cells(random: &mut Random, card: &mut Card) {
-    let mut lengths = large_factors(random);
-    lengths.resize(AXES, 1);
+pub fn large_lengths(random: &mut Random) -> [u64; AXES] {
+    let factors = large_factors(random);
+    let mut lengths = std::array::from_fn(|at| factors.get(at).copied().unwrap_or(1));
     shuffle(random, &mut lengths);
-    for (length, factor) in card.space.iter_mut().zip(&lengths) {
-        *length = *factor;
-    }
+    lengths
 }
 
-fn at_limit(random: &mut Random, least: u64, most: u64) -> u64 {
+/// One of the limits, a neighbour of it, one below the least, or anything.
+fn at_limit(random: &mut Random, least: u64, limits: &[u64]) -> u64 {
     match random.below(4) {
         0 => least.saturating_sub(1),
         1 => random.hostile(),
-        _ => random.around(most),
+        _ => random.around_one_of(limits),
     }
-}
-
-/// At the upper limit of strides and offsets.
-fn stride_at_limit(random: &mut Random) -> Number {
-    at_limit(random, 0, MOST_STRIDE as u64).into()
 }
 
 /// Breaks, or just does not break, one limit of the card.
 pub fn spoil(random: &mut Random, card: &mut Card) {
     let axis = random.index(AXES);
-    match random.below(17) {
+    match random.below(18) {
         0 => card.shard_count = random.pick(&[0, 8, 9, 10, 1 << 32, u64::MAX]),
         1 => card.replica_count = random.pick(&[0, 4, 5, 6, 1 << 32, u64::MAX]),
-        2 => some_iter(random, card).extent = at_limit(random, 1, MOST_EXTENT),
-        3 | 4 => some_iter(random, card).stride = stride_at_limit(random),
-        5 => card.offset[axis] = stride_at_limit(random),
-        6 | 7 => some_iter(random, card).axis = at_limit(random, 0, AXES as u64 - 1),
-        8 => card.space[axis] = at_limit(random, 1, MOST_LENGTH),
-        9 => many_cells(random, card),
-        10 => many_elements(random, card),
-        11 => many_copies(random, card),
-        12 => card.space = [random.pick(&[1, 2, 3, 4, MOST_CELLS, 1 << 16, 1 << 32]); AXES],
-        13..=15 => card.swizzle = random_swizzle(random),
+        2 => some_iter(random, card).extent = at_limit(random, 1, SIZES),
+        3 | 4 => some_iter(random, card).stride = random.pick(STRIDES),
+        5 => card.offset[axis] = random.pick(STRIDES),
+        6 | 7 => some_iter(random, card).axis = at_limit(random, 0, &[AXIS]),
+        8 => card.space[axis] = at_limit(random, 1, SIZES),
+        9 => card.space = large_lengths(random),
+        10 | 11 => many_elements(random, card),
+        12 => many_copies(random, card),
+        13 => card.space = [random.pick(&[1, 2, 3, 4, 16_384, 1 << 16, 1 << 32]); AXES],
+        14..=16 => card.swizzle = random_swizzle(random),
         _ => {
             let at = random.index(Card::NUMBERS);
             let mut numbers = card.numbers();
@@ -492,117 +487,6 @@ pub fn random_card(random: &mut Random) -> Card {
     card
 }
 
-/// The odd number whose product with this odd number is 1 modulo 2^64.
-fn wrapped_inverse(odd: u64) -> u64 {
-    // Each step doubles the number of right bits, of which odd itself has 3.
-    (0..5).fold(odd, |inverse, _| {
-        inverse.wrapping_mul(2u64.wrapping_sub(odd.wrapping_mul(inverse)))
-    })
-}
-
-/// A shape of so many elements: its prime factors dealt out to dimensions.
-fn random_sizes(random: &mut Random, elements: u64, dimensions: usize) -> [u64; 8] {
-    let mut sizes = [0; 8].map(|_: u64| random.below(9));
-    if random.once_in(8) {
-        sizes = sizes.map(|_| random.hostile());
-    }
-    sizes[..dimensions].fill(1);
-    let mut rest = elements.max(1);
-    let mut factor = 2;
-    while rest > 1 {
-        let quotient = rest / factor;
-        if quotient * factor == rest {
-            rest = quotient;
-            sizes[random.index(dimensions)] *= factor;
-        } else {
-            factor += 1;
-        }
-    }
-    sizes
-}
-
-/// A shape that is not the elements', some of them only when wrapped.
-fn spoil_shape(random: &mut Random, spot: &mut Spot, elements: u64) {
-    let at = random.index(8);
-    match random.below(7) {
-        0 => spot.dimensions = random.pick(&[0, 1, 2, 7, 8, 9, 1 << 32, u64::MAX]),
-        1 => spot.sizes[at] = random.around(spot.sizes[at]),
-        2 => spot.sizes[at] = 0,
-        3 => spot.sizes[at] = random.hostile(),
-        4 => {
-            let odd = random.next() | 1;
-            spot.dimensions = 2;
-            spot.sizes[0] = odd;
-            spot.sizes[1] = wrapped_inverse(odd).wrapping_mul(elements);
-        }
-        5 => {
-            spot.dimensions = 3;
-            spot.sizes[0] = 1 << random.between(30, 63);
-            spot.sizes[1] = 1 << random.between(30, 63);
-            spot.sizes[2] = random.pick(&[0, 1, 2, elements]);
-        }
-        _ => {
-            spot.dimensions = 1;
-            spot.sizes[0] = elements + (1 << random.pick(&[16, 32, 48, 63]));
-        }
-    }
-    if random.once_in(2) {
-        spot.coordinates = spot.dimensions;
-    }
-}
-
-fn spoil_coordinate(random: &mut Random, spot: &mut Spot) {
-    let at = random.index(8);
-    match random.below(4) {
-        0 => spot.coordinates = random.pick(&[0, 1, 2, 7, 8, 9, u64::MAX]),
-        1 => spot.values[at] = random.hostile(),
-        _ => spot.values[at] = spot.sizes[at],
-    }
-}
-
-/// A shape of the card's elements and a coordinate in it, mostly.
-fn random_spot(random: &mut Random, elements: u64) -> Spot {
-    let dimensions = random.index(8) + 1;
-    let sizes = random_sizes(random, elements, dimensions);
-    let mut spot = Spot {
-        dimensions: dimensions as u64,
-        sizes,
-        coordinates: dimensions as u64,
-        values: sizes.map(|size| random.below(size)),
-    };
-    match random.below(12) {
-        0 | 1 => spoil_shape(random, &mut spot, elements),
-        2 => spoil_coordinate(random, &mut spot),
-        3 if random.once_in(2) => spot.values[dimensions - 1] = sizes[dimensions - 1],
-        _ => {}
-    }
-    spot
-}
-
-/// A shape of this card's elements and a coordinate in it, mostly.
-pub fn spot_on(random: &mut Random, card: &Card) -> Spot {
-    random_spot(random, card.elements().min(1 << 20) as u64)
-}
-
-/// The numbers of a placement on this card, with room enough, mostly.
-pub fn place_on(random: &mut Random, card: &Card, spot: &Spot) -> Vec<Number> {
-    let copies = card.copies().min(MOST_COPIES.into()) as u64;
-    let length = match random.below(12) {
-        0..=5 => copies,
-        6 | 7 => random.around(copies).min(MOST_COPIES),
-        8 | 9 => (copies + random.below(4)).min(MOST_COPIES),
-        10 => random.below(65),
-        _ => random.pick(&[0, 1, 63, 64, 64, 65, 66, 1 << 32, u64::MAX]),
-    };
-    [card.numbers(), whole(&spot.numbers()), whole(&[length])].concat()
-}
-
-pub fn place_numbers(random: &mut Random) -> Vec<Number> {
-    let card = random_card(random);
-    let spot = spot_on(random, &card);
-    place_on(random, &card, &spot)
-}
-
 #[cfg(test)]
 mod tests {
     use super::*;
@@ -613,25 +497,6 @@ mod tests {
         assert_eq!(scale_factors().space, [1, 1, 1, 1, 1, 128, 4, 1]);
         assert_eq!(accumulator().cells(), 28_672);
         assert_eq!(figure_189().elements(), 256);
-    }
-
-    #[test]
-    fn inverses_are_inverses() {
-        let mut random = Random::new(5);
-        for _ in 0..1_000 {
-            let odd = random.next() | 1;
-            assert_eq!(odd.wrapping_mul(wrapped_inverse(odd)), 1);
-        }
-    }
-
-    #[test]
-    fn shapes_have_their_elements() {
-        let mut random = Random::new(6);
-        for elements in 1..500 {
-            let dimensions = random.index(8) + 1;
-            let sizes = random_sizes(&mut random, elements, dimensions);
-            assert_eq!(sizes[..dimensions].iter().product::<u64>(), elements);
-        }
     }
 
     #[test]

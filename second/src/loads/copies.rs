@@ -3,15 +3,14 @@
 //! of the cards no two replica combinations add the same, in the others they
 //! may, and but for refusal 17 many of these would be approved.
 
-use crate::cards::{
-    card_of, clutter, fit, iter, orderly_iters, place_on, random_axes, some_iter, some_swizzle,
-    spot_on,
+use super::cards::{
+    card_of, clutter, fit, iter, orderly_iters, random_axes, some_iter, some_swizzle,
 };
+use super::limits::{COPIES, LENT_TABLE};
+use super::random::Random;
+use super::signed::{lift, limit, lower, turn_some};
 use crate::layout::{Card, Iter, AXES, REPLICA_SLOTS};
 use crate::lines::Number;
-use crate::random::Random;
-use crate::signed::{lift, limit, lower, turn_some};
-use crate::verdict::{owner_on, verdict_on};
 
 /// Iters that count through their axes, each stride the reach of those
 /// before it on its axis or a little more: no two combinations add the same.
@@ -76,9 +75,10 @@ fn copied(random: &mut Random) -> Card {
 /// A card with copies for one line. Too many cells or copies are seldom of
 /// interest here, so another card is drawn then, but not for ever.
 pub fn copied_card(random: &mut Random) -> Card {
+    let large = |card: &Card| card.cells() > LENT_TABLE.into() || card.copies() > COPIES.into();
     let mut card = copied(random);
     for _ in 0..4 {
-        if card.refusal().is_some() {
+        if large(&card) {
             card = copied(random);
         }
     }
@@ -95,22 +95,6 @@ pub fn copied_card(random: &mut Random) -> Card {
         _ => (0..3).for_each(|_| lower(random, &mut card)),
     }
     card
-}
-
-pub fn place_numbers(random: &mut Random) -> Vec<Number> {
-    let card = copied_card(random);
-    let spot = spot_on(random, &card);
-    place_on(random, &card, &spot)
-}
-
-pub fn verdict_numbers(random: &mut Random) -> Vec<Number> {
-    let card = copied_card(random);
-    verdict_on(random, &card)
-}
-
-pub fn owner_numbers(random: &mut Random) -> Vec<Number> {
-    let card = copied_card(random);
-    owner_on(random, &card)
 }
 
 #[cfg(test)]

@@ -2,43 +2,14 @@
 //! whose iters are turned round, loose ones, all of them lowered or put at
 //! the limits, and for a placement cards of which one element lies inside.
 
-use crate::cards::{
-    card_of, clutter, fit, iter, place_on, some_iter, some_swizzle, sound_card, spoil, spot_on,
-    NO_SWIZZLE,
+use super::asked::{self, place_on, random_spot};
+use super::cards::{
+    card_of, clutter, fit, iter, some_iter, some_swizzle, sound_card, spoil, NO_SWIZZLE,
 };
+use super::limits::STRIDES;
+use super::random::Random;
 use crate::layout::{Card, Flat, Iter, Spot, Sums, AXES};
 use crate::lines::Number;
-use crate::random::Random;
-use crate::verdict::{owner_on, verdict_on};
-
-/// Strides and offsets at their limits, and far beyond them; the two limits
-/// and their neighbours come more often.
-const EDGES: &[Number] = &[
-    -65_536,
-    65_535,
-    -65_537,
-    65_536,
-    -65_536,
-    65_535,
-    -65_537,
-    65_536,
-    -65_535,
-    65_534,
-    -65_536,
-    65_535,
-    -(1 << 16) - (1 << 32),
-    1 << 32,
-    -(1 << 32),
-    1 - (1 << 32),
-    -(1 << 62),
-    -(1 << 63),
-    1 - (1 << 63),
-    (1 << 63) - 1,
-    1 << 63,
-    (1 << 63) + 1,
-    (1 << 64) - 65_536,
-    (1 << 64) - 1,
-];
 
 /// The iter's coordinates, the last one first.
 fn turn(iter: &mut Iter, offset: &mut Sums) {
@@ -127,7 +98,7 @@ pub fn lower(random: &mut Random, card: &mut Card) {
 /// Puts a stride or an offset at a limit, or spoils what has no sign.
 pub fn limit(random: &mut Random, card: &mut Card) {
     let axis = random.index(AXES);
-    let edge = random.pick(EDGES);
+    let edge = random.pick(STRIDES);
     match random.below(8) {
         0 | 1 => some_iter(random, card).stride = edge,
         2 | 3 => card.offset[axis] = edge,
@@ -153,12 +124,18 @@ fn signed_clutter(random: &mut Random, card: &mut Card) {
     }
 }
 
-pub fn signed_card(random: &mut Random) -> Card {
+/// A card before anything is lowered or put at a limit.
+fn sound_signed_card(random: &mut Random) -> Card {
     let mut card = match random.below(8) {
         0..=5 => turned(random),
         _ => either_way(random),
     };
     signed_clutter(random, &mut card);
+    card
+}
+
+pub fn signed_card(random: &mut Random) -> Card {
+    let mut card = sound_signed_card(random);
     match random.below(16) {
         0..=8 => {}
         9..=12 => lower(random, &mut card),
@@ -204,33 +181,25 @@ fn there_and_back(random: &mut Random) -> (Card, Spot) {
     (card, spot)
 }
 
-pub fn place_numbers(random: &mut Random) -> Vec<Number> {
-    let (mut card, spot, inside) = if random.once_in(8) {
-        let (card, spot) = there_and_back(random);
-        (card, spot, true)
-    } else {
-        let card = signed_card(random);
-        let spot = spot_on(random, &card);
-        let inside = card.refusal().is_none() && random.once_in(2);
-        (card, spot, inside)
+/// The numbers of a placement, half of the time of an element that was moved
+/// inside.
+pub fn place(random: &mut Random) -> Vec<Number> {
+    let (mut card, spot) = match random.below(8) {
+        0 => there_and_back(random),
+        1..=4 => {
+            let card = sound_signed_card(random);
+            let spot = random_spot(random, &card);
+            (card, spot)
+        }
+        _ => return asked::place(random, signed_card),
     };
-    if let (true, Ok(flat)) = (inside, spot.flat(card.elements())) {
+    if let Ok(flat) = spot.flat(card.elements()) {
         move_inside(random, &mut card, flat);
         if random.once_in(4) {
             lower(random, &mut card);
         }
     }
     place_on(random, &card, &spot)
-}
-
-pub fn verdict_numbers(random: &mut Random) -> Vec<Number> {
-    let card = signed_card(random);
-    verdict_on(random, &card)
-}
-
-pub fn owner_numbers(random: &mut Random) -> Vec<Number> {
-    let card = signed_card(random);
-    owner_on(random, &card)
 }
 
 #[cfg(test)]

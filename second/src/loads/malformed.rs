@@ -2,10 +2,10 @@
 //! starts from a valid question of a word and spoils it in one way.
 //!
 //! No kind may make a word that could become a question one day: the answers
-//! to the committed blocks must not change when words are added.
+//! to committed lines must not change when words are added.
 
-use crate::lines::LONGEST_LINE;
-use crate::random::Random;
+use super::limits::LINE;
+use super::random::Random;
 
 /// A valid question before it is spoiled: the word and its numbers.
 pub struct Question<'a> {
@@ -107,14 +107,14 @@ pub const SHORT_KINDS: &[Kind] = &[
 
 /// The kinds that are longer than any question can be.
 pub const LONG_KINDS: &[Kind] = &[
-    |random, question| padded(random, question, LONGEST_LINE),
-    |random, question| padded(random, question, LONGEST_LINE + 1),
+    |random, question| padded(random, question, LINE),
+    |random, question| padded(random, question, LINE + 1),
     |random, question| padded(random, question, 5000),
     |random, question| padded(random, question, 10_000),
     question_after_the_buffer,
     question_on_both_sides,
-    |_, question| [vec![b' '; LONGEST_LINE], question.bytes()].concat(),
-    |_, question| [question.bytes(), vec![b'0'; LONGEST_LINE]].concat(),
+    |_, question| [vec![b' '; LINE], question.bytes()].concat(),
+    |_, question| [question.bytes(), vec![b'0'; LINE]].concat(),
 ];
 
 fn unknown_word(random: &mut Random, question: &Question) -> Vec<u8> {
@@ -286,14 +286,14 @@ fn padded(random: &mut Random, question: &Question, length: usize) -> Vec<u8> {
 
 /// Nothing of sense in the first bytes, a question right behind them.
 fn question_after_the_buffer(random: &mut Random, question: &Question) -> Vec<u8> {
-    let length = random.around(LONGEST_LINE as u64) as usize;
+    let length = random.around(LINE as u64) as usize;
     [vec![b'x'; length], question.bytes()].concat()
 }
 
 /// A question, spaces up to the longest line, and a question right behind.
 fn question_on_both_sides(random: &mut Random, question: &Question) -> Vec<u8> {
     let mut line = question.bytes();
-    line.resize(random.around(LONGEST_LINE as u64) as usize, b' ');
+    line.resize(random.around(LINE as u64) as usize, b' ');
     [line, question.bytes()].concat()
 }
 
@@ -332,7 +332,7 @@ mod tests {
         let mut random = Random::new(10);
         for kind in LONG_KINDS {
             let line = kind(&mut random, &Question::new("swizzle", &[3, 3, 3, 64]));
-            assert!(line.len() >= LONGEST_LINE);
+            assert!(line.len() >= LINE);
             assert_eq!(answer_line(&line).as_deref(), Some("?"));
         }
     }

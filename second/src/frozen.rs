@@ -1,0 +1,113 @@
+//! The committed lines as they landed, a file for each landing and, where it
+//! has lines of full size, one for these. A later landing appends its own
+//! and leaves the earlier ones alone, whatever limits it moves.
+
+/// The lines of `crates/desk/stdin`.
+const BLOCKS: &[&[u8]] = &[
+    include_bytes!("../loads/blocks/01-base.txt"),
+    include_bytes!("../loads/blocks/02-ask-06.txt"),
+    include_bytes!("../loads/blocks/03-ask-08.txt"),
+];
+
+/// The lines of full size: 16,384 elements, up to 64 copies, tables of
+/// 16,384.
+const LARGE: &[&[u8]] = &[
+    include_bytes!("../loads/large/01-base.txt"),
+    include_bytes!("../loads/large/02-ask-06.txt"),
+    include_bytes!("../loads/large/03-ask-08.txt"),
+];
+
+pub fn blocks() -> Vec<u8> {
+    BLOCKS.concat()
+}
+
+pub fn large() -> Vec<u8> {
+    LARGE.concat()
+}
+
+#[cfg(test)]
+mod tests {
+    use super::*;
+    use crate::lines::{answers, reached};
+    use crate::loads::random::seed_of;
+    use crate::words::NUMBERS;
+    use std::fs;
+
+    /// The checks of the files: one that is changed later is noticed here.
+    const CHECKS: &[u64] = &[
+        0xd403_5fcf_a071_55cd,
+        0x6273_8f9d_ad12_3b5c,
+        0x34eb_bf2b_0c8b_dadd,
+    ];
+    const LARGE_CHECKS: &[u64] = &[
+        0xa6f5_5d97_af13_b392,
+        0xe96a_db53_c368_7374,
+        0x0ff1_3733_25d6_4632,
+    ];
+
+    #[test]
+    fn files_are_as_they_landed() {
+        let checks = |files: &[&[u8]]| Vec::from_iter(files.iter().map(|file| seed_of(file)));
+        assert_eq!(checks(BLOCKS), CHECKS);
+        assert_eq!(checks(LARGE), LARGE_CHECKS);
+    }
+
+    /// The files of a folder one after the other, by name.
+    fn folder(name: &str) -> Vec<u8> {
+        let folder = format!("{}/loads/{name}", env!("CARGO_MANIFEST_DIR"));
+        let entries = fs::read_dir(folder).unwrap();
+        let mut paths: Vec<_> = entries.map(|entry| entry.unwrap().path()).collect();
+        paths.sort();
+        paths
+            .iter()
+            .flat_map(|path| fs::read(path).unwrap())
+            .collect()
+    }
+
+    #[test]
+    fn every_file_is_listed_and_ends_its_last_line() {
+        assert!(folder("blocks") == blocks());
+        assert!(folder("large") == large());
+        let mut files = BLOCKS.iter().chain(LARGE);
+        assert!(files.all(|file| file.ends_with(b"\n")));
+    }
+
+    #[test]
+    fn blocks_reach_every_number() {
+        let blocks = blocks();
+        let lines: Vec<&[u8]> = blocks.split(|byte| *byte == b'\n').collect();
+        for (word, numbers) in NUMBERS {
+            let beginning = format!("{word} ");
+            let mut own = lines.clone();
+            own.retain(|line| line.starts_with(beginning.as_bytes()));
+            let reached = reached(&own.join(&b'\n'));
+            assert_eq!(Vec::from_iter(reached.into_keys()), *numbers, "{word}");
+        }
+    }
+
+    #[test]
+    fn what_the_large_lines_say() {
+        let lines = large();
+        let plain = |text: String| text.split(" |").next().unwrap_or("").to_string();
+        let said: Vec<String> = answers(&lines).map(plain).collect();
+        let wanted = [
+            "0 16384 16384 16384",
+            "7 16383 7 0",
+            "0 256 16384 16384",
+            "8 8191 8192 8191",
+            "0 16383 16383 16383",
+            "7 1 7 0",
+            "7 16256 7 0",
+            "0 4096 16384 16384",
+            "17 0 2 0",
+            "0 1024 16384 16384",
+            "7 16321 7 0",
+        ];
+        for text in wanted {
+            assert!(said.iter().any(|said| said == text), "{text}");
+        }
+        let feeds = lines.iter().filter(|byte| **byte == b'\n');
+        assert_eq!(said.len(), feeds.count());
+        assert!(!said.iter().any(|text| text == "?\n"));
+    }
+}

@@ -1,0 +1,167 @@
+//! Lines with a minus: before any number, of which only strides and offsets
+//! may have one, and in spellings of which few are numbers.
+
+use super::malformed::Question;
+use super::random::Random;
+
+/// What may stand in the place of a stride or an offset, and what may not.
+const SPELLINGS: &[&str] = &[
+    "-1",
+    "-0",
+    "-00",
+    "-01",
+    "-",
+    "--1",
+    "-+1",
+    "+-1",
+    "+1",
+    "1-",
+    "-1-",
+    "- 1",
+    "-1.0",
+    "-0x1",
+    "\u{2212}1",
+    "-65536",
+    "-65537",
+    "65535",
+    "65536",
+    "-9223372036854775807",
+    "-9223372036854775808",
+    "-9223372036854775809",
+    "-09223372036854775808",
+    "-9999999999999999999",
+    "-10000000000000000000",
+    "-18446744073709551615",
+    "-18446744073709551616",
+    "-99999999999999999999",
+    "9223372036854775807",
+    "9223372036854775808",
+    "18446744073709551615",
+    "18446744073709551616",
+];
+
+/// So many numbers are a card.
+const CARD: usize = 57;
+
+/// Where a card's strides and offsets stand.
+fn signed_places() -> Vec<usize> {
+    let shard = (2..=23).step_by(3);
+    let replica = (27..=36).step_by(3);
+    shard.chain(replica).chain(38..46).collect()
+}
+
+/// The number with a minus; a 1 in the place of 0, since `-0` is no number
+/// anywhere.
+fn negated(number: &str) -> String {
+    match number {
+        "0" => "-1".to_string(),
+        _ => format!("-{number}"),
+    }
+}
+
+/// A minus before some number of a question, or some spelling in the place
+/// of a number: of a stride or an offset, if it is a question about a card.
+pub fn misspelt(random: &mut Random, question: &Question) -> Vec<u8> {
+    let any = random.index(question.numbers.len());
+    if random.once_in(2) {
+        return question.with(any, &negated(&question.numbers[any]));
+    }
+    let place = match question.numbers.len() > CARD {
+        true => random.pick(&signed_places()),
+        false => any,
+    };
+    question.with(place, random.pick(SPELLINGS))
+}
+
+#[cfg(test)]
+mod tests {
+    use super::*;
+    use crate::layout::Card;
+    use crate::lines::{answer_line, NO_QUESTION};
+    use crate::loads::cards::tile_x;
+    use crate::loads::signed::turn_some;
+
+    /// A question of each word that has neither strides nor offsets.
+    const PLAIN: &[&str] = &[
+        "swizzle 3 3 3 64",
+        "mode 16 3",
+        "fragment 5 5 6",
+        "holder 5 1 3 4",
+        "fields 847173709201408",
+        "descriptor 1 1 1 1 1 1 1 1 1 2 3 32",
+        "mask 128 16 847173709201408 2",
+        "stretch 1 11 32 1 1 1 1 2 1 1 6 9 1 1 1 1 1 704",
+    ];
+
+    fn plain_questions() -> Vec<Question<'static>> {
+        let question = |line: &&'static str| {
+            let (word, numbers) = line.split_once(' ').unwrap_or((line, ""));
+            Question::new(word, &Vec::from_iter(numbers.split(' ')))
+        };
+        PLAIN.iter().map(question).collect()
+    }
+
+    /// A question of each of a card's words on tile X, turned round.
+    fn card_questions() -> [Question<'static>; 3] {
+        let mut card = tile_x();
+        turn_some(&mut Random::new(0), &mut card, 1);
+        let question = |word: &'static str, rest: &[i128]| {
+            Question::new(word, &[&card.numbers()[..], rest].concat())
+        };
+        let spot = [2, 8, 16, 1, 1, 1, 1, 1, 1, 2, 7, 15, 1, 1, 1, 1, 1, 1];
+        [
+            question("verdict", &[704]),
+            question("owner", &[0, 9, 31, 0, 0, 0, 0, 1, 704]),
+            question("place", &[&spot[..], &[2]].concat()),
+        ]
+    }
+
+    fn unknown(line: &[u8]) -> bool {
+        answer_line(line).as_deref() == Some(NO_QUESTION)
+    }
+
+    #[test]
+    fn only_strides_and_offsets_may_be_below_zero() {
+        for question in plain_questions() {
+            assert!(!unknown(&question.bytes()));
+            for at in 0..question.numbers.len() {
+                assert!(unknown(&question.with(at, "-1")), "{} {at}", question.word);
+            }
+        }
+        for question in card_questions() {
+            assert!(!unknown(&question.bytes()));
+            for at in 0..question.numbers.len() {
+                let allowed = signed_places().contains(&at);
+                let line = question.with(at, "-1");
+                assert_eq!(unknown(&line), !allowed, "{} {at}", question.word);
+            }
+        }
+    }
+
+    #[test]
+    fn signs_stand_at_twelve_strides_and_eight_offsets() {
+        let places: Vec<usize> = (0..100).filter(|at| Card::signed_at(*at)).collect();
+        assert_eq!(places, signed_places());
+        assert_eq!(CARD, Card::NUMBERS);
+    }
+
+    #[test]
+    fn these_spellings_are_numbers() {
+        let [question, ..] = card_questions();
+        let past_the_count = |spelling: &&&str| !unknown(&question.with(23, spelling));
+        let numbers: Vec<&&str> = SPELLINGS.iter().filter(past_the_count).collect();
+        let wanted = [
+            "-1",
+            "-65536",
+            "-65537",
+            "65535",
+            "65536",
+            "-9223372036854775807",
+            "-9223372036854775808",
+            "9223372036854775807",
+            "9223372036854775808",
+            "18446744073709551615",
+        ];
+        assert_eq!(numbers, Vec::from_iter(&wanted));
+    }
+}
