@@ -49,9 +49,9 @@ fn show_stretch(numbers: &[u64; 80], lent: &[u32]) -> Reply {
     let lengths = eight(numbers, 0);
     let axis = numbers[8];
     let coordinates = eight(numbers, 9);
-    let located = table::locate_stretch(lent, lengths, axis, coordinates);
-    let part = table::stretch(lent, lengths, axis, coordinates);
-    reply::digest(table::stretch_numbers(located), part)
+    let located = stretch::locate_stretch(lent, lengths, axis, coordinates);
+    let part = stretch::stretch(lent, lengths, axis, coordinates);
+    reply::digest(stretch::stretch_numbers(located), part)
 }
 
 // The stretch that a line asks for, in entries as they are lent.

@@ -12,7 +12,7 @@ use Rattle.descriptor.specs.declared.Fields.{Fields}
 use Rattle.card.specs.declared.Card.{Card}
 use Rattle.placement.specs.Placement.{placementAnswer, placementMemory, placementNumbers}
 use Rattle.placement.specs.declared.Tuple.{Tuple}
-use Rattle.table.specs.Stretch.{stretchAnswer, stretchOf, stretchNumbers}
+use Rattle.stretch.specs.Stretch.{stretchAnswer, stretchOf, stretchNumbers}
 use Rattle.judgement.specs.Verdict.{verdictOf, ownerOf, verdictNumbers, ownerNumbers}
 use Rattle.judgement.specs.Run.{judge, ownerRun}
 

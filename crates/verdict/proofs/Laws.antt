@@ -23,7 +23,7 @@ use Rattle.claims.specs.Claims.{OwnedTable, FirstClash, Inside as InCells}
 use Rattle.claims.specs.Rows.{Row as ClaimRow, Within, entryMet, cellMet}
 use Rattle.claims.proofs.Steps.{row-within, owners-none, claimed-owners, met-clash}
 use Rattle.claims.proofs.Rows.{occupied-none, occupied-most}
-use Rattle.table.specs.Owners.{entryLimit}
+use Rattle.owners.specs.Owners.{entryLimit}
 use Rattle.judgement.specs.Judgement.{placed, LiesInside, AllInside, FirstOutside}
 use Rattle.verdict.specs.Inside.{Claimable, ElementClaim}
 

@@ -14,7 +14,7 @@ use Rattle.card.specs.declared.Admission.the-variants.{Admitted, Refused as NoC
 use Rattle.idle.specs.Admission.{fullAdmission}
 use Rattle.claims.specs.Claims.{FirstClash, OwnedTable as Owned}
 use Rattle.claims.specs.Rows.{entryMet, cellMet}
-use Rattle.table.specs.Owners.{clashOf}
+use Rattle.owners.specs.Owners.{clashOf}
 use Rattle.judgement.specs.Judgement.{placed, AllInside, FirstOutside, Judgement, NotAdmitted, NoRoom, OutsideAt, Clashing, Passed, Judged, ComesTo}
 use Rattle.judgement.specs.Verdict.{tableAfter, VerdictPromise}
 use Rattle.judgement.specs.declared.Verdict.{Verdict}
