@@ -3,10 +3,11 @@ use mathlib.Core.Path.{_≡_, refl, sym, ap, ap₂, _∙_}
 use mathlib.Core.Bool.{Bool, true, false, cond}
 use mathlib.Core.Logic.{_⊎_, ⊎-elim}
 use Prim.Native.Nat.{ℕ, _+_, _-_, _*_, _/_, _%_, _^_, _≤_, _<_}
-use native.Mathlib.Nat.{add-sub-of-le, sub-add-cancel}
+use native.Mathlib.Nat.{add-zero, add-sub-of-le, sub-add-cancel}
 use native.Mathlib.Omega.{arith}
-use borrow.Author.Tests.{le-leb}
-use lib.Pow.{shr-shr, field, mod-mod-pow}
+use borrow.Author.Tests.{le-leb, ltb-true, ltb-false}
+use lib.Dec.{ltb}
+use lib.Pow.{pow-add, pow-mono, split, shr-shr, field, mod-mod-pow}
 use lib.Bits.{bitXor, xor-shr, xor-mod}
 use lib.Count.{leading-length}
 use Rattle.answers.specs.declared.Numbers.{Numbers}
@@ -64,6 +65,12 @@ inner-bits-crossed M B S m i h =
     ∙ xor-mod (x / 2 ^ i) (picked B S x / 2 ^ i) 1
     ∙ ap₂ bitXor own other
 
+-- no swizzle is B = 0: every address stays where it is
+pub no-swizzle : (M S m : ℕ) → swizzled M 0 S m ≡ m
+no-swizzle M S m =
+    let same : swizzled M 0 S m / 2 ^ M ≡ m / 2 ^ M = rw (add-zero M) at (swizzled-block M 0 S m) in
+    sym (split (swizzled M 0 S m) M) ∙ ap₂ (λ (x y : ℕ). x * 2 ^ M + y) same (swizzled-low M 0 S m) ∙ split m M
+
 -- address m lies in the aligned block of 2^(M+B) addresses that has the number m / 2^(M+B)
 abbrev pub block : ℕ → ℕ → ℕ → ℕ
 block M B m = m / 2 ^ (M + B)
@@ -91,13 +98,24 @@ demand-3-swizzle M B S p =
       twice = back;
     }
 
--- the bit length of a 64-bit number is the smallest exponent whose power of two is above it
+-- the power of two that the bit length of a 64-bit number names is above it, and its half is not
 pub bit-length : (n : ℕ) → n < 2 ^ 64 → (n < 2 ^ bitLength n) × (2 ^ bitLength n ≤ 2 * n + 1)
 unfolding bitLength
 bit-length n h =
     let l = leading-length 64 n h in
     let e : l .0 ≡ bitLength n = omega (arith, l .1) in
     rw (sym e) (l .2, l .3)
+
+-- so the bit length is the smallest exponent whose power of two is above the number
+pub bit-length-smallest : (n k : ℕ) → n < 2 ^ 64 → n < 2 ^ k → bitLength n ≤ k
+bit-length-smallest n k h above = go (ltb k (bitLength n)) refl
+  where
+    go : (b : Bool) → ltb k (bitLength n) ≡ b → bitLength n ≤ k
+    go true t =
+        let l = ltb-true k (bitLength n) t in
+        let twice : 2 ^ (k + 1) ≡ 2 ^ k * 2 = pow-add 2 k 1 in
+        absurd (omega (arith, twice, pow-mono {i = k + 1} {j = bitLength n} (omega arith), bit-length n h .1))
+    go false t = ltb-false k (bitLength n) t
 
 known-permitted : (bits mode : ℕ) → known bits mode ≡ true → permitted (bitLength (128 / bits) - 1) mode 3 ≡ true
 unfolding bitLength
