@@ -7,41 +7,43 @@ use lines::lent::fill;
 use lines::numbers::eight;
 use lines::numbers::eight_signed;
 use lines::numbers::signed;
+use lines::places;
 use lines::reply;
 use lines::reply::Reply;
 use placement::Tuple;
 use swizzle::Swizzle;
-ghost use Prim.Native.Nat.{_≤_};
+ghost use Prim.Native.Nat.{_+_, _*_, _≤_};
 
 // The most entries that the program lends to a placement.
 const MOST_LENT: u64 = 64;
 
-// The iter at a place of a line: extent, stride, axis.
-fn iter(numbers: &[u64; 80], below: &[bool; 80], from: usize) -> Iter
-    requires { ⌜ from ≤ 72 ⌝ }
+// Iter k of the list that begins at a place of a line.
+fn iter(numbers: &[u64; 80], below: &[bool; 80], list: usize, k: usize) -> Iter
+    requires { ⌜ list + 3 * k ≤ 76 ⌝ }
 {
+    let from = list + places::ITER * k;
     Iter {
-        extent: numbers[from],
-        stride: signed(numbers[from + 1], below[from + 1]),
-        axis: numbers[from + 2],
+        extent: numbers[from + places::EXTENT],
+        stride: signed(numbers[from + places::STRIDE], below[from + places::STRIDE]),
+        axis: numbers[from + places::AXIS],
     }
 }
 
 // The shard of a card: its count and eight iters.
 fn shard(numbers: &[u64; 80], below: &[bool; 80]) -> Iters {
     let at = [
-        iter(numbers, below, 1),
-        iter(numbers, below, 4),
-        iter(numbers, below, 7),
-        iter(numbers, below, 10),
-        iter(numbers, below, 13),
-        iter(numbers, below, 16),
-        iter(numbers, below, 19),
-        iter(numbers, below, 22),
+        iter(numbers, below, places::SHARD, 0),
+        iter(numbers, below, places::SHARD, 1),
+        iter(numbers, below, places::SHARD, 2),
+        iter(numbers, below, places::SHARD, 3),
+        iter(numbers, below, places::SHARD, 4),
+        iter(numbers, below, places::SHARD, 5),
+        iter(numbers, below, places::SHARD, 6),
+        iter(numbers, below, places::SHARD, 7),
     ];
     Iters {
         at,
-        count: numbers[0],
+        count: numbers[places::SHARD],
     }
 }
 
@@ -54,10 +56,10 @@ fn replica(numbers: &[u64; 80], below: &[bool; 80]) -> Iters {
         axis: 0,
     };
     let at = [
-        iter(numbers, below, 26),
-        iter(numbers, below, 29),
-        iter(numbers, below, 32),
-        iter(numbers, below, 35),
+        iter(numbers, below, places::REPLICA, 0),
+        iter(numbers, below, places::REPLICA, 1),
+        iter(numbers, below, places::REPLICA, 2),
+        iter(numbers, below, places::REPLICA, 3),
         none,
         none,
         none,
@@ -65,21 +67,21 @@ fn replica(numbers: &[u64; 80], below: &[bool; 80]) -> Iters {
     ];
     Iters {
         at,
-        count: numbers[25],
+        count: numbers[places::REPLICA],
     }
 }
 
-// The card of a line: its first 57 numbers.
+// The card of a line: its first numbers.
 pub fn card(numbers: &[u64; 80], below: &[bool; 80]) -> Card {
     Card {
         shard: shard(numbers, below),
         replica: replica(numbers, below),
-        offset: eight_signed(numbers, below, 38),
-        lengths: eight(numbers, 46),
+        offset: eight_signed(numbers, below, places::OFFSETS),
+        lengths: eight(numbers, places::LENGTHS),
         swizzle: Swizzle {
-            m: numbers[54],
-            b: numbers[55],
-            s: numbers[56],
+            m: numbers[places::SWIZZLE],
+            b: numbers[places::SWIZZLE + 1],
+            s: numbers[places::SWIZZLE + 2],
         },
     }
 }
@@ -99,8 +101,8 @@ fn ask_place(numbers: &[u64; 80], below: &[bool; 80], lent: &mut [u32]) -> Numbe
     fill(lent);
     let placed = placement::place(
         card(numbers, below),
-        tuple(numbers, 57),
-        tuple(numbers, 66),
+        tuple(numbers, places::SHAPE),
+        tuple(numbers, places::COORDINATES),
         lent,
     );
     placement::placement_numbers(placed)
@@ -108,7 +110,7 @@ fn ask_place(numbers: &[u64; 80], below: &[bool; 80], lent: &mut [u32]) -> Numbe
 
 // place CARD dimensions, eight sizes, coordinates, eight coordinates, length
 pub fn place(numbers: &[u64; 80], below: &[bool; 80]) -> Reply {
-    let asked = numbers[75];
+    let asked = numbers[places::PLACE_LENT];
     if MOST_LENT < asked {
         return reply::unknown();
     }

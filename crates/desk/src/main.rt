@@ -6,12 +6,14 @@ mod masks;
 mod swizzles;
 mod tables;
 
-use lines::input;
 use lines::print;
 use lines::reply;
 use lines::reply::Reply;
 use lines::words;
 use lines::words::Word;
+use text::input;
+use text::input::Input;
+use text::output;
 
 // Answers a question that has all its numbers.
 fn ask(word: Word, numbers: &[u64; 80], below: &[bool; 80]) -> Reply {
@@ -39,6 +41,22 @@ fn answer(line: &[u8; 4096], held: usize) -> Reply {
     ask(word, &numbers, &below)
 }
 
+// Writes out what is finished where the next step in the input is a read, which may wait.
+fn before_waiting(out: &[u8; 65536], at: usize, input: Input) -> usize {
+    if input::is_used_up(input) {
+        return output::write_out(out, at);
+    }
+    at
+}
+
+// The answer to the line once it is whole, and the next place. An empty line gets none.
+fn answer_whole(out: &mut [u8; 65536], at: usize, line: &[u8; 4096], input: Input) -> usize {
+    if input.whole & (0 < input.held) {
+        return print::put(out, at, answer(line, input.held));
+    }
+    at
+}
+
 // Answers every line of the input. A proved loop has to end, so it counts its turns down from a
 // number that no run uses up.
 fn answer_all(out: &mut [u8; 65536]) {
@@ -48,14 +66,15 @@ fn answer_all(out: &mut [u8; 65536]) {
     let mut at = 0;
     let mut turns = u64::MAX;
     while turns > 0 {
-        input = input::next_line(&mut part, &mut line, input);
-        if input.held == 0 {
+        at = before_waiting(out, at, input);
+        input = input::advance(&mut part, &mut line, input);
+        at = answer_whole(out, at, &line, input);
+        if input.ended {
             break;
         }
-        at = print::put(out, at, answer(&line, input.held));
         turns -= 1;
     }
-    print::write_out(out, at);
+    output::write_out(out, at);
 }
 
 fn main() {

@@ -5,6 +5,7 @@ use lines::numbers::byte;
 use lines::numbers::wide;
 use lines::numbers::within;
 use lines::numbers::yes;
+use lines::places;
 use lines::reply;
 use lines::reply::Reply;
 
@@ -17,38 +18,40 @@ const LENT: u8 = 165;
 // The start counts that a line gives.
 fn counts(numbers: &[u64; 80]) -> [u8; 4] {
     [
-        byte(numbers[0]),
-        byte(numbers[1]),
-        byte(numbers[2]),
-        byte(numbers[3]),
+        byte(numbers[places::START_COUNTS]),
+        byte(numbers[places::START_COUNTS + 1]),
+        byte(numbers[places::START_COUNTS + 2]),
+        byte(numbers[places::START_COUNTS + 3]),
     ]
 }
 
 // The first spans that a line gives.
 fn spans(numbers: &[u64; 80]) -> [bool; 4] {
     [
-        numbers[4] == 1,
-        numbers[5] == 1,
-        numbers[6] == 1,
-        numbers[7] == 1,
+        numbers[places::FIRST_SPANS] == 1,
+        numbers[places::FIRST_SPANS + 1] == 1,
+        numbers[places::FIRST_SPANS + 2] == 1,
+        numbers[places::FIRST_SPANS + 3] == 1,
     ]
 }
 
-// The fields that a line gives, the first twelve numbers.
+// The fields that a line gives.
 fn given(numbers: &[u64; 80]) -> Fields {
     Fields {
         start_counts: counts(numbers),
         first_spans: spans(numbers),
-        non_zero: numbers[8] == 1,
-        skip_span: byte(numbers[9]),
-        use_span: byte(numbers[10]),
-        shift: numbers[11],
+        non_zero: numbers[places::NON_ZERO] == 1,
+        skip_span: byte(numbers[places::SKIP_SPAN]),
+        use_span: byte(numbers[places::USE_SPAN]),
+        shift: numbers[places::SHIFT],
     }
 }
 
 // Whether counts and spans are bytes, and one-bit fields 0 or 1.
 fn are_fields(numbers: &[u64; 80]) -> bool {
-    within(numbers, 0, 4, 255) & within(numbers, 4, 9, 1) & within(numbers, 9, 11, 255)
+    within(numbers, places::START_COUNTS, places::FIRST_SPANS, 255)
+        & within(numbers, places::FIRST_SPANS, places::SKIP_SPAN, 1)
+        & within(numbers, places::SKIP_SPAN, places::SHIFT, 255)
 }
 
 // The fields that all sub-masks share, as numbers.
@@ -93,7 +96,7 @@ fn ask_mask(numbers: &[u64; 80], lent: &mut [u8]) -> Numbers {
 
 // mask M N descriptor length
 pub fn mask(numbers: &[u64; 80]) -> Reply {
-    let asked = numbers[3];
+    let asked = numbers[places::MASK_LENT];
     if MOST_LENT < asked {
         return reply::unknown();
     }

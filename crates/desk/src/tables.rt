@@ -2,6 +2,7 @@
 use crate::layouts::card;
 use lines::lent::fill;
 use lines::numbers::eight;
+use lines::places;
 use lines::reply;
 use lines::reply::Reply;
 
@@ -17,7 +18,7 @@ fn ask_verdict(numbers: &[u64; 80], below: &[bool; 80], lent: &mut [u32]) -> Rep
 
 // verdict CARD length
 pub fn verdict(numbers: &[u64; 80], below: &[bool; 80]) -> Reply {
-    let asked = numbers[57];
+    let asked = numbers[places::VERDICT_LENT];
     if MOST_LENT < asked {
         return reply::unknown();
     }
@@ -29,13 +30,13 @@ pub fn verdict(numbers: &[u64; 80], below: &[bool; 80]) -> Reply {
 // The owner that a line asks for, in entries as they are lent.
 fn ask_owner(numbers: &[u64; 80], below: &[bool; 80], lent: &mut [u32]) -> Reply {
     fill(lent);
-    let owner = verdict::owner_of(card(numbers, below), eight(numbers, 57), lent);
+    let owner = verdict::owner_of(card(numbers, below), eight(numbers, places::CELL), lent);
     reply::digest(judgement::owner_numbers(owner), lent)
 }
 
 // owner CARD eight coordinates, length
 pub fn owner(numbers: &[u64; 80], below: &[bool; 80]) -> Reply {
-    let asked = numbers[65];
+    let asked = numbers[places::OWNER_LENT];
     if MOST_LENT < asked {
         return reply::unknown();
     }
@@ -46,9 +47,9 @@ pub fn owner(numbers: &[u64; 80], below: &[bool; 80]) -> Reply {
 
 // The answer of a stretch, and the digest of the part that is handed back.
 fn show_stretch(numbers: &[u64; 80], lent: &[u32]) -> Reply {
-    let lengths = eight(numbers, 0);
-    let axis = numbers[8];
-    let coordinates = eight(numbers, 9);
+    let lengths = eight(numbers, places::STRETCH_LENGTHS);
+    let axis = numbers[places::STRETCH_AXIS];
+    let coordinates = eight(numbers, places::STRETCH_COORDINATES);
     let located = stretch::locate_stretch(lent, lengths, axis, coordinates);
     let part = stretch::stretch(lent, lengths, axis, coordinates);
     reply::digest(stretch::stretch_numbers(located), part)
@@ -62,7 +63,7 @@ fn ask_stretch(numbers: &[u64; 80], lent: &mut [u32]) -> Reply {
 
 // stretch eight lengths, axis, eight coordinates, length
 pub fn stretch(numbers: &[u64; 80]) -> Reply {
-    let asked = numbers[17];
+    let asked = numbers[places::STRETCH_LENT];
     if MOST_LENT < asked {
         return reply::unknown();
     }

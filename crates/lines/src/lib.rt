@@ -1,8 +1,8 @@
-// The lines of the program desk: each is read by its rule and its word, and each reply is put into a
-// buffer that is written out when it fills. The program itself asks the questions in between.
-pub mod input;
+// The protocol of the program desk: a line is read by its rule and its word, and a reply is put into
+// text. The program itself asks the questions in between.
 pub mod lent;
 pub mod numbers;
+pub mod places;
 pub mod print;
 pub mod reply;
 pub mod rule;

@@ -1,6 +1,7 @@
 // Replies to lines, before they are text.
 use crate::lent;
 use crate::numbers;
+use crate::places;
 use answers::Numbers;
 
 // How a reply is put.
@@ -85,10 +86,10 @@ pub fn fields(answer: Numbers, counts: [u8; 4], spans: [bool; 4], shared: [u64; 
     let mut values = [0u64; 64];
     let mut i = 0;
     while i < 4 {
-        values[i] = numbers::wide(counts[i]);
-        values[i + 4] = numbers::yes(spans[i]);
-        values[i + 8] = shared[i];
+        values[places::START_COUNTS + i] = numbers::wide(counts[i]);
+        values[places::FIRST_SPANS + i] = numbers::yes(spans[i]);
+        values[places::NON_ZERO + i] = shared[i];
         i += 1;
     }
-    barred(answer, 12, values)
+    barred(answer, places::FIELDS, values)
 }

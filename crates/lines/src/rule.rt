@@ -1,5 +1,8 @@
 // The rule of a line: a word and then decimal numbers, parted by single spaces; a number may have a
 // minus, which not every place allows.
+use text::decimal;
+use text::decimal::Digit;
+use text::decimal::Extended;
 
 // The most numbers that a line may have; no question has more.
 const MOST_NUMBERS: usize = 80;
@@ -59,17 +62,18 @@ fn space(r: Reading, at: usize) -> Reading {
 // One more digit of a number: none follows a zero that begins it, and the number is below 2^64.
 fn digit(r: Reading, d: u64) -> Reading {
     let value = r.value;
-    if value <= (u64::MAX - d) / 10 {
-        return Reading {
-            good: r.good & !(r.digit & (value == 0)),
-            word: r.word,
-            count: r.count,
-            minus: r.minus,
-            digit: true,
-            value: value * 10 + d,
-        };
+    let extended = decimal::extend(value, d);
+    let Extended::Number(longer) = extended else {
+        return broken(r);
+    };
+    Reading {
+        good: r.good & !(r.digit & (value == 0)),
+        word: r.word,
+        count: r.count,
+        minus: r.minus,
+        digit: true,
+        value: longer,
     }
-    broken(r)
 }
 
 // A minus begins a number.
@@ -111,13 +115,11 @@ fn step(r: Reading, b: u8, at: usize) -> Reading {
     if b == b'-' {
         return minus(r);
     }
-    if b < b'0' {
+    let read = decimal::digit_of(b);
+    let Digit::Value(d) = read else {
         return broken(r);
-    }
-    if b'9' < b {
-        return broken(r);
-    }
-    digit(r, (b - b'0') as u64)
+    };
+    digit(r, d)
 }
 
 // Keeps the value so far of the last number begun, and whether it has a minus.

@@ -1,4 +1,5 @@
 // The words that are questions, and what a line asks.
+use crate::places;
 use crate::rule;
 use crate::rule::Line;
 
@@ -32,9 +33,6 @@ const NAMES: [[u8; 11]; 11] = [
     *b"owner      ",
     *b"stretch    ",
 ];
-
-// How many numbers each word's question has; another word has none.
-const WANTED: [usize; 12] = [4, 2, 3, 4, 1, 12, 4, 76, 58, 66, 18, 0];
 
 // The byte at a place of a word's name.
 fn named(k: usize, i: usize) -> u8 {
@@ -91,29 +89,54 @@ fn word_of(k: usize) -> Word {
     }
 }
 
-// Whether number i of word k may have a minus: a stride or an offset of a card. The words with a card
-// are place, verdict and owner. The shard's count is number 0 and its iters follow, three numbers
-// each with the stride second; the replica's count is number 25, and after its iters the offsets
-// are 38 to 45.
-fn may_be_below(k: usize, i: usize) -> bool {
-    if (k < 7) | (9 < k) {
-        return false;
+// How many numbers the question of a word has.
+fn wanted(word: Word) -> usize {
+    match word {
+        Word::Swizzle => 4,
+        Word::Mode => 2,
+        Word::Fragment => 3,
+        Word::Holder => 4,
+        Word::Fields => 1,
+        Word::Descriptor => places::FIELDS,
+        Word::Mask => places::MASK_LENT + 1,
+        Word::Place => places::PLACE_LENT + 1,
+        Word::Verdict => places::VERDICT_LENT + 1,
+        Word::Owner => places::OWNER_LENT + 1,
+        Word::Stretch => places::STRETCH_LENT + 1,
+        Word::Unknown => 0,
     }
-    if i < 25 {
-        return i % 3 == 2;
+}
+
+// Whether the question of a word begins with a card.
+fn has_card(word: Word) -> bool {
+    match word {
+        Word::Place | Word::Verdict | Word::Owner => true,
+        _ => false,
     }
-    if i < 38 {
-        return i % 3 == 0;
+}
+
+// Whether a number of a list of iters is a stride.
+fn is_stride(i: usize) -> bool {
+    i % places::ITER == places::STRIDE
+}
+
+// Whether a number of a card may have a minus: a stride or an offset.
+fn may_be_below(i: usize) -> bool {
+    if i < places::REPLICA {
+        return is_stride(i - places::SHARD);
     }
-    i < 46
+    if i < places::OFFSETS {
+        return is_stride(i - places::REPLICA);
+    }
+    i < places::LENGTHS
 }
 
 // Whether each number with a minus may have one.
-fn minus_allowed(below: &[bool; 80], k: usize, count: usize) -> bool {
+fn minus_allowed(below: &[bool; 80], count: usize, card: bool) -> bool {
     let mut i = 0;
     while i < count {
         if below[i % 80] {
-            if !may_be_below(k, i) {
+            if !(card & may_be_below(i)) {
                 return false;
             }
         }
@@ -136,12 +159,12 @@ pub fn question(
     let Line::Question(end, count) = read else {
         return Word::Unknown;
     };
-    let k = find(line, end);
-    if count != WANTED[k % 12] {
+    let word = word_of(find(line, end));
+    if count != wanted(word) {
         return Word::Unknown;
     }
-    if minus_allowed(below, k, count) {
-        return word_of(k);
+    if minus_allowed(below, count, has_card(word)) {
+        return word;
     }
     Word::Unknown
 }

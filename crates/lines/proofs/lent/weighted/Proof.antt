@@ -13,9 +13,6 @@ bound place entry n e h =
     let small : n ≤ 4294967295 = omega arith in
     mul-le-mul below small
 
-wide32-requires : tie.Need-wide32-requires
-wide32-requires c κs = search needs
-
 product : (c : tie.After-wide32) → c .before .args .place % 16385 * c .wide32 .result ≤ 16384 * 4294967295
 product c = bound (c .before .args .place) (c .before .args .entry) (c .wide32 .result) (c .wide32 .ensures) (omega arith)
 
@@ -26,4 +23,4 @@ returns : tie.Need-returns
 returns c = product c
 
 pub weighted-spec : {M : Type 1} → statement M
-weighted-spec = tie.close (tie.spec wide32-requires mul-result returns)
+weighted-spec = tie.close (tie.spec (λ c κs. search needs) mul-result returns)

@@ -6,10 +6,10 @@ use Rattle.lines.proofs.words.minus_allowed.Statement.{statement}
 use Rattle.lines.proofs.words.minus_allowed.Tie as tie
 
 abbrev Inv-loop : tie.InvT-loop
-Inv-loop below k count i₀ i = Unit
+Inv-loop below count card i₀ i = Unit
 
 abbrev μ-loop : tie.MeasureT-loop
-μ-loop below k count i₀ i = count - i
+μ-loop below count card i₀ i = count - i
 
 pub minus-allowed-spec : {M : Type 1} → statement M
 minus-allowed-spec =

@@ -1,0 +1,68 @@
+// Where the numbers of a question stand on its line, counted from 0.
+
+// A list of iters begins with its count; then come extent, stride and axis of each. These are the
+// places of the first iter, and how many numbers further on the next one stands.
+pub const EXTENT: usize = 1;
+
+pub const STRIDE: usize = 2;
+
+pub const AXIS: usize = 3;
+
+pub const ITER: usize = 3;
+
+// A card: the shard, with eight iters, the replica, with four, the offsets, the lengths, and M, B, S.
+pub const SHARD: usize = 0;
+
+pub const REPLICA: usize = SHARD + 1 + 8 * ITER;
+
+pub const OFFSETS: usize = REPLICA + 1 + 4 * ITER;
+
+pub const LENGTHS: usize = OFFSETS + 8;
+
+pub const SWIZZLE: usize = LENGTHS + 8;
+
+// How many numbers a card has.
+pub const CARD: usize = SWIZZLE + 3;
+
+// After the card of `place`: the shape and the coordinates, each a count and eight numbers, and how
+// much memory is lent.
+pub const SHAPE: usize = CARD;
+
+pub const COORDINATES: usize = SHAPE + 9;
+
+pub const PLACE_LENT: usize = COORDINATES + 9;
+
+// After the card of `verdict`.
+pub const VERDICT_LENT: usize = CARD;
+
+// After the card of `owner`: the coordinates of the asked cell.
+pub const CELL: usize = CARD;
+
+pub const OWNER_LENT: usize = CELL + 8;
+
+// `stretch`.
+pub const STRETCH_LENGTHS: usize = 0;
+
+pub const STRETCH_AXIS: usize = STRETCH_LENGTHS + 8;
+
+pub const STRETCH_COORDINATES: usize = STRETCH_AXIS + 1;
+
+pub const STRETCH_LENT: usize = STRETCH_COORDINATES + 8;
+
+// `mask`, after M, N and the descriptor.
+pub const MASK_LENT: usize = 3;
+
+// The twelve fields of a descriptor, on the line of `descriptor` and after the bar of `fields`.
+pub const START_COUNTS: usize = 0;
+
+pub const FIRST_SPANS: usize = START_COUNTS + 4;
+
+pub const NON_ZERO: usize = FIRST_SPANS + 4;
+
+pub const SKIP_SPAN: usize = NON_ZERO + 1;
+
+pub const USE_SPAN: usize = SKIP_SPAN + 1;
+
+pub const SHIFT: usize = USE_SPAN + 1;
+
+pub const FIELDS: usize = SHIFT + 1;
