@@ -2,7 +2,7 @@
 use Prim.Native.Nat.{ℕ}
 use Rattle.answers.specs.declared.Numbers.{Numbers}
 use Rattle.answers.specs.declared.Refusal.{Refusal}
-use Rattle.answers.specs.declared.Refusal.the-variants.{Counts, Limits, Axis, Space, TooMany, Swizzle, Outside, Shared, Shape, Coordinate, TooShort, CellOutside, MaskSize, Fragment, Reserved, Shift, Idle}
+use Rattle.answers.specs.declared.Refusal.the-variants.{Counts, Limits, Axis, Space, TooMany, Swizzle, CopyOutside, Shared, Shape, Coordinate, TooShort, CellOutside, MaskSize, Fragment, Reserved, Shift, Idle}
 
 -- an answer's number and its details a, b, c
 abbrev pub answer : ℕ → ℕ → ℕ → ℕ → Numbers
@@ -16,7 +16,7 @@ refusalNumbers Axis = answer 3 0 0 0
 refusalNumbers Space = answer 4 0 0 0
 refusalNumbers TooMany = answer 5 0 0 0
 refusalNumbers Swizzle = answer 6 0 0 0
-refusalNumbers (Outside flat axis) = answer 7 (flat .0) axis 0
+refusalNumbers (CopyOutside flat axis) = answer 7 (flat .0) axis 0
 refusalNumbers (Shared x y cell) = answer 8 (x .0) (y .0) (cell .0)
 refusalNumbers Shape = answer 9 0 0 0
 refusalNumbers Coordinate = answer 10 0 0 0

@@ -24,7 +24,7 @@ pub enum Refusal {
     // 6: swizzle numbers, bits or mode not allowed
     Swizzle,
     // 7: a copy lies outside the space
-    Outside { flat: Flat, axis: u64 },
+    CopyOutside { flat: Flat, axis: u64 },
     // 8: two elements share a cell
     Shared { x: Flat, y: Flat, cell: Cell },
     // 9: shape not admitted
@@ -73,7 +73,7 @@ pub fn refusal_numbers(refusal: Refusal) -> Numbers
         Refusal::Space => answer(4, 0, 0, 0),
         Refusal::TooMany => answer(5, 0, 0, 0),
         Refusal::Swizzle => answer(6, 0, 0, 0),
-        Refusal::Outside { flat, axis } => answer(7, flat.0, axis, 0),
+        Refusal::CopyOutside { flat, axis } => answer(7, flat.0, axis, 0),
         Refusal::Shared { x, y, cell } => answer(8, x.0, y.0, cell.0),
         Refusal::Shape => answer(9, 0, 0, 0),
         Refusal::Coordinate => answer(10, 0, 0, 0),

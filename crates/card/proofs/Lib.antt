@@ -1,5 +1,5 @@
 pub mod Lists
-pub mod Filled
 pub mod Listed
+pub mod ReadBack
 pub mod Admitted
 pub mod Theorems

@@ -1,16 +1,19 @@
 -- A column up to the count is the column of the listed iters, and what check 1 says of the counts.
 use mathlib.Core.Path.{_≡_, sym, ap, _∙_}
-use mathlib.Core.Bool.{Bool, true, and-eq-true-iff}
+use mathlib.Core.Bool.{true, and-eq-true-iff}
 use mathlib.Core.List.{List, map}
 use Prim.Native.Nat.{ℕ, _≤_}
+use native.Mathlib.Omega.{arith}
 use lib.Dec.{leb}
+use lib.IntN.{ℤ}
 use lib.ListN.{take}
 use borrow.Author.Tests.{leb-true}
 use Rattle.laws.proofs.Lists.{map-take}
-use Rattle.card.specs.Lists.{all, within, product}
+use Rattle.card.specs.Lists.{within, product}
 use Rattle.card.specs.Limits.{mostShard, mostReplica}
 use Rattle.card.specs.Card.{listed}
 use Rattle.card.specs.Admission.{countsFit}
+use Rattle.card.specs.Packed.{cardOf, ListOf}
 use Rattle.card.specs.declared.Iter.{Iter}
 use Rattle.card.specs.declared.Iters.{Iters}
 use Rattle.card.specs.declared.Card.{Card}
@@ -18,10 +21,6 @@ use Rattle.card.specs.declared.Card.{Card}
 module _ {A : Type 0} (f : Iter → A) (iters : Iters) where
   listed-column : {column : List A} → column ≡ map f (iters .at) → take (iters .count) column ≡ map f (listed iters)
   listed-column e = ap (take (iters .count)) e ∙ sym (map-take f (iters .count) (iters .at))
-
-pub listed-all : {A : Type 0} (p : A → Bool) (f : Iter → A) (iters : Iters) {column : List A} → column ≡ map f (iters .at)
-    → all p (take (iters .count) column) ≡ all p (map f (listed iters))
-listed-all p f iters e = ap (all p) (listed-column f iters e)
 
 pub listed-product : (f : Iter → ℕ) (iters : Iters) {column : List ℕ} → column ≡ map f (iters .at)
     → product (take (iters .count) column) ≡ product (map f (listed iters))
@@ -42,3 +41,11 @@ counted card t =
       shard = leb-true (card .shard .count) mostShard (shard .1);
       replica = leb-true (card .replica .count) mostReplica (both .1);
     }
+
+-- after check 1 both lists of a packed card can be read
+module _ (numbers : List ℕ) (strides : List ℤ) (t : countsFit (cardOf numbers strides) ≡ true) where
+  pub shard-list : ListOf numbers 0
+  shard-list = record { one-of-two = omega arith; few = counted (cardOf numbers strides) t .shard }
+
+  pub replica-list : ListOf numbers 1
+  replica-list = let n = counted (cardOf numbers strides) t in record { one-of-two = omega arith; few = omega (arith, n .replica) }

@@ -10,17 +10,17 @@ use lib.IntN.{ℤ, natAbs}
 use lib.ListN.{length, getD, take}
 use lib.Seq.{slice, slice-empty}
 use lib.Signed.{mag}
-use Rattle.laws.proofs.Capped.{capped-part}
+use Rattle.laws.proofs.Capped.{capped-part, capped-leb}
 use Rattle.laws.proofs.Lists.{slice-next}
 use Rattle.laws.proofs.Signed.{between-far}
 use Rattle.card.specs.Lists.{all, within, withinZ, product}
 use Rattle.card.specs.Limits.{leastStride, mostStride}
-use Rattle.card.specs.Inside.{farthest}
+use Rattle.card.specs.Packed.{beyond, farthest}
 
-module _ {A : Type 0} (p : A → Bool) (l : List A) (n : ℕ) where
-  -- what a loop that has tested the first k elements still owes
+module _ {A : Type 0} (p : A → Bool) (l : List A) (from n : ℕ) where
+  -- what a loop that has tested the elements up to k still owes
   abbrev pub Tested : ℕ → Bool → Type 0
-  Tested k fit = (fit && all p (slice k n l)) ≡ all p (take n l)
+  Tested k fit = (fit && all p (slice k n l)) ≡ all p (slice from n l)
 
   pub tested-more : (k : ℕ) (other : A) (fit : Bool) → k < n → n ≤ length l → Tested k fit → Tested (k + 1) (fit && p (getD l k other))
   tested-more k other fit h fits e =
@@ -28,7 +28,7 @@ module _ {A : Type 0} (p : A → Bool) (l : List A) (n : ℕ) where
       ∙ sym (ap (λ (s : List A). fit && all p s) (slice-next l k n other h fits))
       ∙ e
 
-  pub tested-all : (fit : Bool) → Tested n fit → fit ≡ all p (take n l)
+  pub tested-all : (fit : Bool) → Tested n fit → fit ≡ all p (slice from n l)
   tested-all fit e = sym (and-true fit) ∙ sym (ap (λ (s : List A). fit && all p s) (slice-empty n l)) ∙ e
 
 module _ (l : List ℕ) (n c : ℕ) where
@@ -68,3 +68,7 @@ product-positive most [] t = le-refl 1
 product-positive most (n ∷ l) t =
     let both = and-eq-true-iff (within 1 most n) (all (within 1 most) l) .0 t in
     one-le-mul (within-numbers 1 most n (both .0) .0) (product-positive most l (both .1))
+
+-- what is told apart below beyond decides a limit below it as the whole number does
+pub capped-test : {n : ℕ} (whole limit : ℕ) → limit < beyond → n ≡ min whole beyond → leb n limit ≡ leb whole limit
+capped-test whole limit small e = ap (λ (m : ℕ). leb m limit) e ∙ capped-leb beyond whole limit small

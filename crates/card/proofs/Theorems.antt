@@ -1,13 +1,14 @@
--- What the admission means, in plain statements: it is settled, its numbers are one-to-one and at most 6, and what stands past a count plays
--- no part.
-use mathlib.Core.Path.{_≡_, refl, sym, _∙_}
-use mathlib.Core.Bool.{Bool, true, false, cond, not}
-use Prim.Native.Nat.{ℕ, _≤_}
-use native.Mathlib.Omega.{arith}
-use Rattle.answers.specs.Refusals.{refusalNumbers}
+-- What the admission means, in plain statements: it is settled, its numbers are one-to-one, document 01's and none of a later check, and what
+-- stands past a count plays no part.
+use mathlib.Core.Path.{_≡_, refl, sym, ap, _∙_}
+use mathlib.Core.Bool.{Bool, true, false, cond, not, _||_}
+use Prim.Native.Nat.{ℕ}
+use lib.Dec.{eqb}
+use Rattle.answers.specs.Refusals.{answer, refusalNumbers}
+use Rattle.answers.specs.declared.Numbers.{Numbers}
 use Rattle.answers.specs.declared.Refusal.{Refusal}
 use Rattle.answers.specs.declared.Refusal.the-variants.{Counts, Limits, Axis, Space, TooMany, Swizzle}
-use Rattle.answers.proofs.OneToOne.{readBack, refused-back, pinned}
+use Rattle.answers.proofs.OneToOne.{readBack, refused-back, pinned, rung, either}
 use Rattle.card.specs.Card.{listed}
 use Rattle.card.specs.Admission.{countsFit, numbersFit, axesFit, spaceFits, fewEnough, swizzleFits, admission, admissionNumbers}
 use Rattle.card.specs.declared.Card.{Card}
@@ -33,21 +34,60 @@ pub checked-admitted : (card : Card) → Checked card → admission card ≡ Adm
 unfolding admission
 checked-admitted card k = rw (k .counts, k .numbers, k .axes, k .space, k .few, k .swizzle)
 
--- checks 1 to 6 refuse by a number up to 6
-rung : (b : Bool) (s r : Refusal) (rest : Admission) → refusalNumbers s .number ≤ 6 → (rest ≡ Refused r → refusalNumbers r .number ≤ 6)
-    → cond (not b) (Refused s) rest ≡ Refused r → refusalNumbers r .number ≤ 6
-rung true s r rest few next e = next e
-rung false s r rest few next e = let same : s ≡ r = cc in rw (sym same) few
+-- the numbers of the checks on the table, and of 17: checks 1 to 6 give none of them
+abbrev pub ofTable : ℕ → Bool
+ofTable n = eqb n 7 || eqb n 8 || eqb n 12
 
-pub admission-number : (card : Card) (r : Refusal) → admission card ≡ Refused r → refusalNumbers r .number ≤ 6
+abbrev Early : Admission → Type 0
+Early a = (ofTable (admissionNumbers a .number) ≡ false) × (eqb (admissionNumbers a .number) 17 ≡ false)
+
+pub admission-number : (card : Card) → Early (admission card)
 unfolding admission
-admission-number card r =
-    rung (countsFit card) Counts r _ (omega arith)
-    (rung (numbersFit card) Limits r _ (omega arith)
-    (rung (axesFit card) Axis r _ (omega arith)
-    (rung (spaceFits (card .lengths)) Space r _ (omega arith)
-    (rung (fewEnough card) TooMany r _ (omega arith)
-    (rung (swizzleFits card) Swizzle r Admitted (omega arith) (λ e. let z : _≡_ {A = ℕ} 0 1 = cc in absurd (omega arith)))))))
+admission-number card =
+    either Early (not (countsFit card)) (refl, refl)
+    (either Early (not (numbersFit card)) (refl, refl)
+    (either Early (not (axesFit card)) (refl, refl)
+    (either Early (not (spaceFits (card .lengths))) (refl, refl)
+    (either Early (not (fewEnough card)) (refl, refl)
+    (either Early (not (swizzleFits card)) (refl, refl) (refl, refl))))))
+
+-- checks 1 to 6 in document 01's numbers, the first that fails, and what comes where none does
+abbrev pub afterSix : Card → Numbers → Numbers
+afterSix card passed =
+    cond (not (countsFit card)) (answer 1 0 0 0)
+    (cond (not (numbersFit card)) (answer 2 0 0 0)
+    (cond (not (axesFit card)) (answer 3 0 0 0)
+    (cond (not (spaceFits (card .lengths))) (answer 4 0 0 0)
+    (cond (not (fewEnough card)) (answer 5 0 0 0)
+    (cond (not (swizzleFits card)) (answer 6 0 0 0)
+    passed)))))
+
+abbrev numbersThen : Numbers → Admission → Numbers
+numbersThen passed Admitted = passed
+numbersThen passed (Refused r) = refusalNumbers r
+
+pub after-six : (card : Card) (n passed : Numbers) → ((r : Refusal) → admission card ≡ Refused r → n ≡ refusalNumbers r)
+    → (admission card ≡ Admitted → n ≡ passed) → n ≡ afterSix card passed
+unfolding admission
+after-six card n passed refused admitted = split (admission card) refl ∙ ladder
+  where
+    split : (a : Admission) → admission card ≡ a → n ≡ numbersThen passed a
+    split Admitted e = admitted e
+    split (Refused r) e = refused r e
+
+    ladder : numbersThen passed (admission card) ≡ afterSix card passed
+    ladder =
+        let numbers : Admission → Numbers = numbersThen passed in
+        rung numbers (not (countsFit card)) refl
+        (rung numbers (not (numbersFit card)) refl
+        (rung numbers (not (axesFit card)) refl
+        (rung numbers (not (spaceFits (card .lengths))) refl
+        (rung numbers (not (fewEnough card)) refl
+        (rung numbers (not (swizzleFits card)) refl refl)))))
+
+pub admission-in-numbers : (card : Card) (r : Admission) → r ≡ admission card → admissionNumbers r ≡ afterSix card (answer 0 0 0 0)
+admission-in-numbers card r e =
+    after-six card (admissionNumbers r) (answer 0 0 0 0) (λ s h. ap admissionNumbers (e ∙ h)) (λ h. ap admissionNumbers (e ∙ h))
 
 -- two lists of iters that differ past the count alone
 pub record Alike (a b : Iters) : Type 0 where

@@ -45,16 +45,22 @@ fewEnough card = leb (elements card) mostElements && leb (copies card) mostCopie
 abbrev pub swizzleFits : Card → Bool
 swizzleFits card = permitted (card .swizzle .m) (card .swizzle .b) (card .swizzle .s)
 
--- the first check that a card fails refuses it
-unfoldable pub admission : Card → Admission
-admission card =
+-- checks 1 to 3, and what comes where a card passes them: the first check that it fails refuses it
+abbrev pub fieldChecks : Card → Admission → Admission
+fieldChecks card then =
     cond (not (countsFit card)) (Refused Counts)
     (cond (not (numbersFit card)) (Refused Limits)
     (cond (not (axesFit card)) (Refused Axis)
+    then))
+
+-- checks 1 to 6
+unfoldable pub admission : Card → Admission
+admission card =
+    fieldChecks card
     (cond (not (spaceFits (card .lengths))) (Refused Space)
     (cond (not (fewEnough card)) (Refused TooMany)
     (cond (not (swizzleFits card)) (Refused Swizzle)
-    Admitted)))))
+    Admitted)))
 
 -- an admission has no details
 abbrev pub admissionNumbers : Admission → Numbers

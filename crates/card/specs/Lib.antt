@@ -2,4 +2,4 @@ pub mod Lists
 pub mod Limits
 pub mod Card
 pub mod Admission
-pub mod Inside
+pub mod Packed

@@ -14,7 +14,7 @@ use lib.Seq.{drop-cons, getD-set-same, getD-set-other, lt-length-set}
 use borrow.Author.Tests.{eq-eqb, eqb-true, ltb-true, ltb-false}
 use Rattle.laws.proofs.Order.{le-or-lt}
 use Rattle.claims.specs.Claims.{Layout, Claims, taken, occupied}
-use Rattle.claims.specs.Rows.{Row, Within, smaller, least, entryMet, cellWith, cellMet, written}
+use Rattle.claims.specs.Rows.{RowOf, Within, minSome, least, entryMet, cellWith, cellMet, rowWritten}
 
 -- cell c is one of a row's
 pub record Among (row : List ℕ) (c : ℕ) : Type 0 where
@@ -39,7 +39,7 @@ nowhere : (c : ℕ) → Among [] c → ⊥
 nowhere c a = not-suc-le-zero (a .below)
 
 -- the cells of an element's row are those that it claims
-module _ (p : Layout) (f : ℕ) (row : List ℕ) (is : Row p f row) (c : ℕ) where
+module _ (p : Layout) (f : ℕ) (row : List ℕ) (is : RowOf p f row) (c : ℕ) where
   pub among-claims : Among row c → Claims p f c
   among-claims a =
       let below : a .place < p .copies = omega (arith, is .size) in
@@ -50,7 +50,7 @@ module _ (p : Layout) (f : ℕ) (row : List ℕ) (is : Row p f row) (c : ℕ) wh
       record { place = k .copy; below = omega (arith, is .size); there = is .cells (k .copy) (k .below) ∙ k .there }
 
 -- the smaller of two numbers by tests
-pub smaller-test : (best found : ℕ) → cond (not (eqb found 0) && (eqb best 0 || ltb found best)) found best ≡ smaller best found
+pub smaller-test : (best found : ℕ) → cond (not (eqb found 0) && (eqb best 0 || ltb found best)) found best ≡ minSome best found
 smaller-test best zero = refl
 smaller-test zero (suc found) = rw (eqb·suc-zero found)
 smaller-test (suc best) (suc found) = rw (eqb·suc-zero found, eqb·suc-zero best) (split (ltb (suc found) (suc best)) refl)
@@ -60,57 +60,60 @@ smaller-test (suc best) (suc found) = rw (eqb·suc-zero found, eqb·suc-zero bes
     split false t = omega (arith, ltb-false (suc found) (suc best) t)
 
 -- a number stands before another, where 0 stands for none
-Before : ℕ → ℕ → Type 0
+abbrev Before : ℕ → ℕ → Type 0
 Before m v = 0 < v → (0 < m) × (m ≤ v)
 
-before-both : (best found : ℕ) → Before (smaller best found) best × Before (smaller best found) found
-unfolding Before
-before-both best zero = (λ h. omega arith, λ h. omega arith)
-before-both zero (suc found) = (λ h. omega arith, λ h. omega arith)
-before-both (suc best) (suc found) = (λ h. omega arith, λ h. omega arith)
+-- the smaller of two stands before both, and is one of them
+pub record Smaller (a b m : ℕ) : Type 0 where
+  pub first : Before m a
+  pub second : Before m b
+  pub one : (m ≡ a) ⊎ (m ≡ b)
 
-one-of-both : (best found : ℕ) → (smaller best found ≡ best) ⊎ (smaller best found ≡ found)
-one-of-both best zero = inl refl
-one-of-both zero (suc found) = inr refl
-one-of-both (suc best) (suc found) = ⊎-elim (λ (h : best ≤ found). inl (omega arith)) (λ (h : found < best). inr (omega arith)) (le-or-lt best found)
+pub smaller-is : (a b : ℕ) → Smaller a b (minSome a b)
+smaller-is a zero = record { first = λ h. omega arith; second = λ h. omega arith; one = inl refl }
+smaller-is zero (suc b) = record { first = λ h. omega arith; second = λ h. omega arith; one = inr refl }
+smaller-is (suc a) (suc b) =
+    record {
+      first = λ h. omega arith;
+      second = λ h. omega arith;
+      one = ⊎-elim (λ (h : a ≤ b). inl (omega arith)) (λ (h : b < a). inr (omega arith)) (le-or-lt a b);
+    }
 
 -- the smallest value of a row stands before each cell's, and is one of them
 module _ (value : ℕ → ℕ) where
   least-best : (row : List ℕ) (best : ℕ) → Before (least value row best) best
-  unfolding Before
   least-best [] best = λ h. omega arith
   least-best (d ∷ row) best = λ h.
-      let first = before-both best (value d) .0 h in
-      let rest = least-best row (smaller best (value d)) (first .0) in
+      let first = smaller-is best (value d) .first h in
+      let rest = least-best row (minSome best (value d)) (first .0) in
       omega arith
 
   least-before : (row : List ℕ) (best c : ℕ) → Among row c → Before (least value row best) (value c)
-  unfolding Before
   least-before [] best c a = absurd (nowhere c a)
   least-before (d ∷ row) best c a =
       ⊎-elim
       (λ (e : d ≡ c). λ h.
-      let first = before-both best (value d) .1 (subst (λ (x : ℕ). 0 < value x) (sym e) h) in
-      let rest = least-best row (smaller best (value d)) (first .0) in
+      let first = smaller-is best (value d) .second (subst (λ (x : ℕ). 0 < value x) (sym e) h) in
+      let rest = least-best row (minSome best (value d)) (first .0) in
       let same = ap value e in
       omega arith)
-      (λ (b : Among row c). least-before row (smaller best (value d)) c b)
+      (λ (b : Among row c). least-before row (minSome best (value d)) c b)
       (here-or-later d row c a)
 
   least-found : (row : List ℕ) (best : ℕ) → (least value row best ≡ best) ⊎ ((c : ℕ) × Among row c × (value c ≡ least value row best))
   least-found [] best = inl refl
   least-found (d ∷ row) best =
       ⊎-elim
-      (λ (e : least value row (smaller best (value d)) ≡ smaller best (value d)).
+      (λ (e : least value row (minSome best (value d)) ≡ minSome best (value d)).
       ⊎-elim
-      (λ (b : smaller best (value d) ≡ best). inl (e ∙ b))
-      (λ (b : smaller best (value d) ≡ value d). inr (d, here d row d refl, sym (e ∙ b)))
-      (one-of-both best (value d)))
-      (λ (f : (c : ℕ) × Among row c × (value c ≡ least value row (smaller best (value d)))). inr (f .0, later d (f .1), f .2))
-      (least-found row (smaller best (value d)))
+      (λ (b : minSome best (value d) ≡ best). inl (e ∙ b))
+      (λ (b : minSome best (value d) ≡ value d). inr (d, here d row d refl, sym (e ∙ b)))
+      (smaller-is best (value d) .one))
+      (λ (f : (c : ℕ) × Among row c × (value c ≡ least value row (minSome best (value d)))). inr (f .0, later d (f .1), f .2))
+      (least-found row (minSome best (value d)))
 
   -- and over a row whose cells up to i have been looked at
-  pub least-step : (row : List ℕ) (i best : ℕ) → i < length row → least value (drop (i + 1) row) (smaller best (value (getD row i 0))) ≡ least value (drop i row) best
+  pub least-step : (row : List ℕ) (i best : ℕ) → i < length row → least value (drop (i + 1) row) (minSome best (value (getD row i 0))) ≡ least value (drop i row) best
   least-step row i best h = rw (add-one i, drop-cons row i 0 h)
 
   pub least-done : (row : List ℕ) (i best : ℕ) → length row ≤ i → least value (drop i row) best ≡ best
@@ -119,7 +122,6 @@ module _ (value : ℕ → ℕ) where
 module _ (table row : List ℕ) where
   -- where a row meets nobody, each of its cells is nobody's
   pub met-nobody : entryMet table row ≡ 0 → (c : ℕ) → Among row c → getD table c 0 ≡ 0
-  unfolding Before
   met-nobody e c a =
       ⊎-elim (λ (h : getD table c 0 ≡ 0). h)
       (λ (h : 0 < getD table c 0). absurd (omega (arith, least-before (λ d. getD table d 0) row 0 c a h)))
@@ -132,7 +134,6 @@ module _ (table row : List ℕ) where
       (least-found (λ c. getD table c 0) row 0)
 
   pub met-smallest : (c : ℕ) → Among row c → 0 < getD table c 0 → entryMet table row ≤ getD table c 0
-  unfolding Before
   met-smallest c a h = least-before (λ d. getD table d 0) row 0 c a h .1
 
   -- the smallest cell that has an entry which some cell of the row has
@@ -159,7 +160,7 @@ pub record SmallestCell (table : List ℕ) (entry : ℕ) (row : List ℕ) (cell 
   pub smallest : (c : ℕ) → Among row c → getD table c 0 ≡ entry → cell ≤ c
 
 pub cell-met : (table : List ℕ) (entry : ℕ) (row : List ℕ) (c : ℕ) → Among row c → getD table c 0 ≡ entry → SmallestCell table entry row (cellMet table entry row - 1)
-unfolding Before value
+unfolding value
 cell-met table entry row c a e =
     let met : ℕ = cellMet table entry row in
     let before : (d : ℕ) → Among row d → getD table d 0 ≡ entry → (0 < met) × (met ≤ d + 1) =
@@ -177,20 +178,20 @@ cell-met table entry row c a e =
 
 -- a row that meets somebody shares a cell
 pub cell-found : (table row : List ℕ) → 0 < entryMet table row → 0 < cellMet table (entryMet table row) row
-unfolding Before value
+unfolding value
 cell-found table row h =
     let some = met-somebody table row h in
     let has = value-has table row (entryMet table row) (some .0) (some .2) in
     least-before (value table row (entryMet table row)) row 0 (some .0) (some .1) (omega arith) .0
 
 module _ (entry : ℕ) where
-  pub written-step : (row table : List ℕ) (i : ℕ) → i < length row → written entry (drop (i + 1) row) (set table (getD row i 0) entry) ≡ written entry (drop i row) table
+  pub written-step : (row table : List ℕ) (i : ℕ) → i < length row → rowWritten entry (drop (i + 1) row) (set table (getD row i 0) entry) ≡ rowWritten entry (drop i row) table
   written-step row table i h = rw (add-one i, drop-cons row i 0 h)
 
-  pub written-done : (row table : List ℕ) (i : ℕ) → length row ≤ i → written entry (drop i row) table ≡ table
+  pub written-done : (row table : List ℕ) (i : ℕ) → length row ≤ i → rowWritten entry (drop i row) table ≡ table
   written-done row table i h = rw (drop-of-length-le row h)
 
-  pub written-length : (row table : List ℕ) → length (written entry row table) ≡ length table
+  pub written-length : (row table : List ℕ) → length (rowWritten entry row table) ≡ length table
   written-length [] table = refl
   written-length (d ∷ row) table = written-length row (set table d entry) ∙ length-set table d entry
 
@@ -199,17 +200,17 @@ module _ (entry : ℕ) where
 
   -- each cell is a row's, and has the entry, or is none, and has what it had
   pub written-at : (row table : List ℕ) → Within row table → (c : ℕ) →
-      (Among row c × (getD (written entry row table) c 0 ≡ entry)) ⊎ ((Among row c → ⊥) × (getD (written entry row table) c 0 ≡ getD table c 0))
+      (Among row c × (getD (rowWritten entry row table) c 0 ≡ entry)) ⊎ ((Among row c → ⊥) × (getD (rowWritten entry row table) c 0 ≡ getD table c 0))
   written-at [] table w c = inr (nowhere c, refl)
   written-at (d ∷ row) table w c =
       ⊎-elim
-      (λ (is : Among row c × (getD (written entry row (set table d entry)) c 0 ≡ entry)). inl (later d (is .0), is .1))
-      (λ (not : (Among row c → ⊥) × (getD (written entry row (set table d entry)) c 0 ≡ getD (set table d entry) c 0)).
+      (λ (is : Among row c × (getD (rowWritten entry row (set table d entry)) c 0 ≡ entry)). inl (later d (is .0), is .1))
+      (λ (not : (Among row c → ⊥) × (getD (rowWritten entry row (set table d entry)) c 0 ≡ getD (set table d entry) c 0)).
       first (not .0) (not .1) (ℕ-discrete d c))
       (written-at row (set table d entry) (within-rest d row table w) c)
     where
       after : List ℕ
-      after = written entry (d ∷ row) table
+      after = rowWritten entry (d ∷ row) table
 
       first : (Among row c → ⊥) → getD after c 0 ≡ getD (set table d entry) c 0 → Dec (d ≡ c) →
           (Among (d ∷ row) c × (getD after c 0 ≡ entry)) ⊎ ((Among (d ∷ row) c → ⊥) × (getD after c 0 ≡ getD table c 0))
@@ -239,12 +240,12 @@ occupied-set (d ∷ table) zero entry h = omega arith
 occupied-set (d ∷ table) (suc c) entry h = omega (arith, occupied-set table c entry (le-of-suc-le-suc h))
 
 -- writing a row occupies no fewer cells, and more where its first cell was nobody's
-pub occupied-written : (entry : ℕ) (row table : List ℕ) → 0 < entry → Within row table → occupied table ≤ occupied (written entry row table)
+pub occupied-written : (entry : ℕ) (row table : List ℕ) → 0 < entry → Within row table → occupied table ≤ occupied (rowWritten entry row table)
 occupied-written entry [] table p w = omega arith
 occupied-written entry (d ∷ row) table p w =
     omega (arith, occupied-set table d entry (w 0 (omega arith)), taken-owned entry p, taken-most (getD table d 0), occupied-written entry row (set table d entry) p (within-rest entry d row table w))
 
-pub occupied-claimed : (entry : ℕ) (row table : List ℕ) → 0 < entry → Within row table → 0 < length row → entryMet table row ≡ 0 → occupied table < occupied (written entry row table)
+pub occupied-claimed : (entry : ℕ) (row table : List ℕ) → 0 < entry → Within row table → 0 < length row → entryMet table row ≡ 0 → occupied table < occupied (rowWritten entry row table)
 occupied-claimed entry [] table p w h e = absurd (omega arith)
 occupied-claimed entry (d ∷ row) table p w h e =
     let free : getD table d 0 ≡ 0 = met-nobody table (d ∷ row) e d (here d row d refl) in

@@ -5,8 +5,9 @@ use Prim.Native.Nat.{ℕ, zero, suc, _+_, _<_}
 use native.Mathlib.Nat.{zero-add}
 use native.Mathlib.Omega.{arith}
 use lib.ListN.{length, getD, replicate, length-replicate}
-use Rattle.claims.specs.Claims.{Layout, Inside, Owners, ClaimsComeTo}
-use Rattle.claims.specs.Rows.{Row, entryMet, written}
+use Rattle.claims.specs.Claims.{Layout, Owners}
+use Rattle.claims.specs.Outcome.{Inside, ClaimsComeTo}
+use Rattle.claims.specs.Rows.{RowOf, entryMet, rowWritten}
 use Rattle.claims.specs.Run.{rowFrom, claimFrom, run}
 use Rattle.claims.proofs.Rows.{written-length}
 use Rattle.claims.proofs.Steps.{row-within, owners-none, owners-more, clash-first}
@@ -21,7 +22,7 @@ module _ (at : ℕ → ℕ) where
   row-at (suc k) r zero h = ap at (omega arith)
   row-at (suc k) r (suc i) h = row-at k (r + 1) i (omega arith) ∙ ap at (omega arith)
 
-row-is : (p : Layout) (f : ℕ) → Row p f (rowFrom (p .at f) (p .copies) 0)
+row-is : (p : Layout) (f : ℕ) → RowOf p f (rowFrom (p .at f) (p .copies) 0)
 row-is p f =
     record {
       size = row-length (p .at f) (p .copies) 0;
@@ -36,7 +37,7 @@ module _ (p : Layout) (n cells : ℕ) (inside : Inside p n cells) where
   step left y table h l o next zero q =
       let row = rowFrom (p .at y) (p .copies) 0 in
       let w = row-within p n table (rw l inside) y row h (row-is p y) in
-      rw (q, claimFrom) (next (written (y + 1) row table) (written-length (y + 1) row table ∙ l) (owners-more p y table o row (row-is p y) w q))
+      rw (q, claimFrom) (next (rowWritten (y + 1) row table) (written-length (y + 1) row table ∙ l) (owners-more p y table o row (row-is p y) w q))
   step left y table h l o next (suc x) q =
       let row = rowFrom (p .at y) (p .copies) 0 in
       rw (q, claimFrom) (clash-first p y table o row (row-is p y) n h (omega arith))

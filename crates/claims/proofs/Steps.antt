@@ -8,8 +8,9 @@ use native.Mathlib.Nat.{eq-or-lt-of-le}
 use native.Mathlib.Omega.{arith}
 use lib.ListN.{length, getD, replicate}
 use Rattle.laws.proofs.Order.{le-or-lt}
-use Rattle.claims.specs.Claims.{Layout, Claims, Inside, Owners, occupied, FirstClash}
-use Rattle.claims.specs.Rows.{Row, Within, entryMet, cellMet, written, RowClaim}
+use Rattle.claims.specs.Claims.{Layout, Claims, Owners, occupied, FirstClash}
+use Rattle.claims.specs.Outcome.{Inside}
+use Rattle.claims.specs.Rows.{RowOf, Within, entryMet, cellMet, rowWritten, RowClaim}
 use Rattle.claims.proofs.Rows.{Among, among-claims, claims-among, met-nobody, met-somebody, met-smallest, cell-met, written-at, occupied-claimed}
 
 nobody : (n c : ℕ) → _≡_ {A = ℕ} (getD (replicate n 0) c 0) 0
@@ -22,7 +23,7 @@ pub owners-none : (p : Layout) (cells : ℕ) → Owners p 0 (replicate cells 0)
 owners-none p cells = λ f c. (λ e. absurd (omega (arith, nobody cells c)), λ h. absurd (omega (arith, h .0)))
 
 -- where every copy lies in the cells, each element's row lies in the table of the cells
-pub row-within : (p : Layout) (n : ℕ) (table : List ℕ) → Inside p n (length table) → (y : ℕ) (row : List ℕ) → y < n → Row p y row → Within row table
+pub row-within : (p : Layout) (n : ℕ) (table : List ℕ) → Inside p n (length table) → (y : ℕ) (row : List ℕ) → y < n → RowOf p y row → Within row table
 row-within p n table inside y row h is = λ r k.
     let below : r < p .copies = omega (arith, is .size) in omega (arith, is .cells r below, inside y r h below)
 
@@ -31,18 +32,18 @@ pub claim-none : (row : List ℕ) (f : ℕ) (table : List ℕ) → 0 < entryMet 
 claim-none row f table h = record { met = λ e. (h, refl); claimed = λ k. absurd (omega arith); counted = omega arith }
 
 pub claim-all : (row : List ℕ) (f newly : ℕ) (before after : List ℕ) → Within row before → 0 < length row → entryMet before row ≡ 0
-    → after ≡ written (f + 1) row before → newly + occupied before ≡ occupied after → RowClaim row f newly before after
+    → after ≡ rowWritten (f + 1) row before → newly + occupied before ≡ occupied after → RowClaim row f newly before after
 claim-all row f newly before after w h free e counted =
     let more = rw (sym e) at (occupied-claimed (f + 1) row before (omega arith) w h free) in
     record { met = λ none. absurd (omega arith); claimed = λ k. (free, e); counted = counted }
 
-module _ (p : Layout) (y : ℕ) (table : List ℕ) (owners : Owners p y table) (row : List ℕ) (is : Row p y row) where
+module _ (p : Layout) (y : ℕ) (table : List ℕ) (owners : Owners p y table) (row : List ℕ) (is : RowOf p y row) where
   -- element y's row meets nobody: with the row written the table has the owners of one element more
-  pub owners-more : Within row table → entryMet table row ≡ 0 → Owners p (y + 1) (written (y + 1) row table)
+  pub owners-more : Within row table → entryMet table row ≡ 0 → Owners p (y + 1) (rowWritten (y + 1) row table)
   owners-more w free f c =
       let last : f < y + 1 → (f ≡ y) ⊎ (f < y) = λ h. eq-or-lt-of-le (omega arith) in
       ⊎-elim
-      (λ (mine : Among row c × (getD (written (y + 1) row table) c 0 ≡ y + 1)). (
+      (λ (mine : Among row c × (getD (rowWritten (y + 1) row table) c 0 ≡ y + 1)). (
         λ e.
             let same : y ≡ f = omega arith in
             (omega arith, subst (λ (n : ℕ). Claims p n c) same (among-claims p y row is c (mine .0))),
@@ -51,7 +52,7 @@ module _ (p : Layout) (y : ℕ) (table : List ℕ) (owners : Owners p y table) (
             (λ (less : f < y). absurd (omega (arith, owners f c .1 (less, h .1), met-nobody table row free c (mine .0))))
             (last (h .0)),
       ))
-      (λ (other : (Among row c → ⊥) × (getD (written (y + 1) row table) c 0 ≡ getD table c 0)). (
+      (λ (other : (Among row c → ⊥) × (getD (rowWritten (y + 1) row table) c 0 ≡ getD table c 0)). (
         λ e.
             let before = owners f c .0 (sym (other .1) ∙ e) in
             (omega arith, before .1),
@@ -72,9 +73,9 @@ module _ (p : Layout) (y : ℕ) (table : List ℕ) (owners : Owners p y table) (
       let owner = owners x (cellMet table entry row - 1) .0 (omega (arith, cell .has)) in
       record {
         element = h;
-        smaller = owner .0;
+        ordered = owner .0;
         shared = record { one = owner .1; other = among-claims p y row is _ (cell .among) };
-        smallest-y = λ a b c less s.
+        smallest-y = λ a b c less below s.
             ⊎-elim (λ (k : y ≤ b). omega arith)
             (λ (k : b < y). absurd (omega (arith, owners a c .1 (omega arith, s .one), owners b c .1 (k, s .other))))
             (le-or-lt y b);
@@ -89,7 +90,7 @@ module _ (p : Layout) (y : ℕ) (table : List ℕ) (owners : Owners p y table) (
       }
 
 -- the two steps of the loop over the elements, from what claiming row y ensures
-module _ (p : Layout) (y : ℕ) (before : List ℕ) (owners : Owners p y before) (row : List ℕ) (is : Row p y row) (newly : ℕ) (after : List ℕ)
+module _ (p : Layout) (y : ℕ) (before : List ℕ) (owners : Owners p y before) (row : List ℕ) (is : RowOf p y row) (newly : ℕ) (after : List ℕ)
     (claim : RowClaim row y newly before after) where
   pub claimed-owners : Within row before → 0 < newly → Owners p (y + 1) after
   claimed-owners w h =

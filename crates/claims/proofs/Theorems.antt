@@ -7,7 +7,8 @@ use native.Mathlib.Nat.{le-antisymm}
 use native.Mathlib.Omega.{arith}
 use lib.ListN.{length, getD}
 use lib.Seq.{ext-getD}
-use Rattle.claims.specs.Claims.{Layout, Claims, Inside, NoneShare, Owners, OwnedTable, FirstClash, Outcome, Owned, Clash, ClaimsComeTo}
+use Rattle.claims.specs.Claims.{Layout, Claims, Owners, OwnedTable, FirstClash}
+use Rattle.claims.specs.Outcome.{Inside, NoneShare, Outcome, Owned, Clash, ClaimsComeTo}
 use Rattle.claims.specs.Run.{run}
 use Rattle.claims.proofs.Run.{run-comes}
 
@@ -29,12 +30,12 @@ module _ (p : Layout) (n : ℕ) where
 
   -- where two elements clash, two different elements share a cell
   pub clash-shares : (x y cell : ℕ) → FirstClash p n x y cell → NoneShare p n → ⊥
-  clash-shares x y cell k none = omega (arith, k .smaller, none x y cell (omega (arith, k .smaller, k .element)) (k .element) (k .shared))
+  clash-shares x y cell k none = omega (arith, k .ordered, none x y cell (omega (arith, k .ordered, k .element)) (k .element) (k .shared))
 
   -- there is one first clash
   module _ (x y cell x′ y′ cell′ : ℕ) (k : FirstClash p n x y cell) (k′ : FirstClash p n x′ y′ cell′) where
     same-y : y ≡ y′
-    same-y = le-antisymm (k .smallest-y x′ y′ cell′ (k′ .smaller) (k′ .shared)) (k′ .smallest-y x y cell (k .smaller) (k .shared))
+    same-y = le-antisymm (k .smallest-y x′ y′ cell′ (k′ .ordered) (k′ .element) (k′ .shared)) (k′ .smallest-y x y cell (k .ordered) (k .element) (k .shared))
 
     same-x : x ≡ x′
     same-x =
@@ -99,10 +100,10 @@ module _ (p : Layout) (n : ℕ) (table : List ℕ) (owners : Owners p n table) (
 
 -- two copies of one element in one cell are no clash: the two of a clash are different elements, so one alone has none
 pub clash-differs : (p : Layout) (n x y cell : ℕ) → FirstClash p n x y cell → x ≡ y → ⊥
-clash-differs p n x y cell k e = omega (arith, k .smaller)
+clash-differs p n x y cell k e = omega (arith, k .ordered)
 
 pub copies-no-clash : (p : Layout) (x y cell : ℕ) → FirstClash p 1 x y cell → ⊥
-copies-no-clash p x y cell k = omega (arith, k .smaller, k .element)
+copies-no-clash p x y cell k = omega (arith, k .ordered, k .element)
 
 -- two copies of element 0 in cell 1, and element 1 in cell 0: two occupied cells
 both-in-one : run (record { copies = 2; at = λ f r. 1 - f }) 2 3 ≡ Owned (2 ∷ 1 ∷ 0 ∷ []) 2

@@ -21,14 +21,6 @@ pub record Share (p : Layout) (x y c : ℕ) : Type 0 where
   pub one : Claims p x c
   pub other : Claims p y c
 
--- every copy of the n elements lies in the cells
-abbrev pub Inside : Layout → ℕ → ℕ → Type 0
-Inside p n cells = (f r : ℕ) → f < n → r < p .copies → p .at f r < cells
-
--- no two different elements share a cell
-abbrev pub NoneShare : Layout → ℕ → Type 0
-NoneShare p n = (x y c : ℕ) → x < n → y < n → Share p x y c → x ≡ y
-
 -- the owners of n elements: the entry of cell c is f + 1 exactly when f is one of the elements and claims c; past the table there is no entry, so
 -- no element claims a cell there
 abbrev pub Owners : Layout → ℕ → List ℕ → Type 0
@@ -52,17 +44,8 @@ pub record OwnedTable (p : Layout) (n cells : ℕ) (table : List ℕ) (count : �
 -- y is the smallest flat sharing a cell with a smaller one, x the smallest it shares with, and the cell the smallest they share
 pub record FirstClash (p : Layout) (n x y cell : ℕ) : Type 0 where
   pub element : y < n
-  pub smaller : x < y
+  pub ordered : x < y
   pub shared : Share p x y cell
-  pub smallest-y : (a b c : ℕ) → a < b → Share p a b c → y ≤ b
+  pub smallest-y : (a b c : ℕ) → a < b → b < n → Share p a b c → y ≤ b
   pub smallest-x : (a c : ℕ) → Share p a y c → x ≤ a
   pub smallest-cell : (c : ℕ) → Share p x y c → cell ≤ c
-
--- what the claims of n elements come to in so many cells
-pub data Outcome : Type 0 where
-  Owned : (table : List ℕ) (count : ℕ) → Outcome
-  Clash : (x y cell : ℕ) → Outcome
-
-abbrev pub ClaimsComeTo : Layout → ℕ → ℕ → Outcome → Type 0
-ClaimsComeTo p n cells (Owned table count) = OwnedTable p n cells table count
-ClaimsComeTo p n cells (Clash x y cell) = FirstClash p n x y cell

@@ -1,3 +1,4 @@
 pub mod Claims
+pub mod Outcome
 pub mod Rows
 pub mod Run

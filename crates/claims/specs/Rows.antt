@@ -9,7 +9,7 @@ use lib.ListN.{length, getD, set}
 use Rattle.claims.specs.Claims.{Layout, occupied}
 
 -- a row of element f: where its copies go
-pub record Row (p : Layout) (f : ℕ) (row : List ℕ) : Type 0 where
+pub record RowOf (p : Layout) (f : ℕ) (row : List ℕ) : Type 0 where
   pub size : length row ≡ p .copies
   pub cells : (r : ℕ) → r < p .copies → getD row r 0 ≡ p .at f r
 
@@ -18,15 +18,15 @@ abbrev pub Within : List ℕ → List ℕ → Type 0
 Within row table = (r : ℕ) → r < length row → getD row r 0 < length table
 
 -- the smaller of two numbers, where 0 stands for none
-abbrev pub smaller : ℕ → ℕ → ℕ
-smaller best zero = best
-smaller zero (suc found) = suc found
-smaller (suc best) (suc found) = min (suc best) (suc found)
+abbrev pub minSome : ℕ → ℕ → ℕ
+minSome best zero = best
+minSome zero (suc found) = suc found
+minSome (suc best) (suc found) = min (suc best) (suc found)
 
 -- the smallest value of a row's cells, from the best so far
 abbrev pub least : (ℕ → ℕ) → List ℕ → ℕ → ℕ
 least value [] best = best
-least value (c ∷ row) best = least value row (smaller best (value c))
+least value (c ∷ row) best = least value row (minSome best (value c))
 
 -- the smallest entry that a row meets, 0 where all its cells are nobody's
 abbrev pub entryMet : List ℕ → List ℕ → ℕ
@@ -40,13 +40,13 @@ abbrev pub cellMet : List ℕ → ℕ → List ℕ → ℕ
 cellMet table entry row = least (λ c. cellWith (getD table c 0) entry c) row 0
 
 -- the table with an entry written to each cell of a row
-abbrev pub written : ℕ → List ℕ → List ℕ → List ℕ
-written entry [] table = table
-written entry (c ∷ row) table = written entry row (set table c entry)
+abbrev pub rowWritten : ℕ → List ℕ → List ℕ → List ℕ
+rowWritten entry [] table = table
+rowWritten entry (c ∷ row) table = rowWritten entry row (set table c entry)
 
 -- element f claims a row, which occupies so many cells newly: none, where the row meets somebody, and then the table stays as it was; else
 -- each cell of the row is written
 pub record RowClaim (row : List ℕ) (f newly : ℕ) (before after : List ℕ) : Type 0 where
   pub met : newly ≡ 0 → (0 < entryMet before row) × (after ≡ before)
-  pub claimed : 0 < newly → (entryMet before row ≡ 0) × (after ≡ written (f + 1) row before)
+  pub claimed : 0 < newly → (entryMet before row ≡ 0) × (after ≡ rowWritten (f + 1) row before)
   pub counted : newly + occupied before ≡ occupied after

@@ -3,8 +3,9 @@
 use mathlib.Core.List.{List, [], _∷_}
 use Prim.Native.Nat.{ℕ, zero, suc, _+_, _-_}
 use lib.ListN.{replicate}
-use Rattle.claims.specs.Claims.{Layout, Outcome, Owned, Clash, occupied}
-use Rattle.claims.specs.Rows.{entryMet, cellMet, written}
+use Rattle.claims.specs.Claims.{Layout, occupied}
+use Rattle.claims.specs.Outcome.{Outcome, Owned, Clash}
+use Rattle.claims.specs.Rows.{entryMet, cellMet, rowWritten}
 
 -- where so many copies go, from copy r on
 abbrev pub rowFrom : (ℕ → ℕ) → ℕ → ℕ → List ℕ
@@ -17,7 +18,7 @@ claimFrom p zero y table = Owned table (occupied table)
 claimFrom p (suc left) y table =
     let row = rowFrom (p .at y) (p .copies) 0 in
     elim (entryMet table row) [
-      | zero ↦ claimFrom p left (y + 1) (written (y + 1) row table)
+      | zero ↦ claimFrom p left (y + 1) (rowWritten (y + 1) row table)
       | suc x ↦ Clash (entryMet table row - 1) y (cellMet table (entryMet table row) row - 1)
     ]
 

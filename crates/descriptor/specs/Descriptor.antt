@@ -34,17 +34,9 @@ fieldsOf d =
       shift = bits 6 56 d;
     }
 
--- a record of zeros
+-- a record of zeros: what 64 bits of 0 hold
 abbrev pub noFields : Fields
-noFields =
-    record {
-      «start_counts» = 0 ∷ 0 ∷ 0 ∷ 0 ∷ [];
-      «first_spans» = false ∷ false ∷ false ∷ false ∷ [];
-      «non_zero» = false;
-      «skip_span» = 0;
-      «use_span» = 0;
-      shift = 0;
-    }
+noFields = fieldsOf 0
 
 -- bits 36-38 or 62-63 are set
 abbrev pub reserved : ℕ → Bool

@@ -8,6 +8,7 @@ use borrow.Author.Tests.{eqb-true}
 use lib.Dec.{eqb}
 use lib.ListN.{getD}
 use Rattle.laws.proofs.Below.{below, below-at}
+use Rattle.laws.proofs.Tests.{three-of}
 use Rattle.fragment.specs.declared.Place.{Place}
 use Rattle.fragment.specs.declared.Slot.{Slot}
 use Rattle.fragment.specs.Kinds.{_&_, rows, columns, computations, computation, registers, at, place}
@@ -69,10 +70,9 @@ slots-equal s t e =
 places-equal : (p r : Place) → same-place p r ≡ true → p ≡ r
 unfolding same-place
 places-equal p r e =
-    let both = and-eq-true-iff (eqb (p .computation) (r .computation) && eqb (p .row) (r .row)) (eqb (p .column) (r .column)) .0 e in
-    let two = and-eq-true-iff (eqb (p .computation) (r .computation)) (eqb (p .row) (r .row)) .0 (both .0) in
-    ap₂ (λ (c row : ℕ). at c row (p .column)) (eqb-true (p .computation) (r .computation) (two .0)) (eqb-true (p .row) (r .row) (two .1))
-    ∙ ap (at (r .computation) (r .row)) (eqb-true (p .column) (r .column) (both .1))
+    let all = three-of (eqb (p .computation) (r .computation)) (eqb (p .row) (r .row)) (eqb (p .column) (r .column)) e in
+    ap₂ (λ (c row : ℕ). at c row (p .column)) (eqb-true (p .computation) (r .computation) (all .0)) (eqb-true (p .row) (r .row) (all .1))
+    ∙ ap (at (r .computation) (r .row)) (eqb-true (p .column) (r .column) (all .2))
 
 -- what a register holds is a place of its kind, and leads back to the register
 pub slot-back : (kind lane i : ℕ) → isSlot kind lane i ≡ true

@@ -1,10 +1,11 @@
 -- The bounds of the two questions in numbers: what follows for lane, register, computation, row and column.
 use mathlib.Core.Path.{_≡_, refl}
-use mathlib.Core.Bool.{true, _&&_, and-eq-true-iff}
+use mathlib.Core.Bool.{true}
 use Prim.Native.Nat.{ℕ, _≤_, _<_}
 use borrow.Author.Tests.{ltb-true, leb-true}
 use lib.Dec.{ltb, leb}
 use Rattle.laws.proofs.Below.{below, below-at}
+use Rattle.laws.proofs.Tests.{three-of, four-of}
 use Rattle.fragment.specs.declared.Place.{Place}
 use Rattle.fragment.specs.Kinds.{rows, columns, computations, registers}
 use Rattle.fragment.specs.Fragment.{isSlot, isPlace}
@@ -36,13 +37,12 @@ pub record OfSlot (kind lane i : ℕ) : Type 0 where
 
 pub slot-numbers : (kind lane i : ℕ) → isSlot kind lane i ≡ true → OfSlot kind lane i
 slot-numbers kind lane i e =
-    let p2 = and-eq-true-iff (ltb kind 9 && ltb lane 32) (ltb i (registers kind)) .0 e in
-    let p1 = and-eq-true-iff (ltb kind 9) (ltb lane 32) .0 (p2 .0) in
-    let known = ltb-true kind 9 (p1 .0) in
+    let parts = three-of (ltb kind 9) (ltb lane 32) (ltb i (registers kind)) e in
+    let known = ltb-true kind 9 (parts .0) in
     record {
       known = known;
-      of-lane = ltb-true lane 32 (p1 .1);
-      of-register = ltb-true i (registers kind) (p2 .1);
+      of-lane = ltb-true lane 32 (parts .1);
+      of-register = ltb-true i (registers kind) (parts .2);
       sizes-of = sizes kind known;
     }
 
@@ -55,14 +55,12 @@ pub record OfPlace (kind : ℕ) (p : Place) : Type 0 where
 
 pub place-numbers : (kind : ℕ) (p : Place) → isPlace kind p ≡ true → OfPlace kind p
 place-numbers kind p e =
-    let p3 = and-eq-true-iff (ltb kind 9 && ltb (p .computation) (computations kind) && ltb (p .row) (rows kind)) (ltb (p .column) (columns kind)) .0 e in
-    let p2 = and-eq-true-iff (ltb kind 9 && ltb (p .computation) (computations kind)) (ltb (p .row) (rows kind)) .0 (p3 .0) in
-    let p1 = and-eq-true-iff (ltb kind 9) (ltb (p .computation) (computations kind)) .0 (p2 .0) in
-    let known = ltb-true kind 9 (p1 .0) in
+    let parts = four-of (ltb kind 9) (ltb (p .computation) (computations kind)) (ltb (p .row) (rows kind)) (ltb (p .column) (columns kind)) e in
+    let known = ltb-true kind 9 (parts .0) in
     record {
       known = known;
-      of-computation = ltb-true (p .computation) (computations kind) (p1 .1);
-      of-row = ltb-true (p .row) (rows kind) (p2 .1);
-      of-column = ltb-true (p .column) (columns kind) (p3 .1);
+      of-computation = ltb-true (p .computation) (computations kind) (parts .1);
+      of-row = ltb-true (p .row) (rows kind) (parts .2);
+      of-column = ltb-true (p .column) (columns kind) (parts .3);
       sizes-of = sizes kind known;
     }

@@ -1,11 +1,14 @@
 -- What the definitions of the kinds mean, in plain for-alls over what the first question answers, from the laws that lead forth and back.
-use mathlib.Core.Path.{_≡_, refl, sym, ap, _∙_}
+use mathlib.Core.Path.{_≡_, refl, sym, ap, _∙_, subst}
+use mathlib.Core.Logic.{_↔_}
 use mathlib.Core.Bool.{Bool, true, false, cond, true≢false}
 use Prim.Native.Nat.{ℕ}
 use native.Mathlib.Omega.{arith}
+use Rattle.answers.specs.Refusals.{answer}
 use Rattle.answers.specs.declared.Numbers.{Numbers}
 use Rattle.answers.specs.declared.Refusal.the-variants.{Fragment}
-use Rattle.answers.proofs.OneToOne.{readBack, refused-back, pinned}
+use Rattle.answers.proofs.OneToOne.{readBack, refused-back, pinned, rung}
+use Rattle.laws.proofs.Rungs.{apart, ended-at}
 use Rattle.fragment.specs.declared.Place.{Place}
 use Rattle.fragment.specs.declared.Slot.{Slot}
 use Rattle.fragment.specs.declared.Held.{Held}
@@ -22,14 +25,10 @@ Answers kind s p = heldAnswer kind (s .lane) (s .register) ≡ Holds p
 
 -- then there is such a register, and the place is its own
 answered : (kind : ℕ) (s : Slot) (p : Place) → Answers kind s p → (isSlot kind (s .lane) (s .register) ≡ true) × (place kind (s .lane) (s .register) ≡ p)
-answered kind s p = split (isSlot kind (s .lane) (s .register)) refl
-  where
-    own : Place
-    own = place kind (s .lane) (s .register)
-
-    split : (b : Bool) → isSlot kind (s .lane) (s .register) ≡ b → cond b (Holds own) (HoldsNot Fragment) ≡ Holds p → (isSlot kind (s .lane) (s .register) ≡ true) × (own ≡ p)
-    split true b e = (b, cc)
-    split false b e = let z : _≡_ {A = ℕ} 0 1 = cc in absurd (omega arith)
+answered kind s p e =
+    let held = ended-at (isSlot kind (s .lane) (s .register)) e (λ q. apart (cc)) in
+    let same = held .1 in
+    (held .0, cc)
 
 -- so the place lies inside the kind and leads back to the register
 stays-inside : (kind : ℕ) (s : Slot) (p : Place) → Answers kind s p → isPlace kind p ≡ true
@@ -106,3 +105,28 @@ holder-back (HeldByNone r) = refused-back held-by HeldByNone r
 
 pub holder-one-to-one : (g h : Holder) → holderNumbers g ≡ holderNumbers h → g ≡ h
 holder-one-to-one = pinned held-by HeldByNone holderNumbers holder-back
+
+-- in document 01's numbers: 0 and computation, row, column, or 14
+pub held-in-numbers : (kind lane i : ℕ) (r : Held) → r ≡ heldAnswer kind lane i
+    → heldNumbers r
+    ≡ cond (isSlot kind lane i) (let p = place kind lane i in answer 0 (p .computation) (p .row) (p .column)) (answer 14 0 0 0)
+held-in-numbers kind lane i r e = ap heldNumbers e ∙ rung heldNumbers (isSlot kind lane i) refl refl
+
+pub record HolderInNumbers (kind : ℕ) (p : Place) (n : Numbers) : Type 0 where
+  -- 0 and the lane and register of which the first question answers this place
+  pub held : (lane i : ℕ)
+      → (n ≡ answer 0 lane i 0) ↔ (heldNumbers (heldAnswer kind lane i) ≡ answer 0 (p .computation) (p .row) (p .column))
+  -- or 14
+  pub refused : (n ≡ answer 14 0 0 0) ↔ (isPlace kind p ≡ false)
+
+pub holder-in-numbers : (kind : ℕ) (p : Place) (r : Holder) → HolderAnswer kind p r → HolderInNumbers kind p (holderNumbers r)
+holder-in-numbers kind p r h = record {
+  held = λ lane i. (
+    λ e. ap heldNumbers (subst (HolderAnswer kind p) (holder-one-to-one r (HeldBy (by lane i)) e) h),
+    λ e. ap holderNumbers (holder-settled kind p r (HeldBy (by lane i)) h (held-one-to-one (heldAnswer kind lane i) (Holds p) e)),
+  );
+  refused = (
+    λ e. subst (HolderAnswer kind p) (holder-one-to-one r (HeldByNone Fragment) e) h .0,
+    λ e. ap holderNumbers (holder-settled kind p r (HeldByNone Fragment) h (e, refl)),
+  );
+}

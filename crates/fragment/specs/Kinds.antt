@@ -56,7 +56,3 @@ rows kind = getD (8 ∷ 8 ∷ 4 ∷ 4 ∷ 8 ∷ 8 ∷ 8 ∷ 4 ∷ 8 ∷ []) kind
 
 unfoldable pub columns : ℕ → ℕ
 columns kind = getD (4 ∷ 4 ∷ 8 ∷ 8 ∷ 8 ∷ 8 ∷ 4 ∷ 8 ∷ 8 ∷ []) kind 0
-
--- kind 5 is also kept as a table of 256 numbers: entry 8·lane+i holds 64·computation+8·row+column
-abbrev pub packed : Place → ℕ
-packed p = 64 * p .computation + 8 * p .row + p .column

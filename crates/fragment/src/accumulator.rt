@@ -1,7 +1,8 @@
 // Kind 5, C .f32, as a table: what each register of each lane holds.
 ghost use mathlib.Core.Path.{_≡_};
 ghost use Prim.Native.Nat.{_<_};
-ghost use Rattle.fragment.specs.Kinds.{place, packed};
+ghost use Rattle.fragment.specs.Kinds.{place};
+ghost use Rattle.fragment.specs.Table.{packed};
 
 // Entry 8·lane+i holds 64·computation+8·row+column.
 const ENTRIES: [u64; 256] = [

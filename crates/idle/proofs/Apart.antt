@@ -19,9 +19,9 @@ use Rattle.card.specs.Admission.{admission}
 use Rattle.card.specs.declared.Card.{Card}
 use Rattle.card.specs.declared.Admission.the-variants.{Admitted}
 use Rattle.card.proofs.Admitted.{Checked, checked}
-use Rattle.rules.specs.Rules.{axes, shardPart, offsetPart, replicaPart, sum, swizzledZ, finished, onAxis, coordinates, spot}
+use Rattle.rules.specs.Rules.{axes, part, sum, swizzledZ, finished, onAxis, coordinates, spot}
 use Rattle.rules.specs.declared.Spot.the-variants.{Inside}
-use Rattle.rules.proofs.Along.{axes-at}
+use Rattle.card.proofs.ReadBack.{eight-at}
 use Rattle.rules.proofs.Spots.{cells-equal}
 use Rattle.rules.proofs.Whole.{Lies, on-every-axis}
 use Rattle.idle.specs.Idle.{SameSums, NoIdlePair}
@@ -54,7 +54,7 @@ module _ (card : Card) (flat : ℕ) where
 
   finished-other : (r axis : ℕ) → axis < 8 → (axis ≡ lastAxis → ⊥) → getD (finished card flat r) axis (pos 0) ≡ sum card flat r axis
   finished-other r axis h other =
-      getD-set-other (map (sum card flat r) axes) lastAxis axis _ (pos 0) other ∙ axes-at (sum card flat r) (pos 0) axis h
+      getD-set-other (map (sum card flat r) axes) lastAxis axis _ (pos 0) other ∙ eight-at (sum card flat r) (pos 0) axis h
 
   -- the same finished coordinate is the same sum
   same-sum : permitted (card .swizzle .m) (card .swizzle .b) (card .swizzle .s) ≡ true → (r s axis : ℕ) → axis < 8
@@ -81,7 +81,7 @@ module _ (card : Card) (flat : ℕ) where
     -- two copies of one element in one cell are of combinations that give the same sums
     pub one-cell-same-sums : SameSums (card .replica) r s
     one-cell-same-sums axis h =
-        cancel (shardPart card flat axis +ℤ offsetPart card axis) (replicaPart card r axis) (replicaPart card s axis)
+        cancel (part (card .shard) flat axis +ℤ getD (card .offset) axis (pos 0)) (part (card .replica) r axis) (part (card .replica) s axis)
         (same-sum (passed .swizzle) r s axis h
         (apart-on-axis (getD (card .lengths) axis 0) (getD (finished card flat r) axis (pos 0)) (getD (finished card flat s) axis (pos 0))
         (on-every-axis card eight (passed .space) flat r cell here axis h)

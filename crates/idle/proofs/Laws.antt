@@ -13,10 +13,11 @@ use lib.Seq.{ext-getD}
 use Rattle.card.specs.Card.{size}
 use Rattle.card.specs.declared.Iters.{Iters}
 use Rattle.rules.specs.Rules.{part}
-use Rattle.rules.specs.Inside.{walked, Sums}
-use Rattle.rules.proofs.Along.{axes-at}
+use Rattle.rules.specs.Walked.{walked}
+use Rattle.copies.specs.Contracts.{Sums}
+use Rattle.card.proofs.ReadBack.{eight-at}
 use Rattle.idle.specs.Idle.{SameSums, IdlePair}
-use Rattle.idle.specs.Inside.{Says, zeros, NoneBelow, Twin, NoneBefore}
+use Rattle.idle.specs.Contracts.{Says, zeros, NoneBelow, Twin, NoneBefore}
 
 -- two lists agree in the first k places
 abbrev pub Agree : List ℤ → List ℤ → ℕ → Type 0
@@ -58,7 +59,7 @@ module _ (iters : Iters) where
   left-by : (a axis : ℕ) → axis < 8 → getD (walked iters a zeros) axis (pos 0) ≡ part iters a axis
   unfolding walked
   left-by a axis h =
-      axes-at (λ axis. getD zeros axis (pos 0) +ℤ part iters a axis) (pos 0) axis h
+      eight-at (λ axis. getD zeros axis (pos 0) +ℤ part iters a axis) (pos 0) axis h
       ∙ ap (λ (z : ℤ). z +ℤ part iters a axis) (zeros-at 8 axis)
       ∙ +ℤ-idl (part iters a axis)
 
@@ -94,6 +95,9 @@ module _ (replica : Iters) where
 
   pub none-before-zero : NoneBefore replica 0
   none-before-zero x y less below = absurd (not-suc-le-zero below)
+
+  pub none-before-one : NoneBefore replica 1
+  none-before-one x y less below = absurd (omega arith)
 
   -- a second that has no twin
   pub none-before-more : (b a : ℕ) → b ≤ a → Twin replica b a → NoneBefore replica b → NoneBefore replica (b + 1)

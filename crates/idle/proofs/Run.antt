@@ -12,10 +12,10 @@ use lib.ListN.{length, getD}
 use Rattle.card.specs.Card.{size}
 use Rattle.card.specs.declared.Iters.{Iters}
 use Rattle.rules.specs.Rules.{axes, part}
-use Rattle.rules.proofs.Along.{axes-at}
+use Rattle.card.proofs.ReadBack.{eight-at}
 use Rattle.idle.specs.Idle.{SameSums, IdlePair, NoIdlePair, Finds}
 use Rattle.idle.specs.Run.{equal, sameOn, twinFrom, pairFrom, pairOf}
-use Rattle.idle.specs.Inside.{NoneBelow, Twin, NoneBefore}
+use Rattle.idle.specs.Contracts.{NoneBelow, Twin, NoneBefore}
 use Rattle.idle.specs.declared.Finding.{Finding}
 use Rattle.idle.specs.declared.Finding.the-variants.{Pair, NoPair}
 use Rattle.idle.proofs.Laws.{none-below-zero, none-below-more, twin-found, twin-none, none-before-zero, none-before-more, pair-found}
@@ -45,7 +45,7 @@ module _ (f g : ℕ → ℤ) where
 
 module _ (replica : Iters) where
   axis-there : (axis : ℕ) → axis < length axes → getD axes axis 0 ≡ axis
-  axis-there axis h = axes-at (λ (i : ℕ). i) 0 axis h
+  axis-there axis h = eight-at (λ (i : ℕ). i) 0 axis h
 
   tested-same : (a b : ℕ) → sameOn (part replica a) (part replica b) axes ≡ true → SameSums replica a b
   tested-same a b t axis h = rw (axis-there axis h) at (same-on-true (part replica a) (part replica b) axes t axis h)

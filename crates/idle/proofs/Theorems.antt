@@ -1,18 +1,20 @@
 -- What the admission with 17 means, in plain for-alls: checks 1 to 6 first, and then the record of the pair, case by case of what is found.
 use mathlib.Core.Path.{_≡_, refl, sym, ap, _∙_, subst}
-use mathlib.Core.Logic.{_↔_, _⊎_, inl, inr}
-use Prim.Native.Nat.{ℕ, _≤_, _<_}
-use native.Mathlib.Omega.{arith}
-use Rattle.answers.specs.Refusals.{refusalNumbers}
+use mathlib.Core.Bool.{false, true≢false}
+use mathlib.Core.Logic.{_↔_}
+use Prim.Native.Nat.{ℕ, _<_}
+use Rattle.laws.proofs.Rungs.{apart}
+use Rattle.answers.specs.Refusals.{answer, refusalNumbers}
+use Rattle.answers.specs.declared.Numbers.{Numbers}
 use Rattle.answers.specs.declared.Refusal.{Refusal}
 use Rattle.answers.specs.declared.Refusal.the-variants.{Idle}
 use Rattle.card.specs.Card.{copies}
-use Rattle.card.specs.Admission.{admission}
+use Rattle.card.specs.Admission.{admission, admissionNumbers}
 use Rattle.card.specs.declared.Card.{Card}
 use Rattle.card.specs.declared.Admission.{Admission}
 use Rattle.card.specs.declared.Admission.the-variants.{Admitted, Refused}
 use Rattle.card.specs.declared.Iters.{Iters}
-use Rattle.card.proofs.Theorems.{admission-number, Alike, AlikeCards, past-the-count}
+use Rattle.card.proofs.Theorems.{ofTable, admission-number, afterSix, after-six, Alike, AlikeCards, past-the-count}
 use Rattle.idle.specs.Idle.{SameSums, IdlePair, NoIdlePair, Finds}
 use Rattle.idle.specs.Run.{pairOf}
 use Rattle.idle.specs.Admission.{idleCheck, next, fullAdmission}
@@ -51,13 +53,12 @@ module _ (card : Card) where
       refused : (r : Refusal) → admission card ≡ Refused r → Refused r ≡ Refused (Idle a b) → (admission card ≡ Admitted) × IdlePair (card .replica) a b
       refused r e t =
           let same : r ≡ Idle a b = cc in
-          let few = admission-number card r e in
-          absurd (omega (arith, ap (λ (s : Refusal). refusalNumbers s .number) same))
+          absurd (true≢false (rw (e, same) at (admission-number card .1)))
 
       found : (i : Finding) → admission card ≡ Admitted → Finds (card .replica) i → idleCheck i ≡ Refused (Idle a b)
           → (admission card ≡ Admitted) × IdlePair (card .replica) a b
       found (Pair c d) e f t = let same-a : c ≡ a = cc in let same-b : d ≡ b = cc in (e, rw (sym same-a, sym same-b) f)
-      found NoPair e f t = let z : _≡_ {A = ℕ} 0 1 = cc in absurd (omega arith)
+      found NoPair e f t = absurd (apart (cc))
 
   -- and it is given wherever two different combinations give the same sum on every axis
   pub idle-whenever : admission card ≡ Admitted → (x y : ℕ) → x < y → y < copies card → SameSums (card .replica) x y
@@ -76,27 +77,42 @@ module _ (card : Card) where
   )
     where
       refused : (r : Refusal) → admission card ≡ Refused r → Refused r ≡ Admitted → (admission card ≡ Admitted) × NoIdlePair (card .replica)
-      refused r e t = let z : _≡_ {A = ℕ} 0 1 = cc in absurd (omega arith)
+      refused r e t = absurd (apart (cc))
 
       found : (i : Finding) → admission card ≡ Admitted → Finds (card .replica) i → idleCheck i ≡ Admitted → (admission card ≡ Admitted) × NoIdlePair (card .replica)
-      found (Pair a b) e f t = let z : _≡_ {A = ℕ} 0 1 = cc in absurd (omega arith)
+      found (Pair a b) e f t = absurd (apart (cc))
       found NoPair e f t = (e, f)
 
   pub checks-passed : fullAdmission card ≡ Admitted → admission card ≡ Admitted
   checks-passed e = admitted-exactly .0 e .0
 
-  -- a refusal has a number up to 6, or 17
-  pub full-number : (r : Refusal) → fullAdmission card ≡ Refused r → (refusalNumbers r .number ≤ 6) ⊎ (refusalNumbers r .number ≡ 17)
-  full-number r =
-      by-cases (λ (x : Admission). x ≡ Refused r → (refusalNumbers r .number ≤ 6) ⊎ (refusalNumbers r .number ≡ 17)) refused found
+  -- no number is one of the checks on the table
+  pub full-number : ofTable (admissionNumbers (fullAdmission card) .number) ≡ false
+  full-number = by-cases (λ (x : Admission). ofTable (admissionNumbers x .number) ≡ false) (λ r e. rw e at (admission-number card .0)) found
     where
-      refused : (s : Refusal) → admission card ≡ Refused s → Refused s ≡ Refused r → (refusalNumbers r .number ≤ 6) ⊎ (refusalNumbers r .number ≡ 17)
-      refused s e t = let same : s ≡ r = cc in inl (rw (sym same) (admission-number card s e))
+      found : (i : Finding) → admission card ≡ Admitted → Finds (card .replica) i → ofTable (admissionNumbers (idleCheck i) .number) ≡ false
+      found (Pair a b) e f = refl
+      found NoPair e f = refl
 
-      found : (i : Finding) → admission card ≡ Admitted → Finds (card .replica) i → idleCheck i ≡ Refused r
-          → (refusalNumbers r .number ≤ 6) ⊎ (refusalNumbers r .number ≡ 17)
-      found (Pair a b) e f t = let same : Idle a b ≡ r = cc in inr (ap (λ (s : Refusal). refusalNumbers s .number) (sym same))
-      found NoPair e f t = let z : _≡_ {A = ℕ} 0 1 = cc in absurd (omega arith)
+-- the numbers of a question that begins with this admission
+pub record AfterAdmission (card : Card) (n passed : Numbers) : Type 0 where
+  -- 1 to 6, and then 17 with the pair
+  pub idle : (a b : ℕ) → IdlePair (card .replica) a b → n ≡ afterSix card (answer 17 a b 0)
+  -- or, where there is none, what comes after
+  pub free : NoIdlePair (card .replica) → n ≡ afterSix card passed
+
+pub after-admission : (card : Card) (n passed : Numbers) → ((r : Refusal) → fullAdmission card ≡ Refused r → n ≡ refusalNumbers r)
+    → (fullAdmission card ≡ Admitted → n ≡ passed) → AfterAdmission card n passed
+after-admission card n passed refused admitted =
+    let early : (r : Refusal) → admission card ≡ Refused r → n ≡ refusalNumbers r = λ r e. refused r (refused-before card e) in
+    record {
+      idle = λ a b pair. after-six card n (answer 17 a b 0) early (λ e. refused (Idle a b) (idle-exactly card a b .1 (e, pair)));
+      free = λ none. after-six card n passed early (λ e. admitted (admitted-exactly card .1 (e, none)));
+    }
+
+pub full-admission-in-numbers : (card : Card) (r : Admission) → r ≡ fullAdmission card → AfterAdmission card (admissionNumbers r) (answer 0 0 0 0)
+full-admission-in-numbers card r e =
+    after-admission card (admissionNumbers r) (answer 0 0 0 0) (λ s h. ap admissionNumbers (e ∙ h)) (λ h. ap admissionNumbers (e ∙ h))
 
 -- two outcomes that the promise of this admission allows are equal
 pub full-admission-settled : (card : Card) (p q : Admission) → p ≡ fullAdmission card → q ≡ fullAdmission card → p ≡ q

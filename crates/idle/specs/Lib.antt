@@ -1,4 +1,4 @@
 pub mod Idle
 pub mod Run
-pub mod Inside
+pub mod Contracts
 pub mod Admission

@@ -5,13 +5,12 @@ use card::Admission;
 use card::Card;
 ghost use mathlib.Core.Path.{_≡_};
 ghost use lib.ListN.{length};
-ghost use Rattle.card.specs.Card.{size};
-ghost use Rattle.card.specs.Admission.{admission};
-ghost use Rattle.card.specs.declared.Admission.the-variants.{Admitted};
-ghost use Rattle.rules.specs.Inside.{itersOf, walked, Lent};
+ghost use Rattle.card.specs.Packed.{itersOf, cardOf, Whole, Admits};
+ghost use Rattle.rules.specs.Walked.{walked};
+ghost use Rattle.copies.specs.Contracts.{Walkable};
 ghost use Rattle.idle.specs.Idle.{Finds};
 ghost use Rattle.idle.specs.Admission.{fullAdmission};
-ghost use Rattle.idle.specs.Inside.{Says, zeros, Twin};
+ghost use Rattle.idle.specs.Contracts.{Says, zeros, Twin};
 
 // What a search for idle copies finds: the smallest pair of combinations with the same sums, smallest
 // second first, or none.
@@ -35,26 +34,26 @@ fn are_equal(one: &[i64; 8], other: &[i64; 8]) -> bool
     true
 }
 
-// Whether a combination gives these sums.
-fn gives(iters: &[u64; 17], strides: &[i64; 8], combination: u64, sums: &[i64; 8]) -> bool
-    requires { ⌜ Lent (now iters) (now strides) × (length (now sums) ≡ 8) ⌝ }
-    ensures { λ r. ⌜ Says (walked (itersOf (now (iters .entry)) (now (strides .entry))) combination zeros ≡ now (sums .entry)) r ⌝ }
+// Whether a replica combination gives these sums.
+fn gives(numbers: &[u64; 48], strides: &[i64; 24], combination: u64, sums: &[i64; 8]) -> bool
+    requires { ⌜ Walkable (now numbers) (now strides) 1 × (length (now sums) ≡ 8) ⌝ }
+    ensures { λ r. ⌜ Says (walked (itersOf (now (numbers .entry)) (now (strides .entry)) 1) combination zeros ≡ now (sums .entry)) r ⌝ }
 {
     let mut given = [0i64; 8];
-    rules::walk(iters, strides, combination, &mut given);
+    copies::walk(numbers, strides, card::REPLICA, combination, &mut given);
     are_equal(&given, sums)
 }
 
 // The smallest combination below b that gives the sums of b, or b.
-fn find_twin(iters: &[u64; 17], strides: &[i64; 8], b: u64) -> u64
-    requires { ⌜ Lent (now iters) (now strides) ⌝ }
-    ensures { λ r. ⌜ Twin (itersOf (now (iters .entry)) (now (strides .entry))) b r ⌝ }
+fn find_twin(numbers: &[u64; 48], strides: &[i64; 24], b: u64) -> u64
+    requires { ⌜ Walkable (now numbers) (now strides) 1 ⌝ }
+    ensures { λ r. ⌜ Twin (itersOf (now (numbers .entry)) (now (strides .entry)) 1) b r ⌝ }
 {
     let mut sums = [0i64; 8];
-    rules::walk(iters, strides, b, &mut sums);
+    copies::walk(numbers, strides, card::REPLICA, b, &mut sums);
     let mut a: u64 = 0;
     while a < b {
-        if gives(iters, strides, a, &sums) {
+        if gives(numbers, strides, a, &sums) {
             return a;
         }
         a += 1;
@@ -62,14 +61,16 @@ fn find_twin(iters: &[u64; 17], strides: &[i64; 8], b: u64) -> u64
     b
 }
 
-// The pair of a replica whose numbers are lent, of so many combinations.
-fn find_lent(iters: &[u64; 17], strides: &[i64; 8], copies: u64) -> Finding
-    requires { ⌜ Lent (now iters) (now strides) × (copies ≡ size (itersOf (now iters) (now strides))) ⌝ }
-    ensures { λ r. ⌜ Finds (itersOf (now (iters .entry)) (now (strides .entry))) r ⌝ }
+// The pair of a packed card that passes checks 1 to 6. The first combination is the second of none, so
+// a card without replica is not searched.
+fn find_pair(numbers: &[u64; 48], strides: &[i64; 24]) -> Finding
+    requires { ⌜ Admits (now numbers) (now strides) ⌝ }
+    ensures { λ r. ⌜ Finds (itersOf (now (numbers .entry)) (now (strides .entry)) 1) r ⌝ }
 {
-    let mut b: u64 = 0;
+    let copies = numbers[card::COPIES];
+    let mut b: u64 = 1;
     while b < copies {
-        let a = find_twin(iters, strides, b);
+        let a = find_twin(numbers, strides, b);
         if a < b {
             return Finding::Pair(a, b);
         }
@@ -78,31 +79,28 @@ fn find_lent(iters: &[u64; 17], strides: &[i64; 8], copies: u64) -> Finding
     Finding::NoPair
 }
 
-// The pair of any card that passes checks 1 to 6. A card without replica has none and is not searched.
-fn find_pair(card: Card) -> Finding
-    requires { ⌜ admission card ≡ Admitted ⌝ }
-    ensures { λ r. ⌜ Finds (card .replica) r ⌝ }
+// The admission of a packed card to verdict, owner and placement: checks 1 to 6, then 17. Public, with a
+// requires, for the crates above, which pack a card first.
+pub fn admit_packed(numbers: &[u64; 48], strides: &[i64; 24]) -> Admission
+    requires { ⌜ Whole (now numbers) (now strides) ⌝ }
+    ensures { λ r. ⌜ r ≡ fullAdmission (cardOf (now (numbers .entry)) (now (strides .entry))) ⌝ }
 {
-    let replica = card.replica;
-    if replica.count == 0 {
-        return Finding::NoPair;
-    }
-    let numbers = rules::lend(replica);
-    let strides = card::strides(replica);
-    let copies = card::size(replica);
-    find_lent(&numbers, &strides, copies)
-}
-
-// The admission of any card to verdict, owner and placement: checks 1 to 6, then 17.
-pub fn admit(card: Card) -> Admission
-    ensures { λ r. ⌜ r ≡ fullAdmission card ⌝ }
-{
-    let admission = card::admit(card);
+    let admission = admission::admit_packed(numbers, strides);
     if let Admission::Refused(refusal) = admission {
         return Admission::Refused(refusal);
     }
-    match find_pair(card) {
+    match find_pair(numbers, strides) {
         Finding::Pair(a, b) => Admission::Refused(Refusal::Idle { a, b }),
         Finding::NoPair => Admission::Admitted,
     }
+}
+
+// The admission of any card to verdict, owner and placement.
+pub fn admit(card: Card) -> Admission
+    ensures { λ r. ⌜ r ≡ fullAdmission card ⌝ }
+{
+    let packed = packed::pack(card);
+    let numbers = packed.numbers;
+    let strides = packed.strides;
+    admit_packed(&numbers, &strides)
 }

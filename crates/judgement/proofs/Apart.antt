@@ -2,8 +2,8 @@
 use mathlib.Core.Path.{_≡_, sym, ap, _∙_}
 use mathlib.Core.List.{List}
 use Prim.Native.Nat.{ℕ, _*_}
-use native.Mathlib.Omega.{arith}
 use lib.ListN.{length}
+use Rattle.laws.proofs.Rungs.{apart}
 use Rattle.card.specs.Card.{elements, copies}
 use Rattle.card.specs.declared.Card.{Card}
 use Rattle.card.specs.declared.Admission.the-variants.{Admitted}
@@ -15,11 +15,12 @@ use Rattle.idle.specs.Admission.{fullAdmission}
 use Rattle.idle.proofs.Theorems.{admitted-exactly, checks-passed}
 use Rattle.idle.proofs.Apart.{copies-apart}
 use Rattle.claims.proofs.Apart.{CopiesApart, all-occupied}
-use Rattle.judgement.specs.Judgement.{placed, AllInside, Judgement, NotAdmitted, NoRoom, OutsideAt, Clashing, Passed, ComesTo}
-use Rattle.judgement.specs.Verdict.{verdictOf, VerdictPromise, verdictNumbers}
+use Rattle.judgement.specs.Judgement.{placed, AllInside}
+use Rattle.judgement.specs.Verdict.{VerdictPromise, verdictNumbers}
 use Rattle.judgement.specs.declared.Verdict.{Verdict}
 use Rattle.judgement.specs.declared.Verdict.the-variants.{Approved}
 use Rattle.judgement.proofs.Run.{lies-inside}
+use Rattle.judgement.proofs.Theorems.{approved-passed}
 
 module _ (card : Card) (eight : length (card .lengths) ≡ 8) where
   -- two different copies of one element never lie in one cell
@@ -31,18 +32,10 @@ module _ (card : Card) (eight : length (card .lengths) ≡ 8) where
 
   pub approved-occupies : (before after : List ℕ) (n occupied m : ℕ) → VerdictPromise card before after (Approved n occupied m)
       → occupied ≡ elements card * copies card
-  approved-occupies before after n occupied m p = go (p .judgement) (p .comes) (p .answers)
-    where
-      number : (j : Judgement) → Approved n occupied m ≡ verdictOf card j → 0 ≡ verdictNumbers (verdictOf card j) .number
-      number j q = ap (λ (v : Verdict). verdictNumbers v .number) q
-
-      go : (j : Judgement) → ComesTo card (length before) j → Approved n occupied m ≡ verdictOf card j → occupied ≡ elements card * copies card
-      go (NotAdmitted r) h q = let z : _≡_ {A = ℕ} 0 1 = cc in absurd (omega arith)
-      go NoRoom h q = absurd (omega (arith, number NoRoom q))
-      go (OutsideAt flat axis) h q = absurd (omega (arith, number (OutsideAt flat axis) q))
-      go (Clashing x y cell) h q = absurd (omega (arith, number (Clashing x y cell) q))
-      go (Passed owners count) h q =
-          ap (λ (v : Verdict). verdictNumbers v .b) q
-          ∙ h .2 .counted
-          ∙ all-occupied (placed card) (elements card) owners (sized card (checks-passed card (h .0 .admitted)) .some-copies) (h .2 .owners)
-          (placed-apart (h .0 .admitted) (h .1))
+  approved-occupies before after n occupied m p =
+      let passed = approved-passed card before after (Approved n occupied m) p tt in
+      let h = passed .2 in
+      ap (λ (v : Verdict). verdictNumbers v .b) (passed .3)
+      ∙ h .2 .counted
+      ∙ all-occupied (placed card) (elements card) (passed .0) (sized card (checks-passed card (h .0 .admitted)) .some-copies) (h .2 .owners)
+      (placed-apart (h .0 .admitted) (h .1))

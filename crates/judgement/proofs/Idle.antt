@@ -6,6 +6,7 @@ use mathlib.Core.List.{List}
 use Prim.Native.Nat.{ℕ}
 use native.Mathlib.Omega.{arith}
 use lib.ListN.{length}
+use Rattle.laws.proofs.Rungs.{apart}
 use Rattle.answers.specs.declared.Refusal.{Refusal}
 use Rattle.answers.specs.declared.Refusal.the-variants.{Idle}
 use Rattle.card.specs.Admission.{admission}
@@ -25,7 +26,7 @@ use Rattle.judgement.proofs.Leaves.{verdict-leaves, owner-leaves}
 -- an owner is refused as its verdict is
 read-refused : (v : Verdict) (entry : ℕ) (r : Refusal) → (readEntry v entry ≡ NoOwner r) ↔ (v ≡ Refused r)
 read-refused (Approved n occupied m) entry r =
-    (λ e. let z : _≡_ {A = ℕ} 0 1 = cc in absurd (omega arith), λ e. let z : _≡_ {A = ℕ} 0 1 = cc in absurd (omega arith))
+    (λ e. absurd (apart (cc)), λ e. absurd (apart (cc)))
 read-refused (Refused s) entry r = (λ e. let same : s ≡ r = cc in ap Refused same, λ e. let same : s ≡ r = cc in ap NoOwner same)
 
 module _ (card : Card) (before after : List ℕ) (a b : ℕ) where
@@ -65,7 +66,7 @@ module _ (card : Card) (before after : List ℕ) (a b : ℕ) where
   owner-judged-idle : (coordinates : List ℕ) (j : OwnerJudgement) → OwnerComesTo card coordinates (length before) j
       → (ownerOf card coordinates j before ≡ NoOwner (Idle a b)) ↔ PairFound
   owner-judged-idle coordinates (NoCell axis) h =
-      (λ e. let z : _≡_ {A = ℕ} 0 1 = cc in absurd (omega arith), λ p. absurd (not-both card (idle-exactly card a b .1 p) (h .0)))
+      (λ e. absurd (apart (cc)), λ p. absurd (not-both card (idle-exactly card a b .1 p) (h .0)))
   owner-judged-idle coordinates (ByVerdict j) h =
       let read = read-refused (verdictOf card j) _ (Idle a b) in
       let judged = judged-idle j (h .1) in

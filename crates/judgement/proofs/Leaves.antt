@@ -1,16 +1,19 @@
 -- What the verdict and the owner leave in the lent table, entry by entry, from the judgement: a front of the cells, then what stood there.
 use mathlib.Core.Path.{_≡_, refl, sym, ap, _∙_}
+use mathlib.Core.Bool.{false, true≢false}
 use mathlib.Core.Logic.{_⊎_, ⊎-elim}
 use mathlib.Core.List.{List, _++_}
 use Prim.Native.Nat.{ℕ, _+_, _-_, _≤_, _<_}
 use native.Mathlib.Omega.{arith}
 use lib.ListN.{length, getD, drop, replicate, length-replicate, getD-replicate, List·getD-append}
 use lib.Seq.{length-front, length-take-le, getD-append-add, getD-drop}
+use Rattle.laws.proofs.Rungs.{apart}
 use Rattle.answers.specs.Refusals.{refusalNumbers}
 use Rattle.answers.specs.declared.Refusal.{Refusal}
 use Rattle.answers.specs.declared.Refusal.the-variants.{CellOutside}
 use Rattle.card.specs.Card.{cells}
 use Rattle.card.specs.declared.Card.{Card}
+use Rattle.card.proofs.Theorems.{ofTable}
 use Rattle.rules.specs.RowMajor.{position}
 use Rattle.rules.proofs.RowMajor.{FirstPast, first-past}
 use Rattle.rules.proofs.Spots.{position-past, outside-past}
@@ -73,9 +76,8 @@ module _ (card : Card) where
     judgement-leaves : (j : Judgement) → ComesTo card (length before) j
         → Leaves card before (tableAfter card j before) (verdictNumbers (verdictOf card j) .number)
     judgement-leaves (NotAdmitted r) h =
-        let number = full-number card r h in
-        leaves-all (refusalNumbers r .number) (λ e. ⊎-elim (λ few. omega arith) (λ is. omega arith) number)
-        (λ e. ⊎-elim (λ few. omega arith) (λ is. omega arith) number)
+        let early : ofTable (refusalNumbers r .number) ≡ false = rw h at (full-number card) in
+        leaves-all (refusalNumbers r .number) (λ e. true≢false (rw e at early)) (λ e. true≢false (rw e at early))
     judgement-leaves NoRoom h = leaves-all 11 (λ e. omega arith) (λ e. omega arith)
     judgement-leaves (OutsideAt flat axis) h = leaves-empty 7 (h .0 .enough) (λ u v. u refl)
     judgement-leaves (Clashing x y cell) h = leaves-empty 8 (h .0 .enough) (λ u v. v refl)
@@ -114,12 +116,11 @@ owner-outside card coordinates before after axis same p = go (p .judgement) (p .
     named : (j : Judgement) (entry : ℕ) → ComesTo card (length before) j → NoOwner (CellOutside axis) ≡ readEntry (verdictOf card j) entry → ⊥
     named (NotAdmitted r) entry h e =
         let same-refusal : CellOutside axis ≡ r = cc in
-        let number = ap (λ (s : Refusal). refusalNumbers s .number) same-refusal in
-        ⊎-elim (λ few. omega arith) (λ is. omega arith) (full-number card r h)
-    named NoRoom entry h e = let z : _≡_ {A = ℕ} 0 1 = cc in omega arith
-    named (OutsideAt flat a) entry h e = let z : _≡_ {A = ℕ} 0 1 = cc in omega arith
-    named (Clashing x y cell) entry h e = let z : _≡_ {A = ℕ} 0 1 = cc in omega arith
-    named (Passed owners occupied) entry h e = let z : _≡_ {A = ℕ} 0 1 = cc in omega arith
+        true≢false (rw (h, sym same-refusal) at (full-number card))
+    named NoRoom entry h e = apart (cc)
+    named (OutsideAt flat a) entry h e = apart (cc)
+    named (Clashing x y cell) entry h e = apart (cc)
+    named (Passed owners occupied) entry h e = apart (cc)
 
     go : (j : OwnerJudgement) → OwnerComesTo card coordinates (length before) j → NoOwner (CellOutside axis) ≡ ownerOf card coordinates j before
         → FirstPast (card .lengths) coordinates axis

@@ -1,6 +1,8 @@
 pub mod Unique
 pub mod Run
 pub mod Theorems
+pub mod OwnerDemand
+pub mod InNumbers
 pub mod Leaves
 pub mod PastTheCount
 pub mod Idle

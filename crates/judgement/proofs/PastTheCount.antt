@@ -42,7 +42,7 @@ module _ (a b : Card) (alike : AlikeCards a b) where
     copy = rw same-copies at (h .copy);
     outside = rw (same-spot a b alike) at (h .outside);
     smallest-axis = rw (same-copies, same-spot a b alike) at (h .smallest-axis);
-    smallest-flat = rw (same-copies, same-spot a b alike) at (h .smallest-flat);
+    smallest-flat = rw (same-elements, same-copies, same-spot a b alike) at (h .smallest-flat);
   }
 
   comes-alike : (room : ℕ) (j : Judgement) → ComesTo a room j → ComesTo b room j

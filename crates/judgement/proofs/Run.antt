@@ -1,10 +1,10 @@
 -- The runs come to judgements that the definitions allow: the search by induction on the elements that are left, the claims by their own law.
 use mathlib.Core.Path.{_≡_, refl, sym, ap, _∙_, subst}
 use mathlib.Core.Bool.{Bool, true, false}
-use mathlib.Core.Logic.{_⊎_, inl, inr, ⊎-elim}
+use mathlib.Core.Logic.{_⊎_, ⊎-elim}
 use mathlib.Core.List.{List}
 use Prim.Native.Nat.{ℕ, zero, suc, _+_, _≤_, _<_}
-use native.Mathlib.Nat.{eq-or-lt-of-le, le-refl, zero-add}
+use native.Mathlib.Nat.{eq-or-lt-of-le, zero-add}
 use native.Mathlib.Omega.{arith}
 use lib.Dec.{leb}
 use lib.ListN.{length}
@@ -20,9 +20,9 @@ use Rattle.rules.specs.declared.Spot.{Spot}
 use Rattle.rules.specs.declared.Spot.the-variants.{Inside, Outside}
 use Rattle.rules.proofs.Spots.{cell-below}
 use Rattle.idle.specs.Admission.{fullAdmission}
-use Rattle.claims.specs.Claims.{Inside as Within, Outcome, Owned, Clash, ClaimsComeTo as Comes}
-use Rattle.claims.specs.Rows.{smaller}
+use Rattle.claims.specs.Outcome.{Inside as Within, Outcome, Owned, Clash, ClaimsComeTo as Comes}
 use Rattle.claims.specs.Run.{run}
+use Rattle.claims.proofs.Rows.{smaller-is}
 use Rattle.claims.proofs.Run.{run-comes}
 use Rattle.judgement.specs.Judgement.{placed, LiesInside, AllInside, FirstOutside, Judgement, Judged, ComesTo}
 use Rattle.judgement.specs.Verdict.{verdictOf, tableAfter, VerdictPromise, askedSpot, OwnerJudgement, OwnerComesTo, ownerTableAfter, ownerOf, OwnerPromise}
@@ -44,22 +44,6 @@ entry-inside (Outside axis) h = absurd (h (omega arith))
 -- where every copy lies inside, the cells of all copies are cells of the space
 pub all-within : (card : Card) → AllInside card → Within (placed card) (elements card) (cells card)
 all-within card inside f r h k = cell-below card f r (record { 0 = cellOf (spot card f r) }) (lies-inside (spot card f r) (inside f r h k))
-
--- the smaller of two entries stands before both, where 0 stands for none, and is one of them
-record Smaller (a b m : ℕ) : Type 0 where
-  pub first : 0 < a → (0 < m) × (m ≤ a)
-  pub second : 0 < b → (0 < m) × (m ≤ b)
-  pub one : (m ≡ a) ⊎ (m ≡ b)
-
-smaller-is : (a b : ℕ) → Smaller a b (smaller a b)
-smaller-is a zero = record { first = λ h. (h, le-refl a); second = λ h. absurd (omega arith); one = inl refl }
-smaller-is zero (suc b) = record { first = λ h. absurd (omega arith); second = λ h. (h, le-refl (suc b)); one = inr refl }
-smaller-is (suc a) (suc b) =
-    record {
-      first = λ h. (omega arith, omega arith);
-      second = λ h. (omega arith, omega arith);
-      one = ⊎-elim (λ (h : a ≤ b). inl (omega arith)) (λ (h : b < a). inr (omega arith)) (le-or-lt a b);
-    }
 
 -- the smallest axis met is some copy's, and none of a copy is smaller
 record Met (at : ℕ → Spot) (n m : ℕ) : Type 0 where
@@ -115,7 +99,7 @@ module _ (card : Card) where
         smallest-axis = λ r other k o.
             let same = ap axisEntry o in
             omega (arith, w .least r k (omega arith));
-        smallest-flat = λ f r other k o.
+        smallest-flat = λ f r other below k o.
             ⊎-elim (λ (m : flat ≤ f). m) (λ (m : f < flat). absurd (subst LiesInside o (passed f r m k))) (le-or-lt flat f);
       }
 

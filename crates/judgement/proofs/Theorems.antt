@@ -1,4 +1,4 @@
--- What the definitions of the verdict and of the owner mean, in plain for-alls: demand 3, both ways with the placement, and the numbers.
+-- What the definitions of the verdict and of the owner mean, in plain for-alls: demand 3, and the numbers.
 use mathlib.Core.Path.{_≡_, refl, sym, ap, _∙_, subst}
 use mathlib.Core.Logic.{_↔_}
 use mathlib.Core.List.{List, _++_}
@@ -17,14 +17,12 @@ use Rattle.card.specs.Admission.{admission}
 use Rattle.card.specs.declared.Card.{Card}
 use Rattle.card.specs.declared.Admission.the-variants.{Admitted}
 use Rattle.rules.specs.Rules.{spot}
-use Rattle.rules.specs.Copies.{cellOf, copyCells}
+use Rattle.rules.specs.Copies.{cellOf}
 use Rattle.rules.specs.declared.Spot.the-variants.{Inside}
-use Rattle.rules.proofs.Filling.{cells-length, cells-at}
 use Rattle.idle.specs.Idle.{NoIdlePair}
 use Rattle.idle.proofs.Theorems.{admitted-exactly}
-use Rattle.claims.specs.Claims.{Claims, NoneShare, occupied, OwnedTable as Owned}
-use Rattle.claims.specs.Rows.{Row}
-use Rattle.claims.proofs.Rows.{Among, among-claims, claims-among}
+use Rattle.claims.specs.Claims.{Claims, occupied, OwnedTable as Owned}
+use Rattle.claims.specs.Outcome.{NoneShare}
 use Rattle.claims.proofs.Theorems.{owners-none-share, clash-shares, nobody-exactly}
 use Rattle.judgement.specs.Judgement.{placed, LiesInside, AllInside, Judgement, NotAdmitted, NoRoom, OutsideAt, Clashing, Passed, ComesTo}
 use Rattle.judgement.specs.Verdict.{verdictOf, tableAfter, VerdictPromise, askedSpot, OwnerJudgement, NoCell, ByVerdict, OwnerComesTo, readEntry, ownerTableAfter, ownerOf, OwnerPromise, verdictNumbers, ownerNumbers}
@@ -159,29 +157,23 @@ demand-3 card before after verdict admitted no-pair long p = rw (p .answers, p .
         (λ so. clash-shares (placed card) (elements card) x y cell (h .2) (one-element-exactly card (so .0) .0 (so .1)))
     go (Passed owners n) h = demand-3-passed card owners (drop (cells card) before) n (h .1) (h .2)
 
--- the cells that placement gives for an element are the row of its copies
-pub copy-row : (card : Card) (f : ℕ) → Row (placed card) f (copyCells card f)
-unfolding copyCells
-copy-row card f = record { size = cells-length (spot card f) (copies card); cells = cells-at (spot card f) (copies card) }
+-- an approval comes of a judgement that all is passed
+pub approved-passed : (card : Card) (before after : List ℕ) (verdict : Verdict) → VerdictPromise card before after verdict → IsApproval verdict
+    → (owners : List ℕ) × (n : ℕ) × ComesTo card (length before) (Passed owners n) × (verdict ≡ Approved (elements card) n (cells card))
+approved-passed card before after verdict p h = go (p .judgement) (p .comes) (p .answers)
+  where
+    go : (j : Judgement) → ComesTo card (length before) j → verdict ≡ verdictOf card j
+        → (owners : List ℕ) × (n : ℕ) × ComesTo card (length before) (Passed owners n) × (verdict ≡ Approved (elements card) n (cells card))
+    go (NotAdmitted r) c e = absurd (subst IsApproval e h)
+    go NoRoom c e = absurd (subst IsApproval e h)
+    go (OutsideAt flat axis) c e = absurd (subst IsApproval e h)
+    go (Clashing x y cell) c e = absurd (subst IsApproval e h)
+    go (Passed owners n) c e = (owners, n, c, e)
 
 module _ (card : Card) (before after : List ℕ) (verdict : Verdict) (admitted : admission card ≡ Admitted) (no-pair : NoIdlePair (card .replica))
     (long : cells card ≤ length before) (promise : VerdictPromise card before after verdict) where
   demand : Demand3 card after verdict
   demand = demand-3 card before after verdict admitted no-pair long promise
-
-  -- both ways: once approved, a cell's entry names element f exactly when the cell is among those that placement gives for f
-  pub owner-and-placement : IsApproval verdict → (c f : ℕ) → c < cells card
-      → (getD after c 0 ≡ f + 1) ↔ ((f < elements card) × Among (copyCells card f) c)
-  owner-and-placement h c f k =
-      let inside = demand .approved .0 h .0 in
-      let row = copy-row card f in (
-        λ e.
-            let o = demand .owner h c f k .0 e in
-            (o .0, claims-among (placed card) f (copyCells card f) row c (copy-claims card f c (o .1))),
-        λ o.
-            demand .owner h c f k .1
-            (o .0, claims-copy card inside f c (o .0) (among-claims (placed card) f (copyCells card f) row c (o .1))),
-      )
 
   -- copies of one element are no clash: one element alone is approved, wherever in the space its copies lie
   pub copies-no-clash : elements card ≡ 1 → AllInside card → IsApproval verdict
@@ -203,7 +195,7 @@ module _ (card : Card) (before after : List ℕ) (verdict : Verdict) (admitted :
           let same-cell : c ≡ cell .0 = ap (λ v. verdictNumbers v .c) q in
           let k = h .2 in
           rw (sym same-x, sym same-y, sym same-cell) (
-            k .smaller,
+            k .ordered,
             k .element,
             claims-copy card (h .1) a c (omega arith) (k .shared .one),
             claims-copy card (h .1) b c (k .element) (k .shared .other),

@@ -3,12 +3,13 @@ use mathlib.Core.Path.{_≡_, refl, sym, ap, ap₂, subst}
 use mathlib.Core.List.{List}
 use Prim.Native.Nat.{ℕ}
 use native.Mathlib.Omega.{arith}
+use Rattle.laws.proofs.Rungs.{apart}
 use Rattle.answers.specs.declared.Refusal.{Refusal}
 use Rattle.card.specs.Card.{elements, cells}
 use Rattle.card.specs.declared.Card.{Card}
 use Rattle.card.specs.declared.Admission.the-variants.{Admitted, Refused}
 use Rattle.idle.specs.Admission.{fullAdmission}
-use Rattle.claims.specs.Claims.{Outcome, Owned, Clash, ClaimsComeTo as Comes}
+use Rattle.claims.specs.Outcome.{Outcome, Owned, Clash, ClaimsComeTo as Comes}
 use Rattle.claims.proofs.Theorems.{outcome-unique}
 use Rattle.judgement.specs.Judgement.{placed, LiesInside, AllInside, FirstOutside, Judgement, NotAdmitted, NoRoom, OutsideAt, Clashing, Passed, ComesTo}
 use Rattle.judgement.specs.Verdict.{OwnerJudgement, NoCell, ByVerdict, OwnerComesTo}
@@ -17,7 +18,7 @@ use Rattle.judgement.specs.Run.{claimed}
 module _ (card : Card) where
   -- a card is not both refused and admitted
   pub not-both : {r : Refusal} → fullAdmission card ≡ Refused r → fullAdmission card ≡ Admitted → ⊥
-  not-both e f = let z : _≡_ {A = ℕ} 0 1 = cc in omega arith
+  not-both e f = apart (cc)
 
   -- where every copy lies inside, none lies outside
   pub inside-not-outside : {flat axis : ℕ} → AllInside card → FirstOutside card flat axis → ⊥
@@ -28,7 +29,7 @@ module _ (card : Card) where
     same-flat : flat ≡ flat′
     same-flat =
         omega
-        (arith, o .smallest-flat flat′ (o′ .combination) axis′ (o′ .copy) (o′ .outside), o′ .smallest-flat flat (o .combination) axis (o .copy) (o .outside))
+        (arith, o .smallest-flat flat′ (o′ .combination) axis′ (o′ .element) (o′ .copy) (o′ .outside), o′ .smallest-flat flat (o .combination) axis (o .element) (o .copy) (o .outside))
 
     same-axis : axis ≡ axis′
     same-axis =

@@ -32,7 +32,7 @@ pub record FirstOutside (card : Card) (flat axis : ℕ) : Type 0 where
   pub copy : combination < copies card
   pub outside : spot card flat combination ≡ Outside axis
   pub smallest-axis : (r other : ℕ) → r < copies card → spot card flat r ≡ Outside other → axis ≤ other
-  pub smallest-flat : (f r other : ℕ) → r < copies card → spot card f r ≡ Outside other → flat ≤ f
+  pub smallest-flat : (f r other : ℕ) → f < elements card → r < copies card → spot card f r ≡ Outside other → flat ≤ f
 
 pub data Judgement : Type 0 where
   NotAdmitted : (refusal : Refusal) → Judgement

@@ -12,8 +12,8 @@ use Rattle.rules.specs.Rules.{spot}
 use Rattle.rules.specs.declared.Spot.{Spot}
 use Rattle.rules.specs.declared.Spot.the-variants.{Inside, Outside}
 use Rattle.idle.specs.Admission.{fullAdmission}
-use Rattle.claims.specs.Claims.{Outcome, Owned, Clash}
-use Rattle.claims.specs.Rows.{smaller}
+use Rattle.claims.specs.Outcome.{Outcome, Owned, Clash}
+use Rattle.claims.specs.Rows.{minSome}
 use Rattle.claims.specs.Run.{run}
 use Rattle.judgement.specs.Judgement.{placed, Judgement, NotAdmitted, NoRoom, OutsideAt, Clashing, Passed}
 use Rattle.judgement.specs.Verdict.{askedSpot, OwnerJudgement, NoCell, ByVerdict}
@@ -26,7 +26,7 @@ axisEntry (Outside axis) = axis + 1
 -- the smallest of so many copies, 0 where all lie inside
 abbrev pub axisMet : (ℕ → Spot) → ℕ → ℕ
 axisMet at zero = 0
-axisMet at (suc r) = smaller (axisMet at r) (axisEntry (at r))
+axisMet at (suc r) = minSome (axisMet at r) (axisEntry (at r))
 
 abbrev pub claimed : Outcome → Judgement
 claimed (Owned table count) = Passed table count

@@ -5,7 +5,7 @@ use Prim.Native.Nat.{ℕ}
 use lib.ListN.{length, getD, drop, replicate}
 use Rattle.answers.specs.Refusals.{answer, refusalNumbers}
 use Rattle.answers.specs.declared.Numbers.{Numbers}
-use Rattle.answers.specs.declared.Refusal.the-variants.{Outside as NotInside, Shared, TooShort, CellOutside}
+use Rattle.answers.specs.declared.Refusal.the-variants.{CopyOutside, Shared, TooShort, CellOutside}
 use Rattle.card.specs.Card.{elements, cells}
 use Rattle.card.specs.declared.Card.{Card}
 use Rattle.card.specs.declared.Admission.the-variants.{Admitted}
@@ -25,7 +25,7 @@ use Rattle.judgement.specs.declared.Owner.the-variants.{Entry, Refused a
 abbrev pub verdictOf : Card → Judgement → Verdict
 verdictOf card (NotAdmitted refusal) = Refused refusal
 verdictOf card NoRoom = Refused (TooShort (cells card))
-verdictOf card (OutsideAt flat axis) = Refused (NotInside (record { 0 = flat }) axis)
+verdictOf card (OutsideAt flat axis) = Refused (CopyOutside (record { 0 = flat }) axis)
 verdictOf card (Clashing x y cell) = Refused (Shared (record { 0 = x }) (record { 0 = y }) (record { 0 = cell }))
 verdictOf card (Passed owners occupied) = Approved (elements card) occupied (cells card)
 

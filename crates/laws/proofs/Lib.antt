@@ -1,7 +1,11 @@
+pub mod Columns
 pub mod Table
 pub mod Below
 pub mod Order
+pub mod Rungs
+pub mod Tests
 pub mod Lists
 pub mod Products
 pub mod Capped
 pub mod Signed
+pub mod Words

@@ -17,11 +17,12 @@ pub fn fill(lent: &mut [u32]) {
     }
 }
 
-// An entry times its place, counted from 1. No place is above 16,384.
+// An entry times its place, counted from 1. No place is above 16,384, so the remainder leaves each
+// as it is.
 fn weighted(place: u64, entry: u32) -> u64
-    ensures { λ r. ⌜ r ≤ 16384 * 4294967295 ⌝ }
+    ensures { λ r. ⌜ r ≤ 32767 * 4294967295 ⌝ }
 {
-    (place % 16385) * numbers::wide32(entry)
+    (place % 32768) * numbers::wide32(entry)
 }
 
 // The digest of a table or of a stretch of it.

@@ -7,13 +7,16 @@ ghost use Prim.Native.Nat.{_≤_};
 pub fn eight(numbers: &[u64; 80], from: usize) -> [u64; 8]
     requires { ⌜ from ≤ 72 ⌝ }
 {
-    let mut taken = [0u64; 8];
-    let mut i = 0;
-    while i < 8 {
-        taken[i] = numbers[from + i];
-        i += 1;
-    }
-    taken
+    [
+        numbers[from],
+        numbers[from + 1],
+        numbers[from + 2],
+        numbers[from + 3],
+        numbers[from + 4],
+        numbers[from + 5],
+        numbers[from + 6],
+        numbers[from + 7],
+    ]
 }
 
 // Above every signed number.
@@ -34,14 +37,16 @@ pub fn signed(n: u64, below: bool) -> i64 {
 pub fn eight_signed(numbers: &[u64; 80], below: &[bool; 80], from: usize) -> [i64; 8]
     requires { ⌜ from ≤ 72 ⌝ }
 {
-    let mut taken = [0i64; 8];
-    let mut i = 0;
-    while i < 8 {
-        let number = signed(numbers[from + i], below[from + i]);
-        taken[i] = number;
-        i += 1;
-    }
-    taken
+    [
+        signed(numbers[from], below[from]),
+        signed(numbers[from + 1], below[from + 1]),
+        signed(numbers[from + 2], below[from + 2]),
+        signed(numbers[from + 3], below[from + 3]),
+        signed(numbers[from + 4], below[from + 4]),
+        signed(numbers[from + 5], below[from + 5]),
+        signed(numbers[from + 6], below[from + 6]),
+        signed(numbers[from + 7], below[from + 7]),
+    ]
 }
 
 // Whether the numbers from a place up to another, of the 80 of a line, are at most a limit.

@@ -18,40 +18,14 @@ pub enum Word {
     Unknown,
 }
 
-// The names of the words, in their order. Each is filled up with spaces, by one at least, so that no
-// longer word has the same eleven bytes: a line's word holds no space.
-const NAMES: [[u8; 11]; 11] = [
-    *b"swizzle    ",
-    *b"mode       ",
-    *b"fragment   ",
-    *b"holder     ",
-    *b"fields     ",
-    *b"descriptor ",
-    *b"mask       ",
-    *b"place      ",
-    *b"verdict    ",
-    *b"owner      ",
-    *b"stretch    ",
-];
-
-// The byte at a place of a word's name.
-fn named(k: usize, i: usize) -> u8 {
-    NAMES[k % 11][i % 11]
-}
-
-// The byte at a place of the line's word, filled up with spaces.
-fn filled(line: &[u8; 4096], end: usize, i: usize) -> u8 {
-    if i < end {
-        return line[i % 4096];
+// Whether the line's word, which ends there, is this name.
+fn is_named(line: &[u8; 4096], end: usize, name: &[u8]) -> bool {
+    if end != name.len() {
+        return false;
     }
-    b' '
-}
-
-// Whether the line's word has this name.
-fn is_named(line: &[u8; 4096], end: usize, k: usize) -> bool {
     let mut i = 0;
-    while i < 11 {
-        if filled(line, end, i) != named(k, i) {
+    while i < name.len() {
+        if line[i % 4096] != name[i] {
             return false;
         }
         i += 1;
@@ -59,34 +33,42 @@ fn is_named(line: &[u8; 4096], end: usize, k: usize) -> bool {
     true
 }
 
-// Which name the line's word has, and 11 where it has none of them.
-fn find(line: &[u8; 4096], end: usize) -> usize {
-    let mut k = 0;
-    while k < 11 {
-        if is_named(line, end, k) {
-            return k;
-        }
-        k += 1;
+// The line's word, by its name.
+fn word_of(line: &[u8; 4096], end: usize) -> Word {
+    if is_named(line, end, b"swizzle") {
+        return Word::Swizzle;
     }
-    11
-}
-
-// The word of a name.
-fn word_of(k: usize) -> Word {
-    match k {
-        0 => Word::Swizzle,
-        1 => Word::Mode,
-        2 => Word::Fragment,
-        3 => Word::Holder,
-        4 => Word::Fields,
-        5 => Word::Descriptor,
-        6 => Word::Mask,
-        7 => Word::Place,
-        8 => Word::Verdict,
-        9 => Word::Owner,
-        10 => Word::Stretch,
-        _ => Word::Unknown,
+    if is_named(line, end, b"mode") {
+        return Word::Mode;
     }
+    if is_named(line, end, b"fragment") {
+        return Word::Fragment;
+    }
+    if is_named(line, end, b"holder") {
+        return Word::Holder;
+    }
+    if is_named(line, end, b"fields") {
+        return Word::Fields;
+    }
+    if is_named(line, end, b"descriptor") {
+        return Word::Descriptor;
+    }
+    if is_named(line, end, b"mask") {
+        return Word::Mask;
+    }
+    if is_named(line, end, b"place") {
+        return Word::Place;
+    }
+    if is_named(line, end, b"verdict") {
+        return Word::Verdict;
+    }
+    if is_named(line, end, b"owner") {
+        return Word::Owner;
+    }
+    if is_named(line, end, b"stretch") {
+        return Word::Stretch;
+    }
+    Word::Unknown
 }
 
 // How many numbers the question of a word has.
@@ -159,7 +141,7 @@ pub fn question(
     let Line::Question(end, count) = read else {
         return Word::Unknown;
     };
-    let word = word_of(find(line, end));
+    let word = word_of(line, end);
     if count != wanted(word) {
         return Word::Unknown;
     }

@@ -9,7 +9,8 @@ use native.Mathlib.Numerals.{add-one}
 use native.Mathlib.Omega.{arith}
 use lib.ListN.{length, getD, drop, length-append, replicate, replicate-append-replicate, List·getD-append, set as store}
 use lib.Seq.{drop-cons, set-at, getD-at}
-use Rattle.mask.specs.Mask.{number, bytes, maskBit, zeroed, firstUsed}
+use Rattle.mask.specs.Mask.{number, bytes, zeroed, firstUsed}
+use Rattle.mask.specs.Bits.{maskBit}
 use Rattle.mask.proofs.Numbers.{number-bit, number-same}
 
 module _ (set : ℕ → Bool) where

@@ -9,15 +9,11 @@ use native.Mathlib.Nat.{pow-suc, lt-of-lt-of-le, add-assoc, add-zero, mod-eq-of-
 use native.Mathlib.Omega.{arith}
 use lib.Bits.{bitAnd, and-mask}
 use lib.ListN.{getD}
-use lib.Pow.{pow-mono, shl-shr, shl-exact, mod-pow-add, suc-ones}
+use lib.Pow.{pow-mono, shl-shr, mod-pow-add, suc-ones}
 use Rattle.laws.proofs.Order.{le-or-lt}
 use Rattle.mask.specs.Mask.{endless, number}
 use Rattle.mask.proofs.Numbers.{number-below, number-append, number-bit, number-of, number-moved}
 use Rattle.mask.proofs.Pattern.{turns, period, further-in}
-
--- a power of two within a word
-pub power : (count : ℕ) → count < 64 → (1 * 2 ^ count) % 2 ^ 64 ≡ 2 ^ count
-power count h = shl-exact 1 count 64 (omega arith) (omega arith) ∙ omega arith
 
 -- a word that holds so many columns from column p on
 abbrev pub Holds : (ℕ → Bool) → ℕ → ℕ → ℕ → Type 0

@@ -1,20 +1,22 @@
 -- What the definitions mean, in plain for-alls: a mask is its pattern's columns, what does not count changes nothing, and the promise settles
 -- the answer.
 use mathlib.Core.Path.{_≡_, refl, sym, ap, ap₂, fun-ext, _∙_}
-use mathlib.Core.Bool.{true, false}
-use mathlib.Core.List.{List}
+use mathlib.Core.Bool.{true, false, cond, not}
+use mathlib.Core.List.{List, _++_}
 use Prim.Native.Nat.{ℕ, _+_, _/_, _%_, _≤_, _<_}
 use native.Mathlib.Omega.{arith}
 use borrow.Author.Tests.{le-ltb}
-use lib.Dec.{ltb}
+use lib.Dec.{ltb, eqb}
 use lib.ListN.{length, getD, drop, replicate, List·getD-append}
 use lib.Seq.{drop-at}
-use Rattle.answers.proofs.OneToOne.{readBack, refused-back, pinned}
+use Rattle.answers.specs.Refusals.{answer}
+use Rattle.answers.proofs.OneToOne.{refusal-not-zero, readBack, refused-back, pinned, rung}
 use Rattle.descriptor.specs.Descriptor.{yes, fieldsOf, reserved}
-use Rattle.mask.specs.Mask.{maskSize, subBits, columns, bColumn, bytes, maskBit, zeroed, maskOf, maskAnswer, maskMemory, maskNumbers}
+use Rattle.mask.specs.Mask.{maskSize, subBits, columns, bytes, zeroed, firstUsed, maskOf, maskAnswer, maskMemory, maskNumbers}
+use Rattle.mask.specs.Bits.{bColumn, maskBit}
 use Rattle.descriptor.specs.declared.Fields.{Fields}
 use Rattle.mask.specs.declared.Generated.{Generated}
-use Rattle.mask.specs.declared.Generated.the-variants.{Mask, Refused as NoMask}
+use Rattle.mask.specs.declared.Generated.the-variants.{Mask, Refused}
 use Rattle.mask.proofs.Numbers.{zeroed-same, first-same}
 use Rattle.mask.proofs.Bytes.{bytes-length, none-zeroed, all-used, zero-bytes, bytes-bit}
 use Rattle.mask.proofs.Sizes.{sized}
@@ -100,9 +102,33 @@ mask-settled limit M N d lent p q k l a b =
     (same, a .1 ∙ ap (λ (r : Generated). maskMemory r M N d lent) same ∙ sym (b .1))
 
 -- pinning the numbers pins the answer
-mask-back : (p : Generated) → readBack (λ n. Mask (n .a) (n .b)) NoMask (maskNumbers p) ≡ p
+mask-back : (p : Generated) → readBack (λ n. Mask (n .a) (n .b)) Refused (maskNumbers p) ≡ p
 mask-back (Mask zeroed used) = refl
-mask-back (NoMask r) = refused-back (λ n. Mask (n .a) (n .b)) NoMask r
+mask-back (Refused r) = refused-back (λ n. Mask (n .a) (n .b)) Refused r
 
 pub mask-one-to-one : (p q : Generated) → maskNumbers p ≡ maskNumbers q → p ≡ q
-mask-one-to-one = pinned (λ n. Mask (n .a) (n .b)) NoMask maskNumbers mask-back
+mask-one-to-one = pinned (λ n. Mask (n .a) (n .b)) Refused maskNumbers mask-back
+
+-- in document 01's numbers: 13, 15, 16 with the limit, 11 with N / 8, or 0 with the zeroed columns and the first used one; and the lent memory,
+-- the mask and the bytes past it at 0, else untouched
+pub mask-in-numbers : (limit M N d : ℕ) (before after : List ℕ) (r : Generated) → r ≡ maskAnswer limit M N d (length before)
+    → after ≡ maskMemory r M N d before
+    → (maskNumbers r
+    ≡ cond (not (maskSize M N)) (answer 13 0 0 0)
+    (cond (reserved d) (answer 15 0 0 0)
+    (cond (ltb limit (fieldsOf d .shift)) (answer 16 limit 0 0)
+    (cond (ltb (length before) (N / 8)) (answer 11 (N / 8) 0 0)
+    (answer 0 (zeroed (columns M N d) 0 N) (firstUsed (columns M N d) 0 N) 0)))))
+    × (after ≡ cond (eqb (maskNumbers r .number) 0) (bytes (columns M N d) (N / 8) ++ drop (N / 8) before) before)
+mask-in-numbers limit M N d before after r e left = (
+  ap maskNumbers e
+      ∙ rung maskNumbers (not (maskSize M N)) refl
+      (rung maskNumbers (reserved d) refl
+      (rung maskNumbers (ltb limit (fieldsOf d .shift)) refl (rung maskNumbers (ltb (length before) (N / 8)) refl refl))),
+  left ∙ memory r,
+)
+  where
+    memory : (r : Generated)
+        → maskMemory r M N d before ≡ cond (eqb (maskNumbers r .number) 0) (bytes (columns M N d) (N / 8) ++ drop (N / 8) before) before
+    memory (Mask zeroed used) = refl
+    memory (Refused refusal) = rw (refusal-not-zero refusal)

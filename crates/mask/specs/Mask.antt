@@ -41,10 +41,6 @@ column size f p = f .«non_zero» && subColumn f (p / size) (p % size)
 abbrev pub columns : ℕ → ℕ → ℕ → ℕ → Bool
 columns M N d = column (subBits M N) (fieldsOf d)
 
--- the shift changes no mask bit: bit p speaks of B column p + shift
-abbrev pub bColumn : Fields → ℕ → ℕ
-bColumn f p = p + f .shift
-
 -- so many columns from p on as a number, its lowest bit column p
 unfoldable pub number : (ℕ → Bool) → ℕ → ℕ → ℕ
 number set p zero = 0
@@ -54,10 +50,6 @@ number set p (suc count) = bit (set p) + 2 * number set (p + 1) count
 unfoldable pub bytes : (ℕ → Bool) → ℕ → List ℕ
 bytes set zero = []
 bytes set (suc n) = bytes set n ++ (number set (8 * n) 8 ∷ [])
-
--- mask bit p is bit p mod 8 of byte p / 8
-abbrev pub maskBit : List ℕ → ℕ → Bool
-maskBit mask p = yes (p % 8) (getD mask (p / 8) 0)
 
 -- how many of so many columns from p on are zeroed
 unfoldable pub zeroed : (ℕ → Bool) → ℕ → ℕ → ℕ

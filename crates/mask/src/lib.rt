@@ -32,7 +32,7 @@ fn wide(byte: u8) -> u64
 }
 
 // The smaller of two numbers.
-fn smaller(a: u64, b: u64) -> u64
+fn lesser(a: u64, b: u64) -> u64
     ensures { λ r. ⌜ r ≡ min a b ⌝ }
 {
     if a < b { a } else { b }
@@ -130,7 +130,7 @@ fn mask_word(
     let mut word: u64 = 0;
     let mut k: u64 = 0;
     while k < count {
-        let step = smaller(size - (p + k) % size, count - k);
+        let step = lesser(size - (p + k) % size, count - k);
         word += piece(size, skip, used, counts, spans, pattern, p + k, step) << k;
         k += step;
     }
@@ -176,7 +176,7 @@ fn pattern_words(
     let mut first: u64 = 0;
     let mut p: u64 = 0;
     while p < n {
-        let count = smaller(n - p, 64);
+        let count = lesser(n - p, 64);
         let word = mask_word(size, skip, used, counts, spans, pattern, p, count);
         at[(p / 64) as usize] = word;
         zeroed += u64::count_ones(word) as u64;

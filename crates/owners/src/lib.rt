@@ -8,7 +8,7 @@ ghost use mathlib.Core.Path.{_≡_};
 ghost use Prim.Native.Nat.{_+_, _<_};
 ghost use lib.ListN.{length, replicate};
 ghost use Rattle.claims.specs.Claims.{taken, occupied};
-ghost use Rattle.claims.specs.Rows.{Within, smaller, entryMet, cellWith, cellMet, written, RowClaim};
+ghost use Rattle.claims.specs.Rows.{Within, minSome, entryMet, cellWith, cellMet, rowWritten, RowClaim};
 ghost use Rattle.owners.specs.Owners.{entryLimit, clashOf};
 
 // Every cell is nobody's. Public for the crates above.
@@ -23,8 +23,8 @@ pub fn clear(table: &mut [u32])
 }
 
 // The smaller of two numbers, where 0 stands for none.
-fn smaller(best: u64, found: u64) -> u64
-    ensures { λ r. ⌜ r ≡ smaller best found ⌝ }
+fn min_some(best: u64, found: u64) -> u64
+    ensures { λ r. ⌜ r ≡ minSome best found ⌝ }
 {
     if (found != 0) & ((best == 0) | (found < best)) {
         found
@@ -42,7 +42,7 @@ fn entry_met(table: &[u32], row: &[u32]) -> u64
     let mut copy = 0;
     while copy < row.len() {
         let cell = row[copy] as usize;
-        best = smaller(best, table[cell] as u64);
+        best = min_some(best, table[cell] as u64);
         copy += 1;
     }
     best
@@ -65,7 +65,7 @@ fn cell_met(table: &[u32], row: &[u32], entry: u64) -> u64
     let mut copy = 0;
     while copy < row.len() {
         let cell = row[copy] as usize;
-        best = smaller(
+        best = min_some(
             best,
             cell_with(table[cell] as u64, entry, Cell(cell as u64)),
         );
@@ -85,7 +85,7 @@ fn free(entry: u32) -> u64
 fn write_row(table: &mut [u32], row: &[u32], flat: Flat) -> u64
     requires { ⌜ Within (now row) (now table) ⌝ }
     requires { ⌜ flat .0 + 1 < entryLimit ⌝ }
-    ensures { λ r. ⌜ now (table .exit) ≡ written (flat .0 + 1) (now (row .entry)) (now (table .entry)) ⌝ }
+    ensures { λ r. ⌜ now (table .exit) ≡ rowWritten (flat .0 + 1) (now (row .entry)) (now (table .entry)) ⌝ }
     ensures { λ r. ⌜ r + occupied (now (table .entry)) ≡ occupied (now (table .exit)) ⌝ }
 {
     let entry = flat.0 as u32 + 1;

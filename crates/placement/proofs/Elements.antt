@@ -6,13 +6,14 @@ use native.Mathlib.Omega.{arith}
 use borrow.Author.Tests.{eq-eqb, ne-eqb, eqb-true}
 use lib.Dec.{eqb}
 use lib.ListN.{take}
+use Rattle.laws.proofs.Rungs.{apart}
 use Rattle.answers.specs.declared.Flat.{Flat}
 use Rattle.card.specs.Lists.{within, product}
 use Rattle.card.specs.Limits.{mostElements}
 use Rattle.card.proofs.Lists.{within-numbers}
 use Rattle.rules.specs.RowMajor.{position}
 use Rattle.placement.specs.Placement.{entries, mostDimensions, shapeAdmitted, coordinatesFit, flatten}
-use Rattle.placement.specs.Inside.{Shaped, element}
+use Rattle.placement.specs.Contracts.{Shaped, element}
 use Rattle.placement.specs.declared.Tuple.{Tuple}
 use Rattle.rules.specs.declared.Position.the-variants.{At, Past}
 use Rattle.placement.specs.declared.Found.the-variants.{Element, Nowhere}
@@ -42,14 +43,14 @@ module _ (shape coordinates : Tuple) where
       split : (b : Bool) → coordinatesFit shape coordinates ≡ b → cond b (Element (record { 0 = flatten shape coordinates })) Nowhere ≡ Element flat
           → (coordinatesFit shape coordinates ≡ true) × (flatten shape coordinates ≡ flat .0)
       split true t e = let same : record { 0 = flatten shape coordinates } ≡ flat = cc in (t, ap (λ (f : Flat). f .0) same)
-      split false t e = let z : _≡_ {A = ℕ} 0 1 = cc in absurd (omega arith)
+      split false t e = absurd (apart (cc))
 
   pub unnamed : element shape coordinates ≡ Nowhere → coordinatesFit shape coordinates ≡ false
   unnamed = split (coordinatesFit shape coordinates) refl
     where
       split : (b : Bool) → coordinatesFit shape coordinates ≡ b → cond b (Element (record { 0 = flatten shape coordinates })) Nowhere ≡ Nowhere
           → coordinatesFit shape coordinates ≡ false
-      split true t e = let z : _≡_ {A = ℕ} 0 1 = cc in absurd (omega arith)
+      split true t e = absurd (apart (cc))
       split false t e = t
 
 -- an admitted shape can be numbered

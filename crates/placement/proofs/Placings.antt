@@ -7,10 +7,10 @@ use borrow.Author.Tests.{le-leb, lt-leb, lt-ltb, le-ltb}
 use lib.ListN.{length, drop}
 use Rattle.answers.specs.declared.Flat.{Flat}
 use Rattle.answers.specs.declared.Refusal.{Refusal}
-use Rattle.answers.specs.declared.Refusal.the-variants.{Shape, Coordinate, TooShort, Outside}
+use Rattle.answers.specs.declared.Refusal.the-variants.{Shape, Coordinate, TooShort, CopyOutside}
 use Rattle.card.specs.Card.{elements, copies}
 use Rattle.card.specs.declared.Card.{Card}
-use Rattle.card.specs.declared.Admission.the-variants.{Admitted, Refused as NotAdmitted}
+use Rattle.card.specs.declared.Admission.the-variants.{Admitted, Refused as NoCard}
 use Rattle.rules.specs.Copies.{copyCells, outsideAxis}
 use Rattle.idle.specs.Admission.{fullAdmission}
 use Rattle.placement.specs.Placement.{shapeAdmitted, coordinatesFit, flatten, placementAnswer, placementMemory, written, Placing}
@@ -27,7 +27,7 @@ module _ (card : Card) (shape coordinates : Tuple) (before : List ℕ) where
     memory-is = sym (ap (λ (p : Placement). written p (copyCells card (flatten shape coordinates)) before) e);
   }
 
-  pub not-admitted : (refusal : Refusal) → fullAdmission card ≡ NotAdmitted refusal → Placing card shape coordinates before before (Refused refusal)
+  pub not-admitted : (refusal : Refusal) → fullAdmission card ≡ NoCard refusal → Placing card shape coordinates before before (Refused refusal)
   unfolding placementAnswer
   not-admitted refusal a = refused refusal (rw a)
 
@@ -47,9 +47,9 @@ module _ (card : Card) (shape coordinates : Tuple) (before : List ℕ) where
         too-short n e h = refused (TooShort n) (rw (a, s, k .0, sym e, lt-leb n (length before) h))
 
         pub lies-outside : (n axis : ℕ) → n ≡ copies card → n ≤ length before → axis ≡ outsideAxis card (flat .0) → axis < 8
-            → Placing card shape coordinates before before (Refused (Outside flat axis))
+            → Placing card shape coordinates before before (Refused (CopyOutside flat axis))
         unfolding placementAnswer
-        lies-outside n axis e h o below = refused (Outside flat axis) (rw (a, s, k .0, k .1, sym e, le-leb n (length before) h, sym o, lt-ltb axis 8 below))
+        lies-outside n axis e h o below = refused (CopyOutside flat axis) (rw (a, s, k .0, k .1, sym e, le-leb n (length before) h, sym o, lt-ltb axis 8 below))
 
         pub copied : (n axis : ℕ) {after : List ℕ} → n ≡ copies card → n ≤ length before → axis ≡ outsideAxis card (flat .0) → 8 ≤ axis
             → after ≡ copyCells card (flat .0) ++ drop n before → Placing card shape coordinates before after (Copies n)

@@ -1,2 +1,2 @@
 pub mod Placement
-pub mod Inside
+pub mod Contracts

@@ -7,12 +7,12 @@ use lib.Dec.{leb, eqb, ltb}
 use lib.ListN.{length, take, drop}
 use Rattle.answers.specs.Refusals.{answer, refusalNumbers}
 use Rattle.answers.specs.declared.Numbers.{Numbers}
-use Rattle.answers.specs.declared.Refusal.the-variants.{Shape, Coordinate, TooShort, Outside}
+use Rattle.answers.specs.declared.Refusal.the-variants.{Shape, Coordinate, TooShort, CopyOutside}
 use Rattle.card.specs.Lists.{within, product}
 use Rattle.card.specs.Card.{elements, copies}
 use Rattle.card.specs.declared.Card.{Card}
 use Rattle.card.specs.declared.Admission.{Admission}
-use Rattle.card.specs.declared.Admission.the-variants.{Admitted, Refused as NotAdmitted}
+use Rattle.card.specs.declared.Admission.the-variants.{Admitted, Refused as NoCard}
 use Rattle.rules.specs.RowMajor.{rowMajor, inside}
 use Rattle.rules.specs.Rules.{axes}
 use Rattle.rules.specs.Copies.{copyCells, outsideAxis}
@@ -47,12 +47,12 @@ elementAnswer card shape coordinates room =
     (cond (not (coordinatesFit shape coordinates)) (Refused Coordinate)
     (cond (not (leb (copies card) room)) (Refused (TooShort (copies card)))
     (cond (ltb (outsideAxis card (flatten shape coordinates)) (length axes))
-    (Refused (Outside (record { 0 = flatten shape coordinates }) (outsideAxis card (flatten shape coordinates))))
+    (Refused (CopyOutside (record { 0 = flatten shape coordinates }) (outsideAxis card (flatten shape coordinates))))
     (Copies (copies card)))))
 
 abbrev pub afterAdmission : Admission → Placement → Placement
 afterAdmission Admitted placement = placement
-afterAdmission (NotAdmitted refusal) placement = Refused refusal
+afterAdmission (NoCard refusal) placement = Refused refusal
 
 -- the answer for any numbers and a lent memory of this length
 unfoldable pub placementAnswer : Card → Tuple → Tuple → ℕ → Placement

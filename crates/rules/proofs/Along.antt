@@ -9,15 +9,16 @@ use native.Mathlib.Decide.{ℕ-discrete}
 use native.Mathlib.Omega.{arith}
 use lib.Dec.{eqb}
 use lib.ListN.{length, getD, set, take, length-set}
-use lib.Seq.{slice, slice-empty, getD-set-same, getD-set-other, ext-getD}
+use lib.Seq.{slice, slice-empty, getD-set-same, getD-set-other}
 use borrow.Author.Tests.{eq-eqb, ne-eqb}
 use Rattle.laws.proofs.Signed.{sum-far, times-far, add-in-front}
 use Rattle.card.specs.Lists.{all, within, withinZ, product}
 use Rattle.card.specs.Limits.{mostExtent, leastStride, mostStride}
 use Rattle.card.specs.Card.{extentOf, strideOf}
-use Rattle.card.specs.Inside.{farthest}
+use Rattle.card.specs.Packed.{farthest}
 use Rattle.card.specs.declared.Iter.{Iter}
 use Rattle.card.proofs.Lists.{within-numbers, stride-far}
+use Rattle.card.proofs.ReadBack.{eight-slots}
 use Rattle.rules.specs.RowMajor.{components}
 use Rattle.rules.specs.Rules.{axes, added}
 use Rattle.rules.specs.Copies.{combinations}
@@ -116,15 +117,8 @@ consecutive-at f c zero i other h = absurd (not-suc-le-zero h)
 consecutive-at f c (suc n) zero other h = ap f (omega arith)
 consecutive-at f c (suc n) (suc i) other h = consecutive-at f (c + 1) n i other (le-of-suc-le-suc h) ∙ ap f (omega arith)
 
-pub axes-at : {A : Type 0} (f : ℕ → A) (other : A) (i : ℕ) → i < 8 → getD (map f axes) i other ≡ f i
-axes-at f other i h = consecutive-at f 0 8 i other h ∙ ap f (omega arith)
-
--- a list of eight is a function of the axes if it is at each
-pub on-axes : {A : Type 0} (f : ℕ → A) (other : A) (l : List A) → length l ≡ 8 → ((i : ℕ) → i < 8 → getD l i other ≡ f i) → l ≡ map f axes
-on-axes f other l eight at = ext-getD other l (map f axes) eight (λ i h. at i (omega arith) ∙ sym (axes-at f other i (omega arith)))
-
 -- after all iters
 pub walked-all : (l : List Iter) (n index : ℕ) (start : List ℤ) {rest : ℕ} {sums : List ℤ} → Walking l n index start 0 rest sums
     → sums ≡ map (λ axis. getD start axis (pos 0) +ℤ along (take n l) index axis) axes
 walked-all l n index start {sums = sums} w =
-    on-axes (λ axis. getD start axis (pos 0) +ℤ along (take n l) index axis) (pos 0) sums (w .eight) (w .sums-so-far)
+    eight-slots (λ axis. getD start axis (pos 0) +ℤ along (take n l) index axis) (pos 0) sums (w .eight) (w .sums-so-far)

@@ -11,7 +11,7 @@ use lib.ListN.{length, getD, set, length-set, length-map}
 use lib.Seq.{getD-set-same, getD-set-other, ext-getD}
 use Rattle.rules.specs.Rules.{axes}
 use Rattle.rules.specs.Copies.{combinations, cellOf, pastAxis, cellsOf, smallest, outsideOf}
-use Rattle.rules.specs.Inside.{Row}
+use Rattle.rules.specs.Walked.{PlacedRow}
 use Rattle.rules.specs.declared.Spot.{Spot}
 use Rattle.rules.proofs.Along.{consecutive-at}
 
@@ -92,7 +92,7 @@ module _ (at : ℕ → Spot) (before : List ℕ) where
         smallest-axis = ap (λ (k : ℕ). min k (pastAxis (at n))) (f .smallest-axis) ∙ sym (outside-more at n);
       }
 
-  pub filling-all : {row : List ℕ} {outside : ℕ} → Filling at before row (length before) outside → Row at before row outside
+  pub filling-all : {row : List ℕ} {outside : ℕ} → Filling at before row (length before) outside → PlacedRow at before row outside
   filling-all {row} {outside} f =
       let n = length before in
       record {

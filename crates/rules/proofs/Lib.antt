@@ -1,14 +1,8 @@
 pub mod RowMajor
 pub mod Prefixes
-pub mod Below
 pub mod Along
-pub mod Lending
-pub mod Turn
-pub mod Located
-pub mod Spaces
 pub mod Filling
 pub mod Spots
-pub mod Numbers
-pub mod Cards
+pub mod Base
 pub mod Whole
 pub mod Theorems

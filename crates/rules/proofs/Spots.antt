@@ -6,6 +6,7 @@ use mathlib.Core.List.{List}
 use Prim.Native.Nat.{ℕ, _≤_, _<_}
 use native.Mathlib.Omega.{arith}
 use lib.ListN.{length}
+use Rattle.laws.proofs.Rungs.{apart}
 use Rattle.answers.specs.declared.Cell.{Cell}
 use Rattle.card.specs.Lists.{product}
 use Rattle.card.specs.Card.{cells}
@@ -31,7 +32,7 @@ module _ (sizes xs : List ℕ) where
     where
       split : (b : Bool) → inside sizes xs ≡ b → cond b (At (rowMajor sizes xs)) (Past (firstPast sizes xs)) ≡ At n → Numbered sizes xs n
       split true t e = record { within = t; number = cc }
-      split false t e = let z : _≡_ {A = ℕ} 0 1 = cc in absurd (omega arith)
+      split false t e = absurd (apart (cc))
 
   pub position-past : (k : ℕ) → position sizes xs ≡ Past k → (inside sizes xs ≡ false) × (firstPast sizes xs ≡ k)
   unfolding position
@@ -39,17 +40,17 @@ module _ (sizes xs : List ℕ) where
     where
       split : (b : Bool) → inside sizes xs ≡ b → cond b (At (rowMajor sizes xs)) (Past (firstPast sizes xs)) ≡ Past k
           → (inside sizes xs ≡ false) × (firstPast sizes xs ≡ k)
-      split true t e = let z : _≡_ {A = ℕ} 0 1 = cc in absurd (omega arith)
+      split true t e = absurd (apart (cc))
       split false t e = (t, cc)
 
 -- a spot inside is that of a number
 inside-at : (p : Position) (cell : Cell) → spotAt p ≡ Inside cell → p ≡ At (cell .0)
 inside-at (At n) cell e = let same : record { 0 = n } ≡ cell = cc in ap (λ (c : Cell). At (c .0)) same
-inside-at (Past k) cell e = let z : _≡_ {A = ℕ} 0 1 = cc in absurd (omega arith)
+inside-at (Past k) cell e = absurd (apart (cc))
 
 -- and one outside is that of a place past its size
 pub outside-past : (p : Position) (axis : ℕ) → spotAt p ≡ Outside axis → p ≡ Past axis
-outside-past (At n) axis e = let z : _≡_ {A = ℕ} 0 1 = cc in absurd (omega arith)
+outside-past (At n) axis e = absurd (apart (cc))
 outside-past (Past k) axis e = ap Past (cc)
 
 -- the smallest axis on which the copy lies outside

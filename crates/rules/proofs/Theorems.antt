@@ -19,7 +19,7 @@ use Rattle.rules.specs.Copies.{cellOf, pastAxis, outsideAxis}
 use Rattle.rules.specs.declared.Spot.{Spot}
 use Rattle.rules.specs.declared.Spot.the-variants.{Inside, Outside}
 use Rattle.rules.proofs.RowMajor.{row-major-below, row-major-one-to-one, components-inside, components-give-back}
-use Rattle.rules.proofs.Along.{axes-at}
+use Rattle.card.proofs.ReadBack.{eight-at}
 use Rattle.rules.proofs.Spots.{spot-inside, cell-below}
 use Rattle.rules.proofs.Filling.{outside-least, outside-found}
 
@@ -54,7 +54,7 @@ cell-one-to-one card = one-to-one (card .lengths)
 -- rules 3 and 4: on every axis but m the coordinate is the sum of its three parts, and on m the swizzle of that sum
 pub coordinate-at : (card : Card) (flat combination axis : ℕ) → axis < lastAxis → getD (finished card flat combination) axis (pos 0) ≡ sum card flat combination axis
 coordinate-at card flat combination axis h =
-    getD-set-other (map (sum card flat combination) axes) lastAxis axis _ (pos 0) (ne-of-lt h) ∙ axes-at (sum card flat combination) (pos 0) axis (omega arith)
+    getD-set-other (map (sum card flat combination) axes) lastAxis axis _ (pos 0) (ne-of-lt h) ∙ eight-at (sum card flat combination) (pos 0) axis (omega arith)
 
 pub m-coordinate : (card : Card) (flat combination : ℕ)
     → getD (finished card flat combination) lastAxis (pos 0) ≡ swizzledZ (card .swizzle) (sum card flat combination lastAxis)

@@ -11,6 +11,7 @@ use lib.Dec.{leb, ltb, le→leb, lt→ltb, ltb→lt}
 use lib.IntN.{ℤ, pos, negsuc}
 use lib.ListN.{length, getD, List·getD-map}
 use lib.Signed.{_≤ℤ_, _<ℤ_, leZ-yes, ltZ-yes}
+use Rattle.laws.proofs.Rungs.{apart}
 use Rattle.answers.specs.declared.Cell.{Cell}
 use Rattle.card.specs.Lists.{all, within, product}
 use Rattle.card.specs.Limits.{mostLength, mostCells}
@@ -36,7 +37,7 @@ lies-on-axis n (negsuc k) l = absurd (l .0 .le)
 
 inside-each : (sizes xs : List ℕ) → inside sizes xs ≡ true → (k : ℕ) → k < length sizes → getD xs k 0 < getD sizes k 0
 inside-each [] xs t k h = absurd (not-suc-le-zero h)
-inside-each (n ∷ ns) [] t k h = let z : _≡_ {A = ℕ} 0 1 = cc in absurd (omega arith)
+inside-each (n ∷ ns) [] t k h = absurd (apart (cc))
 inside-each (n ∷ ns) (x ∷ xs) t zero h = ltb-true x n (and-eq-true-iff (ltb x n) (inside ns xs) .0 t .0)
 inside-each (n ∷ ns) (x ∷ xs) t (suc k) h = inside-each ns xs (and-eq-true-iff (ltb x n) (inside ns xs) .0 t .1) k (le-of-suc-le-suc h)
 

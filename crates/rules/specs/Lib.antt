@@ -1,4 +1,4 @@
 pub mod RowMajor
 pub mod Rules
 pub mod Copies
-pub mod Inside
+pub mod Walked

@@ -32,19 +32,9 @@ added axis (iter ∷ iters) (c ∷ cs) = cond (eqb (iter .axis) axis) (pos c *�
 abbrev pub part : Iters → ℕ → ℕ → ℤ
 part iters index axis = added axis (listed iters) (components (map extentOf (listed iters)) index)
 
-abbrev pub shardPart : Card → ℕ → ℕ → ℤ
-shardPart card flat axis = part (card .shard) flat axis
-
--- then the offset
-abbrev pub offsetPart : Card → ℕ → ℤ
-offsetPart card axis = getD (card .offset) axis (pos 0)
-
--- then, for each replica combination, its components times their strides
-abbrev pub replicaPart : Card → ℕ → ℕ → ℤ
-replicaPart card combination axis = part (card .replica) combination axis
-
+-- the shard at a flat index, then the offset, then, for each replica combination, its components times their strides
 abbrev pub sum : Card → ℕ → ℕ → ℕ → ℤ
-sum card flat combination axis = shardPart card flat axis +ℤ offsetPart card axis +ℤ replicaPart card combination axis
+sum card flat combination axis = part (card .shard) flat axis +ℤ getD (card .offset) axis (pos 0) +ℤ part (card .replica) combination axis
 
 -- rule 4: the swizzle acts on the finished m coordinate, that of the last axis; m below zero is not swizzled
 abbrev pub swizzledZ : Swizzle → ℤ → ℤ

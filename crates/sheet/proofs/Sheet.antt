@@ -4,12 +4,12 @@ use mathlib.Core.Path.{_≡_, refl, sym, ap, ap₂}
 use mathlib.Core.Bool.{Bool, true, false, _&&_, and-eq-true-iff}
 use mathlib.Core.List.{List, [], _∷_}
 use Prim.Native.Nat.{ℕ, _<_}
-use native.Mathlib.Omega.{arith}
 use borrow.Author.Tests.{eqb-true}
 use lib.Dec.{eqb}
 use lib.Count.{leadingZeros}
 use lib.ListN.{length, getD}
 use Rattle.laws.proofs.Table.{every, every-at}
+use Rattle.laws.proofs.Rungs.{apart}
 use Rattle.swizzle.specs.Swizzle.{swizzled}
 use Rattle.swizzle.specs.Mode.{bitLength}
 use Rattle.fragment.specs.Kinds.{computation, registers, place}
@@ -23,7 +23,8 @@ use Rattle.idle.specs.Run.{pairOf}
 use Rattle.idle.specs.Admission.{fullAdmission}
 use Rattle.placement.specs.Placement.{placementAnswer, placementMemory}
 use Rattle.card.specs.declared.Card.{Card}
-use Rattle.judgement.specs.Verdict.{VerdictPromise, OwnerPromise, verdictNumbers, ownerNumbers}
+use Rattle.judgement.specs.Verdict.{tableAfter, VerdictPromise, ownerTableAfter, OwnerPromise, verdictNumbers, ownerNumbers}
+use Rattle.judgement.specs.Run.{judge, ownerRun}
 use Rattle.judgement.specs.declared.Verdict.{Verdict}
 use Rattle.judgement.specs.declared.Owner.{Owner}
 use Rattle.judgement.proofs.Run.{verdict-is-run, owner-is-run}
@@ -50,8 +51,8 @@ both a b e = and-eq-true-iff a b .0 e
 
 list-same : (xs ys : List ℕ) → same-list xs ys ≡ true → xs ≡ ys
 list-same [] [] e = refl
-list-same [] (y ∷ ys) e = let z : _≡_ {A = ℕ} 0 1 = cc in absurd (omega arith)
-list-same (x ∷ xs) [] e = let z : _≡_ {A = ℕ} 0 1 = cc in absurd (omega arith)
+list-same [] (y ∷ ys) e = absurd (apart (cc))
+list-same (x ∷ xs) [] e = absurd (apart (cc))
 list-same (x ∷ xs) (y ∷ ys) e =
     let t = both (eqb x y) (same-list xs ys) e in
     ap₂ (λ (a : ℕ) (l : List ℕ). a ∷ l) (eqb-true x y (t .0)) (list-same xs ys (t .1))
@@ -89,15 +90,19 @@ sheet-holds other k h =
     let load = getD loads k other in
     reply-same (asked (load .question)) (load .stated) (every-at meets loads other test k h)
 
--- a load of the verdict is a load of its promise: whatever the promise allows has the numbers that the run computes
+-- a load of the verdict is a load of its promise: whatever the promise allows has the numbers that the run computes, and leaves its table
 pub verdict-carried : (card : Card) (before after : List ℕ) (v : Verdict) → VerdictPromise card before after v
-    → asked (verdict card before) ≡ reply (verdictNumbers v) []
+    → (asked (verdict card before) ≡ reply (verdictNumbers v) []) × (after ≡ tableAfter card (judge card (length before)) before)
 unfolding asked
-verdict-carried card before after v p = ap (λ (w : Verdict). reply (verdictNumbers w) []) (sym (verdict-is-run card before after v p .0))
+verdict-carried card before after v p =
+    let run = verdict-is-run card before after v p in
+    (ap (λ (w : Verdict). reply (verdictNumbers w) []) (sym (run .0)), run .1)
 
 -- and so is one of the owner
 pub owner-carried : (card : Card) (coordinates before after : List ℕ) (o : Owner) → OwnerPromise card coordinates before after o
-    → asked (owner card coordinates before) ≡ reply (ownerNumbers o) []
+    → (asked (owner card coordinates before) ≡ reply (ownerNumbers o) [])
+    × (after ≡ ownerTableAfter card (ownerRun card coordinates (length before)) before)
 unfolding asked
 owner-carried card coordinates before after o p =
-    ap (λ (w : Owner). reply (ownerNumbers w) []) (sym (owner-is-run card coordinates before after o p .0))
+    let run = owner-is-run card coordinates before after o p in
+    (ap (λ (w : Owner). reply (ownerNumbers w) []) (sym (run .0)), run .1)

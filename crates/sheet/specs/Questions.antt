@@ -1,4 +1,4 @@
--- The library's questions with their numbers, and what the definitions answer to each.
+-- The questions that the sheet asks, and the reply to each: by its definition, of a verdict and an owner by the run.
 use mathlib.Core.List.{List, []}
 use lib.ListN.{length}
 use Prim.Native.Nat.{ℕ}
@@ -36,8 +36,8 @@ pub data Question : Type 0 where
   -- eight lengths, the axis, eight coordinates and the lent table; the values are the stretch
   stretch : List ℕ → ℕ → List ℕ → List ℕ → Question
 
--- a number with its details, and the values in lent memory of a mask or a placement, or the stretch; of a verdict and an owner the theorem
--- that carries a load to the promise gives the table
+-- a number with its details, and the values left in the lent memory of a mask or a placement, or the stretch; a verdict and an owner have none
+-- here: that the table they leave is the run's is part of the theorem that carries them to their promise
 pub record Reply : Type 0 where
   pub numbers : Numbers
   pub values : List ℕ

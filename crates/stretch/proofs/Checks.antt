@@ -1,6 +1,6 @@
 -- What is known where the answer is a stretch: the four checks have passed, one by one, and it ends within the cells.
-use mathlib.Core.Path.{_≡_, refl, sym, ap}
-use mathlib.Core.Bool.{Bool, true, false, cond, not, and-eq-true-iff}
+use mathlib.Core.Path.{_≡_, sym}
+use mathlib.Core.Bool.{true, not, and-eq-true-iff}
 use mathlib.Core.List.{List}
 use Prim.Native.Nat.{ℕ, _+_, _/_, _≤_}
 use native.Mathlib.Nat.{le-mul-of-pos-right, mul-div-cancel-left}
@@ -16,9 +16,9 @@ use Rattle.card.specs.Admission.{spaceFits}
 use Rattle.card.proofs.Lists.{product-positive}
 use Rattle.rules.specs.RowMajor.{rowMajor, inside}
 use Rattle.laws.proofs.Products.{factors}
+use Rattle.laws.proofs.Rungs.{apart, passed-by}
 use Rattle.rules.proofs.Prefixes.{product-parts, prefix-within}
 use Rattle.stretch.specs.Stretch.{asked, stretchAnswer}
-use Rattle.stretch.specs.declared.Located.{Located}
 use Rattle.stretch.specs.declared.Located.the-variants.{Stretch, Refused}
 
 -- a space that fits, its axes in two parts: each part has cells, and both no more than a space may have
@@ -45,7 +45,7 @@ parted lengths n t =
     }
 
 -- the four checks have passed, and this is the stretch
-pub record Passed (lengths : List ℕ) (axis : ℕ) (coordinates : List ℕ) (entries first long : ℕ) : Type 0 where
+pub record ChecksPassed (lengths : List ℕ) (axis : ℕ) (coordinates : List ℕ) (entries first long : ℕ) : Type 0 where
   pub fits : spaceFits lengths ≡ true
   pub inside-asked : inside (asked axis lengths) (asked axis coordinates) ≡ true
   pub room : product lengths ≤ entries
@@ -53,44 +53,34 @@ pub record Passed (lengths : List ℕ) (axis : ℕ) (coordinates : List ℕ) (en
   pub long-is : long ≡ product (drop (axis + 1) lengths)
 
 -- the stretch ends within the cells, and these within the table; it has a cell, and no more than a space may have
-pub record Within (lengths : List ℕ) (entries first long : ℕ) : Type 0 where
+pub record StretchWithin (lengths : List ℕ) (entries first long : ℕ) : Type 0 where
   pub ends : first + long ≤ product lengths
   pub held : product lengths ≤ entries
   pub some : 1 ≤ long
   pub most : product lengths ≤ mostCells
 
--- two stretches that are one have one first cell and one length
-abbrev firstOf : Located → ℕ
-firstOf (Stretch first long) = first .0
-firstOf (Refused refusal) = 0
-
-abbrev longOf : Located → ℕ
-longOf (Stretch first long) = long
-longOf (Refused refusal) = 0
-
--- where the answer is a stretch, a check before it has passed
-passed-by : (b : Bool) (r : Refusal) (next : Located) {first : Cell} {long : ℕ} → cond b (Refused r) next ≡ Stretch first long
-    → (b ≡ false) × (next ≡ Stretch first long)
-passed-by true r next e = let z : _≡_ {A = ℕ} 0 1 = cc in absurd (omega arith)
-passed-by false r next e = (refl, e)
+-- a stretch is no refusal
+not-refused : {r : Refusal} {first : Cell} {long : ℕ} → Refused r ≡ Stretch first long → ⊥
+not-refused e = apart (cc)
 
 module _ (lengths : List ℕ) (axis : ℕ) (coordinates : List ℕ) (entries : ℕ) (first : Cell) (long : ℕ)
     (found : stretchAnswer lengths axis coordinates entries ≡ Stretch first long) where
-  pub answer-passed : Passed lengths axis coordinates entries (first .0) long
+  pub answer-passed : ChecksPassed lengths axis coordinates entries (first .0) long
   answer-passed =
-      let three = passed-by (ltb lastAxis axis) _ _ found in
-      let four = passed-by (not (spaceFits lengths)) _ _ (three .1) in
-      let twelve = passed-by (not (inside (asked axis lengths) (asked axis coordinates))) _ _ (four .1) in
-      let eleven = passed-by (ltb entries (product lengths)) _ _ (twelve .1) in
+      let three = passed-by (ltb lastAxis axis) found not-refused in
+      let four = passed-by (not (spaceFits lengths)) (three .1) not-refused in
+      let twelve = passed-by (not (inside (asked axis lengths) (asked axis coordinates))) (four .1) not-refused in
+      let eleven = passed-by (ltb entries (product lengths)) (twelve .1) not-refused in
+      let same = eleven .1 in
       record {
         fits = not-false (spaceFits lengths) (four .0);
         inside-asked = not-false (inside (asked axis lengths) (asked axis coordinates)) (twelve .0);
         room = ltb-false entries (product lengths) (eleven .0);
-        first-is = sym (ap firstOf (eleven .1));
-        long-is = sym (ap longOf (eleven .1));
+        first-is = cc;
+        long-is = cc;
       }
 
-  pub answer-within : Within lengths entries (first .0) long
+  pub answer-within : StretchWithin lengths entries (first .0) long
   answer-within =
       let passed = answer-passed in
       let space = parted lengths (axis + 1) (passed .fits) in

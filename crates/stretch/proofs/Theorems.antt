@@ -1,24 +1,27 @@
 -- What the definition of the stretch means, in plain for-alls, from the laws on the checks and on prefixes.
 use mathlib.Core.Path.{_≡_, refl, sym, ap, _∙_}
-use mathlib.Core.Bool.{Bool, true, false, cond, not}
+use mathlib.Core.Bool.{true, not, cond}
 use mathlib.Core.Logic.{_↔_}
 use mathlib.Core.List.{List, []}
-use Prim.Native.Nat.{ℕ, _+_, _≤_, _<_, min}
+use Prim.Native.Nat.{ℕ, _+_, _*_, _≤_, _<_, min}
 use native.Mathlib.Omega.{arith}
-use lib.Dec.{ltb}
-use lib.ListN.{length, drop, length-take, length-drop}
+use lib.Dec.{ltb, eqb}
+use lib.ListN.{length, take, drop, length-take, length-drop}
+use Rattle.answers.specs.Refusals.{answer}
 use Rattle.answers.specs.declared.Cell.{Cell}
 use Rattle.answers.specs.declared.Numbers.{Numbers}
 use Rattle.answers.specs.declared.Refusal.{Refusal}
 use Rattle.answers.specs.declared.Refusal.the-variants.{Axis, Space, TooShort, CellOutside}
-use Rattle.answers.proofs.OneToOne.{readBack, refused-back, pinned}
+use Rattle.answers.proofs.OneToOne.{refusal-not-zero, readBack, refused-back, pinned, rung}
+use borrow.Author.Tests.{not-true}
+use Rattle.laws.proofs.Rungs.{apart, passed-by, ended-at}
 use Rattle.card.specs.Lists.{product}
 use Rattle.card.specs.Limits.{lastAxis}
 use Rattle.card.specs.Admission.{spaceFits}
 use Rattle.rules.specs.RowMajor.{rowMajor, components, inside, firstPast}
 use Rattle.rules.proofs.RowMajor.{components-inside, components-give-back, FirstPast, first-past}
 use Rattle.rules.proofs.Prefixes.{prefix-under}
-use Rattle.stretch.specs.Stretch.{asked, stretchUnder, stretchAnswer, stretchOf, Begins, stretchNumbers}
+use Rattle.stretch.specs.Stretch.{asked, stretchAnswer, stretchOf, Begins, stretchNumbers}
 use Rattle.stretch.specs.declared.Located.{Located}
 use Rattle.stretch.specs.declared.Located.the-variants.{Stretch, Refused}
 use Rattle.stretch.proofs.Checks.{answer-passed, answer-within}
@@ -57,30 +60,18 @@ past-axis lengths axis coordinates others entries e = rw e
 -- the axis that refusal 12 names is the smallest one outside: its coordinate is not below its length, and each before it is
 pub outside-smallest : (lengths : List ℕ) (axis : ℕ) (coordinates : List ℕ) (entries a : ℕ) → length coordinates ≡ length lengths
     → stretchAnswer lengths axis coordinates entries ≡ Refused (CellOutside a) → FirstPast (asked axis lengths) (asked axis coordinates) a
-outside-smallest lengths axis coordinates entries a same =
-    go (ltb lastAxis axis) (spaceFits lengths) (inside long near) (ltb entries (product lengths)) refl
-  where
-    long : List ℕ
-    long = asked axis lengths
-
-    near : List ℕ
-    near = asked axis coordinates
-
-    equally : length near ≡ length long
-    equally = length-take (axis + 1) coordinates ∙ ap (min (axis + 1)) same ∙ sym (length-take (axis + 1) lengths)
-
-    go : (p q r s : Bool) → inside long near ≡ r
-        → cond p (Refused Axis)
-        (cond (not q) (Refused Space)
-        (cond (not r) (Refused (CellOutside (firstPast long near)))
-        (cond s (Refused (TooShort (product lengths))) (stretchUnder lengths axis coordinates))))
-        ≡ Refused (CellOutside a)
-        → FirstPast long near a
-    go true q r s h e = let z : _≡_ {A = ℕ} 0 1 = cc in absurd (omega arith)
-    go false false r s h e = let z : _≡_ {A = ℕ} 0 1 = cc in absurd (omega arith)
-    go false true false s h e = let found : firstPast long near ≡ a = cc in rw (sym found) (first-past long near equally h)
-    go false true true true h e = let z : _≡_ {A = ℕ} 0 1 = cc in absurd (omega arith)
-    go false true true false h e = let z : _≡_ {A = ℕ} 0 1 = cc in absurd (omega arith)
+outside-smallest lengths axis coordinates entries a same e =
+    let long = asked axis lengths in
+    let near = asked axis coordinates in
+    let equally : length near ≡ length long =
+    length-take (axis + 1) coordinates ∙ ap (min (axis + 1)) same ∙ sym (length-take (axis + 1) lengths) in
+    let three = passed-by (ltb lastAxis axis) e (λ q. apart (cc)) in
+    let four = passed-by (not (spaceFits lengths)) (three .1) (λ q. apart (cc)) in
+    let twelve = ended-at (not (inside long near)) (four .1)
+    (λ q. let eleven = passed-by (ltb entries (product lengths)) q (λ p. apart (cc)) in let other = eleven .1 in apart (cc)) in
+    let last = twelve .1 in
+    let found : firstPast long near ≡ a = cc in
+    rw (sym found) (first-past long near equally (not-true _ (twelve .0)))
 
 module _ (lengths : List ℕ) (axis : ℕ) (coordinates : List ℕ) (entries : ℕ) (first : Cell) (long : ℕ)
     (found : stretchAnswer lengths axis coordinates entries ≡ Stretch first long) where
@@ -114,3 +105,28 @@ empty-refused table lengths axis coordinates =
         let w = answer-within lengths axis coordinates (length table) first long e in
         absurd (omega (arith, ap length q, length-take long (drop (first .0) table), length-drop (first .0) table))
     split (Refused r) e q = (r, refl)
+
+-- in document 01's numbers: 3, 4, 12 with the smallest axis, 11 with the cells, or 0 with the first cell and the length
+pub locate-in-numbers : (lengths : List ℕ) (axis : ℕ) (coordinates : List ℕ) (entries : ℕ) (r : Located)
+    → r ≡ stretchAnswer lengths axis coordinates entries
+    → stretchNumbers r
+    ≡ cond (ltb lastAxis axis) (answer 3 0 0 0)
+    (cond (not (spaceFits lengths)) (answer 4 0 0 0)
+    (cond (not (inside (asked axis lengths) (asked axis coordinates))) (answer 12 (firstPast (asked axis lengths) (asked axis coordinates)) 0 0)
+    (cond (ltb entries (product lengths)) (answer 11 (product lengths) 0 0)
+    (answer 0 (rowMajor lengths (asked axis coordinates)) (product (drop (axis + 1) lengths)) 0))))
+locate-in-numbers lengths axis coordinates entries r e =
+    ap stretchNumbers e
+    ∙ rung stretchNumbers (ltb lastAxis axis) refl
+    (rung stretchNumbers (not (spaceFits lengths)) refl
+    (rung stretchNumbers (not (inside (asked axis lengths) (asked axis coordinates))) refl
+    (rung stretchNumbers (ltb entries (product lengths)) refl refl)))
+
+-- and the stretch itself, by the numbers that the companion question gives: at 0 so many entries from the first cell on, four bytes a cell
+-- into the table, and else empty
+pub stretch-in-numbers : (table : List ℕ) (r : Located) (part : List ℕ) (start place : ℕ × ℕ) → part ≡ stretchOf r table → Begins r start place
+    → let n = stretchNumbers r in
+    (part ≡ cond (eqb (n .number) 0) (take (n .b) (drop (n .a) table)) [])
+    × (place .0 ≡ start .0) × (place .1 ≡ start .1 + 4 * cond (eqb (n .number) 0) (n .a) 0)
+stretch-in-numbers table (Stretch first long) part start place e b = (e, b .0, b .1)
+stretch-in-numbers table (Refused refusal) part start place e b = rw (refusal-not-zero refusal) (e, b .0, b .1)

@@ -20,12 +20,8 @@ use Rattle.stretch.specs.declared.Located.the-variants.{Stretch, Refused
 abbrev pub asked : ℕ → List ℕ → List ℕ
 asked axis numbers = take (axis + 1) numbers
 
--- the first cell under the asked coordinates, where those not asked count as 0, and as many cells as the axes after the asked one have
-abbrev pub stretchUnder : List ℕ → ℕ → List ℕ → Located
-stretchUnder lengths axis coordinates =
-    Stretch (record { 0 = rowMajor lengths (asked axis coordinates) }) (product (drop (axis + 1) lengths))
-
--- the answer, for a table of so many entries
+-- the answer, for a table of so many entries: the first cell under the asked coordinates, where those not asked count as 0, and as many cells as
+-- the axes after the asked one have
 abbrev pub stretchAnswer : List ℕ → ℕ → List ℕ → ℕ → Located
 stretchAnswer lengths axis coordinates room =
     cond (ltb lastAxis axis) (Refused Axis)
@@ -33,7 +29,7 @@ stretchAnswer lengths axis coordinates room =
     (cond (not (inside (asked axis lengths) (asked axis coordinates)))
     (Refused (CellOutside (firstPast (asked axis lengths) (asked axis coordinates))))
     (cond (ltb room (product lengths)) (Refused (TooShort (product lengths)))
-    (stretchUnder lengths axis coordinates))))
+    (Stretch (record { 0 = rowMajor lengths (asked axis coordinates) }) (product (drop (axis + 1) lengths))))))
 
 -- the stretch of the table itself: empty where refused
 abbrev pub stretchOf : Located → List ℕ → List ℕ

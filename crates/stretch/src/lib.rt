@@ -21,21 +21,21 @@ pub fn locate_stretch(table: &[u32], lengths: [u64; 8], axis: u64, coordinates: 
     if axis > card::LAST_AXIS {
         return Located::Refused(Refusal::Axis);
     }
-    if !card::space_fits(lengths) {
+    if !admission::space_fits(lengths) {
         return Located::Refused(Refusal::Space);
     }
-    let number = match rules::locate(&lengths, &coordinates, axis + 1) {
+    let number = match copies::locate(&lengths, &coordinates, axis + 1) {
         Position::At(number) => number,
         Position::Past(outside) => {
             return Located::Refused(Refusal::CellOutside { axis: outside });
         }
     };
-    let cells = card::product(lengths, 8);
+    let cells = packed::product(lengths, 8);
     if (table.len() as u64) < cells {
         return Located::Refused(Refusal::TooShort { needed: cells });
     }
     // each prefix has equally many cells under it
-    let length = cells / card::product(lengths, axis + 1);
+    let length = cells / packed::product(lengths, axis + 1);
     Located::Stretch {
         first: Cell(number * length),
         length,

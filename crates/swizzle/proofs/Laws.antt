@@ -1,14 +1,15 @@
 -- What the swizzle changes and what it leaves, for all widths: its two parts are bits S to S+B-1, which stay, and bits 0 to B-1, which
 -- they are XORed into.
 use mathlib.Core.Path.{_≡_, sym, ap, ap₂, _∙_}
-use mathlib.Core.Bool.{true, _&&_, and-eq-true-iff}
+use mathlib.Core.Bool.{true}
 use Prim.Native.Nat.{ℕ, zero, _+_, _*_, _/_, _%_, _^_, _≤_, _<_}
-use native.Mathlib.Nat.{mod-lt, div-eq-of-lt, lt-of-lt-of-le, add-zero, one-mul}
+use native.Mathlib.Nat.{mod-lt, div-eq-of-lt, lt-of-lt-of-le, add-zero}
 use native.Mathlib.Omega.{arith}
 use borrow.Author.Tests.{leb-true}
 use lib.Dec.{leb}
 use lib.Pow.{pow-pos, pow-mono, split, high, low, shr-shr, shl-exact}
 use lib.Bits.{bitXor, xor-shr, xor-zero-r, xor-block}
+use Rattle.laws.proofs.Tests.{four-of}
 use Rattle.swizzle.specs.Swizzle.{permitted, picked, swizzled}
 use Rattle.swizzle.proofs.Xor.{xor-twice}
 
@@ -21,14 +22,12 @@ pub record Permitted (M B S : ℕ) : Type 0 where
 
 pub permitted-numbers : (M B S : ℕ) → permitted M B S ≡ true → Permitted M B S
 permitted-numbers M B S p =
-    let p3 = and-eq-true-iff (leb M 8 && leb B 4 && leb S 8) (leb B S) .0 p in
-    let p2 = and-eq-true-iff (leb M 8 && leb B 4) (leb S 8) .0 (p3 .0) in
-    let p1 = and-eq-true-iff (leb M 8) (leb B 4) .0 (p2 .0) in
+    let parts = four-of (leb M 8) (leb B 4) (leb S 8) (leb B S) p in
     record {
-      most-m = leb-true M 8 (p1 .0);
-      most-b = leb-true B 4 (p1 .1);
-      most-s = leb-true S 8 (p2 .1);
-      not-below = leb-true B S (p3 .1);
+      most-m = leb-true M 8 (parts .0);
+      most-b = leb-true B 4 (parts .1);
+      most-s = leb-true S 8 (parts .2);
+      not-below = leb-true B S (parts .3);
     }
 
 -- x with its bits S to S+B-1 XORed into bits 0 to B-1
@@ -58,7 +57,7 @@ module _ (M B S m : ℕ) where
   -- the low M bits stay
   pub swizzled-low : swizzled M B S m % 2 ^ M ≡ m % 2 ^ M
   unfolding swizzled
-  swizzled-low = low (crossed B S (m / 2 ^ M)) M rest-below
+  swizzled-low = low _ M rest-below
 
   -- above them x is crossed
   pub swizzled-high : swizzled M B S m / 2 ^ M ≡ crossed B S (m / 2 ^ M)
@@ -82,9 +81,6 @@ swizzle-twice M B S m h =
     ∙ split m M
 
 -- as the code has it, in 64 bits: the picked bits, shifted up by M, XORed into the address
-pub one-shifted : (B : ℕ) → B ≤ 4 → 1 * 2 ^ B % 2 ^ 64 ≡ 2 ^ B
-one-shifted B h = shl-exact 1 B 64 (omega arith) (omega arith) ∙ one-mul (2 ^ B)
-
 pub swizzled-shifted : (M B S m : ℕ) → M ≤ 8 → B ≤ 4 → bitXor m (picked B S (m / 2 ^ M) * 2 ^ M % 2 ^ 64) ≡ swizzled M B S m
 unfolding swizzled
 swizzled-shifted M B S m hm hb =

@@ -10,9 +10,11 @@ use lib.Dec.{ltb}
 use lib.Pow.{pow-add, pow-mono, split, shr-shr, field, mod-mod-pow}
 use lib.Bits.{bitXor, xor-shr, xor-mod}
 use lib.Count.{leading-length}
+use Rattle.answers.specs.Refusals.{answer}
 use Rattle.answers.specs.declared.Numbers.{Numbers}
 use Rattle.answers.specs.declared.Refusal.the-variants.{Swizzle as NotPermitted}
-use Rattle.answers.proofs.OneToOne.{readBack, refused-back, pinned}
+use Rattle.answers.proofs.OneToOne.{readBack, refused-back, pinned, rung}
+use Rattle.laws.proofs.Rungs.{apart, ended-at}
 use Rattle.swizzle.specs.Swizzle.{permitted, picked, swizzled, swizzleAnswer, swizzleNumbers}
 use Rattle.swizzle.specs.Mode.{known, bitLength, modeAnswer, modeNumbers}
 use Rattle.swizzle.specs.declared.Swizzled.{Swizzled}
@@ -126,16 +128,11 @@ known-permitted bits mode k =
 
 -- for every bits and mode the numbers that come out are permitted
 pub mode-permitted : (bits mode : ℕ) (w : Swizzle) → modeAnswer bits mode ≡ Parameters w → permitted (w .m) (w .b) (w .s) ≡ true
-mode-permitted bits mode w = split (known bits mode) refl
-  where
-    chosen : Swizzle
-    chosen = record { m = bitLength (128 / bits) - 1; b = mode; s = 3 }
-
-    split : (k : Bool) → known bits mode ≡ k → cond k (Parameters chosen) (NotChosen NotPermitted) ≡ Parameters w → permitted (w .m) (w .b) (w .s) ≡ true
-    split true k e =
-        let same : chosen ≡ w = cc in
-        rw (sym same) (known-permitted bits mode k)
-    split false k e = let z : _≡_ {A = ℕ} 0 1 = cc in absurd (omega arith)
+mode-permitted bits mode w e =
+    let named = ended-at (known bits mode) e (λ q. apart (cc)) in
+    let last = named .1 in
+    let same : _≡_ {A = Swizzle} (record { m = bitLength (128 / bits) - 1; b = mode; s = 3 }) w = cc in
+    rw (sym same) (known-permitted bits mode (named .0))
 
 -- two outcomes that the promise of the swizzle of an address allows are equal
 pub swizzle-settled : (M B S m : ℕ) (p q : Swizzled) → p ≡ swizzleAnswer M B S m → q ≡ swizzleAnswer M B S m → p ≡ q
@@ -163,3 +160,13 @@ mode-back (NotChosen r) = refused-back chosen NotChosen r
 
 pub mode-one-to-one : (p q : Chosen) → modeNumbers p ≡ modeNumbers q → p ≡ q
 mode-one-to-one = pinned chosen NotChosen modeNumbers mode-back
+
+-- in document 01's numbers: 0 and the new address, or 6
+pub swizzle-in-numbers : (M B S m : ℕ) (r : Swizzled) → r ≡ swizzleAnswer M B S m
+    → swizzleNumbers r ≡ cond (permitted M B S) (answer 0 (swizzled M B S m) 0 0) (answer 6 0 0 0)
+swizzle-in-numbers M B S m r e = ap swizzleNumbers e ∙ rung swizzleNumbers (permitted M B S) refl refl
+
+-- 0 and M, B, S, or 6
+pub mode-in-numbers : (bits mode : ℕ) (r : Chosen) → r ≡ modeAnswer bits mode
+    → modeNumbers r ≡ cond (known bits mode) (answer 0 (bitLength (128 / bits) - 1) mode 3) (answer 6 0 0 0)
+mode-in-numbers bits mode r e = ap modeNumbers e ∙ rung modeNumbers (known bits mode) refl refl

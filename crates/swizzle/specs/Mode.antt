@@ -7,7 +7,7 @@ use Rattle.answers.specs.Refusals.{answer, refusalNumbers}
 use Rattle.answers.specs.declared.Numbers.{Numbers}
 use Rattle.answers.specs.declared.Refusal.the-variants.{Swizzle}
 use Rattle.swizzle.specs.declared.Chosen.{Chosen}
-use Rattle.swizzle.specs.declared.Chosen.the-variants.{Parameters, Refused}
+use Rattle.swizzle.specs.declared.Chosen.the-variants.{Parameters, Refused as NotChosen}
 
 -- element bits 4, 8, 16, 32, 64 or 128
 abbrev pub knownBits : ℕ → Bool
@@ -24,9 +24,9 @@ bitLength n = 64 - leadingZeros 64 n
 -- M = bit length of (128 / bits), less 1; B = mode; S = 3. Any other bits or mode is refusal 6
 abbrev pub modeAnswer : ℕ → ℕ → Chosen
 modeAnswer bits mode =
-    cond (known bits mode) (Parameters (record { m = bitLength (128 / bits) - 1; b = mode; s = 3 })) (Refused Swizzle)
+    cond (known bits mode) (Parameters (record { m = bitLength (128 / bits) - 1; b = mode; s = 3 })) (NotChosen Swizzle)
 
 -- at number 0 M, B, S
 abbrev pub modeNumbers : Chosen → Numbers
 modeNumbers (Parameters swizzle) = answer 0 (swizzle .m) (swizzle .b) (swizzle .s)
-modeNumbers (Refused refusal) = refusalNumbers refusal
+modeNumbers (NotChosen refusal) = refusalNumbers refusal

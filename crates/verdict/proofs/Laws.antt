@@ -5,38 +5,47 @@ use Prim.Native.Nat.{ℕ, _+_, _-_, _≤_, _<_}
 use native.Mathlib.Decide.{decLe}
 use native.Mathlib.Omega.{arith}
 use borrow.Author.Count.{below-more}
+use lib.IntN.{ℤ}
 use lib.ListN.{length, replicate, length-replicate}
+use Rattle.laws.proofs.Rungs.{apart}
 use Rattle.card.specs.Card.{elements, copies, cells}
+use Rattle.card.specs.Packed.{cardOf, Admits}
 use Rattle.card.specs.Admission.{admission}
 use Rattle.card.specs.declared.Card.{Card}
 use Rattle.card.specs.declared.Admission.the-variants.{Admitted}
 use Rattle.card.proofs.Admitted.{sized}
 use Rattle.rules.specs.Rules.{axes, spot}
-use Rattle.rules.specs.Inside.{Row}
+use Rattle.rules.specs.Walked.{PlacedRow}
 use Rattle.rules.specs.Copies.{cellOf, cellsOf, outsideOf, copyCells, outsideAxis}
 use Rattle.rules.specs.declared.Spot.{Spot}
 use Rattle.rules.specs.declared.Spot.the-variants.{Inside, Outside}
 use Rattle.rules.proofs.Spots.{cell-below}
 use Rattle.rules.proofs.Filling.{cells-length, cells-at}
 use Rattle.rules.proofs.Theorems.{outside-axis-smallest, outside-axis-none}
-use Rattle.claims.specs.Claims.{OwnedTable, FirstClash, Inside as InCells}
-use Rattle.claims.specs.Rows.{Row as ClaimRow, Within, entryMet, cellMet}
+use Rattle.idle.proofs.Theorems.{checks-passed}
+use Rattle.claims.specs.Claims.{OwnedTable, FirstClash}
+use Rattle.claims.specs.Outcome.{Inside as InCells}
+use Rattle.claims.specs.Rows.{RowOf, Within, entryMet, cellMet}
 use Rattle.claims.proofs.Steps.{row-within, owners-none, claimed-owners, met-clash}
 use Rattle.claims.proofs.Rows.{occupied-none, occupied-most}
 use Rattle.owners.specs.Owners.{entryLimit}
 use Rattle.judgement.specs.Judgement.{placed, LiesInside, AllInside, FirstOutside}
-use Rattle.verdict.specs.Inside.{Claimable, ElementClaim}
+use Rattle.verdict.specs.Contracts.{Pass, Claimable, ElementClaim}
+
+-- a pass is over an admitted card
+pub admits : {numbers : List ℕ} {strides : List ℤ} {count : ℕ} {row : List ℕ} → Pass numbers strides count row → Admits numbers strides
+admits {numbers} {strides} p = record { whole = p .whole; admitted = checks-passed (cardOf numbers strides) (p .admitted) }
 
 -- every copy of the first n elements lies in the space
 abbrev pub InsideBelow : Card → ℕ → Type 0
 InsideBelow card n = (flat combination : ℕ) → flat < n → combination < copies card → LiesInside (spot card flat combination)
 
 not-outside : (p : Spot) (axis : ℕ) → LiesInside p → p ≡ Outside axis → ⊥
-not-outside (Inside cell) axis i e = let z : _≡_ {A = ℕ} 0 1 = cc in absurd (omega arith)
+not-outside (Inside cell) axis i e = absurd (apart (cc))
 not-outside (Outside other) axis i e = i
 
 -- element flat's row is placed
-module _ (card : Card) (flat : ℕ) {row after : List ℕ} {outside : ℕ} (is : Row (spot card flat) row after outside) (one-each : length row ≡ copies card)
+module _ (card : Card) (flat : ℕ) {row after : List ℕ} {outside : ℕ} (is : PlacedRow (spot card flat) row after outside) (one-each : length row ≡ copies card)
   where
     pub row-cells : after ≡ copyCells card flat
     unfolding copyCells
@@ -62,7 +71,7 @@ module _ (card : Card) (flat : ℕ) {row after : List ℕ} {outside : ℕ} (is :
           copy = s .somewhere .1;
           outside = s .somewhere .2 ∙ ap Outside (sym row-axis);
           smallest-axis = λ r other hr e. omega (arith, row-axis, s .none-smaller r other hr e);
-          smallest-flat = λ f r other hr e.
+          smallest-flat = λ f r other below-f hr e.
               elim (decLe flat f) [
                 | yes k ↦ k
                 | no k ↦ absurd (not-outside (spot card f r) other (below f r (omega arith) hr) e)
@@ -70,7 +79,7 @@ module _ (card : Card) (flat : ℕ) {row after : List ℕ} {outside : ℕ} (is :
         }
 
 -- the cells of an element's copies are its row
-pub copies-row : (card : Card) (flat : ℕ) → ClaimRow (placed card) flat (copyCells card flat)
+pub copies-row : (card : Card) (flat : ℕ) → RowOf (placed card) flat (copyCells card flat)
 unfolding copyCells
 copies-row card flat = record {
   size = cells-length (spot card flat) (copies card);
@@ -86,13 +95,13 @@ inside-cells card all f r hf hr = split (spot card f r) refl (all f r hf hr)
     split (Outside axis) e i = absurd i
 
 -- a placed row can be claimed: it lies in the cells, has a copy, and its entry is a number of the table
-pub record Ready (flat : ℕ) (row table : List ℕ) : Type 0 where
+pub record RowReady (flat : ℕ) (row table : List ℕ) : Type 0 where
   pub within : Within row table
   pub some : 0 < length row
   pub small : flat + 1 < entryLimit
 
 pub row-ready : (card : Card) (flat : ℕ) (table : List ℕ) → admission card ≡ Admitted → Claimable card flat table → {row : List ℕ} → row ≡ copyCells card flat
-    → Ready flat row table
+    → RowReady flat row table
 row-ready card flat table admitted claimable {row} e =
     let n = sized card admitted in
     let is = copies-row card flat in
@@ -116,7 +125,7 @@ claims-none card = record {
 -- element y's row is claimed after those of the smaller ones
 module _ (card : Card) (y newly count : ℕ) {row before after : List ℕ} (so-far : OwnedTable (placed card) y (cells card) before count)
     (claim : ElementClaim card y newly row before after) where
-  is-row : ClaimRow (placed card) y row
+  is-row : RowOf (placed card) y row
   is-row = rw (claim .placed) (copies-row card y)
 
   -- newly occupied cells are cells

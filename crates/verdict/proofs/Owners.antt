@@ -4,6 +4,7 @@ use mathlib.Core.List.{List}
 use Prim.Native.Nat.{ℕ, _≤_, _<_}
 use native.Mathlib.Omega.{arith}
 use lib.ListN.{length, getD}
+use Rattle.laws.proofs.Rungs.{apart}
 use Rattle.answers.specs.declared.Cell.{Cell}
 use Rattle.answers.specs.declared.Refusal.{Refusal}
 use Rattle.answers.specs.declared.Refusal.the-variants.{CellOutside}
@@ -19,7 +20,7 @@ use Rattle.idle.specs.Admission.{fullAdmission}
 use Rattle.idle.proofs.Theorems.{checks-passed}
 use Rattle.judgement.specs.Judgement.{LiesInside, Judgement, NotAdmitted, NoRoom, OutsideAt, Clashing, Passed, ComesTo}
 use Rattle.judgement.specs.Verdict.{verdictOf, tableAfter, VerdictPromise, askedSpot, NoCell, ByVerdict, readEntry, OwnerPromise}
-use Rattle.verdict.specs.Inside.{ReadAt}
+use Rattle.verdict.specs.Contracts.{ReadAt}
 use Rattle.judgement.specs.declared.Verdict.{Verdict}
 use Rattle.judgement.specs.declared.Verdict.the-variants.{Approved}
 use Rattle.judgement.specs.declared.Owner.{Owner}
@@ -31,10 +32,10 @@ pub approved-room : {card : Card} {before after : List ℕ} {verdict : Verdict} 
 approved-room {card} {before} {after} {verdict} {n} {count} {m} p e = split (p .judgement) (p .comes) (sym e ∙ p .answers)
   where
     split : (j : Judgement) → ComesTo card (length before) j → Approved n count m ≡ verdictOf card j → cells card ≤ length before
-    split (NotAdmitted refusal) h d = let z : _≡_ {A = ℕ} 0 1 = cc in absurd (omega arith)
-    split NoRoom h d = let z : _≡_ {A = ℕ} 0 1 = cc in absurd (omega arith)
-    split (OutsideAt flat axis) h d = let z : _≡_ {A = ℕ} 0 1 = cc in absurd (omega arith)
-    split (Clashing x y cell) h d = let z : _≡_ {A = ℕ} 0 1 = cc in absurd (omega arith)
+    split (NotAdmitted refusal) h d = absurd (apart (cc))
+    split NoRoom h d = absurd (apart (cc))
+    split (OutsideAt flat axis) h d = absurd (apart (cc))
+    split (Clashing x y cell) h d = absurd (apart (cc))
     split (Passed owners occupied) h d = h .0 .enough
 
 -- the entry is read of the table after the verdict
@@ -51,7 +52,7 @@ module _ (card : Card) (coordinates before : List ℕ) where
   pub owner-refused : {refusal : Refusal} → fullAdmission card ≡ NoCard refusal → OwnerPromise card coordinates before before (NoOwner refusal)
   owner-refused {refusal} e = record {
     judgement = ByVerdict (NotAdmitted refusal);
-    comes = (λ a. let z : _≡_ {A = ℕ} 0 1 = cc in absurd (omega arith), e);
+    comes = (λ a. absurd (apart (cc)), e);
     answers = refl;
     leaves = refl;
   }

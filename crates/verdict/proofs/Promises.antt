@@ -5,9 +5,10 @@ use Prim.Native.Nat.{ℕ, _-_, _≤_, _<_}
 use native.Mathlib.Omega.{arith}
 use lib.ListN.{length, take, drop, replicate, drop-of-length-le, take-append-drop}
 use lib.Seq.{length-take-le}
+use Rattle.laws.proofs.Rungs.{apart}
 use Rattle.answers.specs.declared.Flat.{Flat}
 use Rattle.answers.specs.declared.Refusal.{Refusal}
-use Rattle.answers.specs.declared.Refusal.the-variants.{Outside as NotInside, TooShort}
+use Rattle.answers.specs.declared.Refusal.the-variants.{CopyOutside, TooShort}
 use Rattle.card.specs.Card.{elements, cells}
 use Rattle.card.specs.declared.Card.{Card}
 use Rattle.card.specs.declared.Admission.the-variants.{Admitted, Refused as NoCard}
@@ -33,7 +34,7 @@ module _ (card : Card) (before : List ℕ) (admitted : fullAdmission card ≡ Ad
   nothing-past = none-past (cells card) before exact
 
   pub outside-promise : {after : List ℕ} (flat : Flat) (axis : ℕ) → FirstOutside card (flat .0) axis → after ≡ replicate (cells card) 0
-      → VerdictPromise card before after (Refused (NotInside flat axis))
+      → VerdictPromise card before after (Refused (CopyOutside flat axis))
   outside-promise {after} flat axis first e = record {
     judgement = OutsideAt (flat .0) axis;
     comes = (judged, first);
@@ -69,7 +70,7 @@ module _ (card : Card) (before other : List ℕ) (admitted : fullAdmission card 
   past t = sym (none-past (cells card) other alike t) ∙ none-past (cells card) before exact t
 
   same-after : (j : Judgement) → ComesTo card (length other) j → tableAfter card j other ≡ tableAfter card j before
-  same-after (NotAdmitted refusal) h = let z : _≡_ {A = ℕ} 0 1 = cc in absurd (omega arith)
+  same-after (NotAdmitted refusal) h = absurd (apart (cc))
   same-after NoRoom h = absurd (omega (arith, h .1))
   same-after (OutsideAt flat axis) h = past (replicate (cells card) 0)
   same-after (Clashing x y cell) h = past (replicate (cells card) 0)

@@ -3,7 +3,8 @@ use mathlib.Core.Path.{_≡_, _∙_}
 use Prim.Native.Nat.{_/_, _%_, _<_}
 use native.Mathlib.Omega.{arith}
 use Rattle.fragment.specs.declared.Place.{Place}
-use Rattle.fragment.specs.Kinds.{registers, at, place, packed}
+use Rattle.fragment.specs.Kinds.{registers, at, place}
+use Rattle.fragment.specs.Table.{packed}
 use Rattle.fragment.proofs.Inside.{slot-numbers, place-numbers}
 use Rattle.fragment.proofs.Back.{slot-back}
 use Rattle.fragment.proofs.accumulator_place.Statement.{statement}
@@ -21,9 +22,6 @@ unfolding registers
 entry-requires c κs =
     let n = slot-numbers 5 (c .args .lane) (c .args .i) (c .pre) in (n .of-lane, n .of-register)
 
-at-requires : tie.Need-at-requires
-at-requires c κs = tt
-
 returns : tie.Need-returns
 returns c =
     let a = c .before .before .args in
@@ -32,4 +30,4 @@ returns c =
     rw (c .before .entry .ensures) at (c .at .ensures) ∙ taken-apart p (omega arith) (omega arith)
 
 pub accumulator-place-spec : {M : Type 1} → statement M
-accumulator-place-spec = tie.close (tie.spec entry-requires at-requires returns)
+accumulator-place-spec = tie.close (tie.spec entry-requires (λ c κs. tt) returns)

@@ -3,11 +3,7 @@ use borrow.Author.Tests.{lt-leb, le-leb}
 use Rattle.fragment.proofs.high.Statement.{statement}
 use Rattle.fragment.proofs.high.Tie as tie
 
-returns : tie.Need-returns
-returns c = rw (lt-leb 16 (c .before .args .lane) (c .if1 .taken))
-
-returns-2 : tie.Need-returns-2
-returns-2 c = rw (le-leb 16 (c .before .args .lane) (c .if1 .left))
-
 pub high-spec : {M : Type 1} → statement M
-high-spec = tie.close (tie.spec returns returns-2)
+high-spec =
+    tie.close
+    (tie.spec (λ c. rw (lt-leb 16 (c .before .args .lane) (c .if1 .taken))) (λ c. rw (le-leb 16 (c .before .args .lane) (c .if1 .left))))

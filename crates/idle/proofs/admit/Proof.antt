@@ -1,51 +1,15 @@
--- `idle::admit` is checks 1 to 6 and then 17: in each arm the answer is what the check makes of the finding.
-use mathlib.Core.Path.{_≡_, sym, _∙_, subst}
+-- `idle::admit` packs the card, and what is promised of the packed card is promised of the card.
+use mathlib.Core.Path.{ap, _∙_}
 use borrow.Author.Needs.{needs}
-use Rattle.card.specs.Admission.{admission}
-use Rattle.card.specs.declared.Admission.the-variants.{Admitted}
-use Rattle.idle.specs.Idle.{Finds}
-use Rattle.idle.specs.Admission.{idleCheck, fullAdmission}
-use Rattle.idle.specs.declared.Finding.{Finding}
-use Rattle.idle.proofs.Theorems.{refused-before, then-idle}
+use Rattle.idle.specs.Admission.{fullAdmission}
 use Rattle.idle.proofs.admit.Statement.{statement}
 use Rattle.idle.proofs.admit.Tie as tie
 
-abbrev start : tie.After-enum-told → tie.Start
-start k = k .before .before .before
-
-admitted : (k : tie.After-enum-told) → admission (start k .args .card) ≡ Admitted
-admitted k = sym (k .before .before .admit .ensures) ∙ k .enum-told .given .1
-
--- by what was found
-judged : (f : tie.After-find-pair) (i : Finding) → f .find-pair .result ≡ i → idleCheck i ≡ fullAdmission (start (f .before) .args .card)
-judged f i e =
-    let card = start (f .before) .args .card in
-    sym (then-idle card i (admitted (f .before)) (subst (Finds (card .replica)) e (f .find-pair .ensures)))
+admit-packed-requires : tie.Need-admit-packed-requires
+admit-packed-requires c κs = c .before .before .before .before .pack .ensures .whole
 
 returns : tie.Need-returns
-returns c =
-    let d = c .before .before .before in
-    sym (refused-before (d .before .args .card) (sym (d .admit .ensures) ∙ c .before .admission .given .1))
-
-find-pair-requires : tie.Need-find-pair-requires
-find-pair-requires c κs = admitted c
-
-returns-2 : tie.Need-returns-2
-returns-2 c = judged (c .before .before .before) _ (c .before .a .given .1)
-
-returns-3 : tie.Need-returns-3
-returns-3 c = judged (c .before .before) _ (c .enum-told2 .given .1)
+returns c = c .admit-packed .ensures ∙ ap fullAdmission (c .before .before .before .before .before .pack .ensures .same-card)
 
 pub admit-spec : {M : Type 1} → statement M
-admit-spec =
-    tie.close
-    (tie.spec
-    (λ c κs. search needs)
-    (λ c. search needs)
-    returns
-    (λ c. search needs)
-    find-pair-requires
-    (λ c. search needs)
-    (λ c. search needs)
-    returns-2
-    returns-3)
+admit-spec = tie.close (tie.spec (λ c κs. search needs) admit-packed-requires returns)

@@ -6,24 +6,25 @@ use native.Mathlib.Omega.{arith}
 use lib.IntN.{ℤ}
 use lib.ListN.{length}
 use Rattle.card.specs.declared.Iters.{Iters}
-use Rattle.rules.specs.Inside.{itersOf, walked}
+use Rattle.card.specs.Packed.{itersOf}
+use Rattle.rules.specs.Walked.{walked}
 use Rattle.idle.specs.Idle.{SameSums}
-use Rattle.idle.specs.Inside.{Says, zeros, NoneBelow}
+use Rattle.idle.specs.Contracts.{Says, zeros, NoneBelow}
 use Rattle.idle.proofs.Laws.{zero-sums, eight, walks-same, none-below-zero, none-below-more, twin-found, twin-none}
 use Rattle.idle.proofs.find_twin.Statement.{statement}
 use Rattle.idle.proofs.find_twin.Tie as tie
 
 abbrev Inv-loop : tie.InvT-loop
-Inv-loop iters strides b sums a₀ a = (a ≤ b) × NoneBelow (itersOf iters strides) b a
+Inv-loop numbers strides b sums a₀ a = (a ≤ b) × NoneBelow (itersOf numbers strides 1) b a
 
 abbrev μ-loop : tie.MeasureT-loop
-μ-loop iters strides b sums a₀ a = b - a
+μ-loop numbers strides b sums a₀ a = b - a
 
 abbrev start : tie.After-walk Inv-loop μ-loop → tie.Start Inv-loop μ-loop
 start w = w .before .before
 
 abbrev replica : tie.After-walk Inv-loop μ-loop → Iters
-replica w = itersOf (start w .args .iters .now) (start w .args .strides .now)
+replica w = itersOf (start w .args .numbers .now) (start w .args .strides .now) 1
 
 -- the walk of b, from a turn's test
 abbrev walk : tie.After-gives Inv-loop μ-loop → tie.After-walk Inv-loop μ-loop
@@ -66,14 +67,4 @@ returns-2 c =
 pub find-twin-spec : {M : Type 1} → statement M
 find-twin-spec =
     tie.close
-    (tie.spec
-    Inv-loop
-    μ-loop
-    walk-requires
-    loop-holds
-    gives-requires
-    returns
-    (λ c. omega arith)
-    (λ c. omega arith)
-    loop-again
-    returns-2)
+    (tie.spec Inv-loop μ-loop walk-requires loop-holds gives-requires returns (λ c. omega arith) (λ c. omega arith) loop-again returns-2)

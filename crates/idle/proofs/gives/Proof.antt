@@ -3,8 +3,8 @@ use mathlib.Core.Path.{_≡_, ap, _∙_, subst}
 use mathlib.Core.List.{List}
 use lib.IntN.{ℤ}
 use lib.ListN.{length}
-use Rattle.rules.specs.Inside.{itersOf}
-use Rattle.idle.specs.Inside.{Says}
+use Rattle.card.specs.Packed.{itersOf}
+use Rattle.idle.specs.Contracts.{Says}
 use Rattle.idle.proofs.Laws.{zero-sums, eight}
 use Rattle.idle.proofs.gives.Statement.{statement}
 use Rattle.idle.proofs.gives.Tie as tie
@@ -16,7 +16,7 @@ are-equal-requires : tie.Need-are-equal-requires
 are-equal-requires c κs =
     let w = c .before in
     let s = w .before .before in
-    (ap length (w .walk .ensures) ∙ eight (itersOf (s .args .iters .now) (s .args .strides .now)) (s .args .combination), s .pre .1)
+    (ap length (w .walk .ensures) ∙ eight (itersOf (s .args .numbers .now) (s .args .strides .now) 1) (s .args .combination), s .pre .1)
 
 returns : tie.Need-returns
 returns c =

@@ -17,5 +17,4 @@ returns c =
     )
 
 pub fill-mask-spec : {M : Type 1} → statement M
-fill-mask-spec =
-    tie.close (tie.spec (λ c. search needs) (λ c κs. search needs) (λ c κs. search needs) (λ c. search needs) returns)
+fill-mask-spec = tie.close (tie.spec (λ c. search needs) (λ c κs. search needs) (λ c κs. search needs) (λ c. search needs) returns)

@@ -15,11 +15,9 @@ zeros-fit word = omega (arith, trailing-le 64 word)
 sum-fits : (p word : ℕ) → p ≤ 256 → Fits w64 (p + trailingZeros 64 word)
 sum-fits p word h = omega (arith, trailing-le 64 word)
 
-returns : tie.Need-returns
-returns c = rw (eq-eqb (c .before .args .before) (c .before .args .p) (c .if1 .taken))
-
-returns-2 : tie.Need-returns-2
-returns-2 c = rw (ne-eqb (c .before .args .before) (c .before .args .p) (c .if1 .left))
-
 pub first-used-spec : {M : Type 1} → statement M
-first-used-spec = tie.close (tie.spec (λ c. zeros-fit _) (λ c. sum-fits _ _ (c .before .pre)) returns returns-2)
+first-used-spec =
+    tie.close
+    (tie.spec (λ c. zeros-fit _) (λ c. sum-fits _ _ (c .before .pre))
+    (λ c. rw (eq-eqb (c .before .args .before) (c .before .args .p) (c .if1 .taken)))
+    (λ c. rw (ne-eqb (c .before .args .before) (c .before .args .p) (c .if1 .left))))

@@ -39,9 +39,6 @@ part-long c = let a = c .before .before .before .before .before .before .before 
 returns : tie.Need-returns
 returns c = (rw (sym (c .before .is-mask-size .ensures) ∙ not-true (c .before .is-mask-size .result) (c .if1 .taken)), refl)
 
-returns-2 : tie.Need-returns-2
-returns-2 c = (rw (size-known (c .before .before), sym (c .before .has-reserved .ensures) ∙ c .if2 .taken), refl)
-
 returns-3 : tie.Need-returns-3
 returns-3 c =
     let two = c .before .before .before in
@@ -52,9 +49,6 @@ returns-4 c =
     let two = c .before .before .before .before in
     let a = two .before .before .before .before .before .args in
     (rw (size-known (two .before .before), none-reserved two, shift-allowed (c .before), lt-ltb (length (a .mask .now)) (a .n / 8) (c .if4 .taken)), refl)
-
-slice-aggregate-fill-mask : tie.Need-slice-aggregate-fill-mask
-slice-aggregate-fill-mask c = sym (part-long (c .before .before))
 
 fill-mask-requires : tie.Need-fill-mask-requires
 fill-mask-requires c κs =
@@ -84,17 +78,6 @@ returns-5 c =
 pub generate-mask-spec : {M : Type 1} → statement M
 generate-mask-spec =
     tie.close
-    (tie.spec
-    (λ c κs. tt)
-    returns
-    (λ c κs. tt)
-    returns-2
-    (λ c κs. tt)
-    returns-3
-    returns-4
-    (λ c κs. tt)
-    (λ c. search needs)
-    slice-aggregate-fill-mask
-    fill-mask-requires
-    (λ c. search needs)
-    returns-5)
+    (tie.spec (λ c κs. tt) returns (λ c κs. tt)
+    (λ c. (rw (size-known (c .before .before), sym (c .before .has-reserved .ensures) ∙ c .if2 .taken), refl)) (λ c κs. tt) returns-3 returns-4
+    (λ c κs. tt) (λ c. search needs) (λ c. sym (part-long (c .before .before))) fill-mask-requires (λ c. search needs) returns-5)

@@ -3,16 +3,8 @@ use borrow.Author.Needs.{needs}
 use Rattle.mask.proofs.mask_numbers.Statement.{statement}
 use Rattle.mask.proofs.mask_numbers.Tie as tie
 
-returns : tie.Need-returns
-returns c = rw (c .before .before .generated .given .1) (c .answer .ensures)
-
 pub mask-numbers-spec : {M : Type 1} → statement M
 mask-numbers-spec =
     tie.close
-    (tie.spec
-    (λ c. search needs)
-    (λ c κs. search needs)
-    (λ c. search needs)
-    (λ c κs. search needs)
-    returns
-    (λ c. search needs))
+    (tie.spec (λ c. search needs) (λ c κs. search needs) (λ c. search needs) (λ c κs. search needs)
+    (λ c. rw (c .before .before .generated .given .1) (c .answer .ensures)) (λ c. search needs))

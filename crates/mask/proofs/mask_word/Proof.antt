@@ -15,16 +15,9 @@ Inv-loop size skip used counts spans pattern p count word₀ k₀ word k = (k �
 abbrev μ-loop : tie.MeasureT-loop
 μ-loop size skip used counts spans pattern p count word₀ k₀ word k = count - k
 
-loop-holds : tie.Need-loop-holds Inv-loop μ-loop
-unfolding number
-loop-holds c = search needs
-
 -- a column lies within its sub-mask
 within : (c : tie.In-loop Inv-loop μ-loop) → let a = c .before .before .args in (a .p + c .before .loop .k) % a .size < a .size
 within c = let a = c .before .before .args in mod-lt (a .p + c .before .loop .k) {m = a .size} (omega arith)
-
-sub-smaller : tie.Need-sub-smaller Inv-loop μ-loop
-sub-smaller c = omega (arith, within c)
 
 piece-requires : tie.Need-piece-requires Inv-loop μ-loop
 piece-requires c κs =
@@ -37,26 +30,17 @@ more : (c : tie.After-piece Inv-loop μ-loop)
     → let a = c .before .before .before .before .args in
     let now = c .before .before .before .loop in
     let set = side (a .skip) (a .used) (a .size) (a .counts .now) (a .spans .now) in
-    Holds set (a .p) (now .k + c .before .smaller .result) (now .word + c .piece .result * 2 ^ now .k % 2 ^ 64)
+    Holds set (a .p) (now .k + c .before .lesser .result) (now .word + c .piece .result * 2 ^ now .k % 2 ^ 64)
 more c =
     let a = c .before .before .before .before .args in
     let now = c .before .before .before .loop in
-    let step = c .before .smaller .result in
+    let step = c .before .lesser .result in
     joined (side (a .skip) (a .used) (a .size) (a .counts .now) (a .spans .now)) (a .p) (now .k) (a .p + now .k) step (now .k + step) (now .word) (c .piece .result)
     (omega arith)
     (omega arith)
     (now .inv .1)
     (c .piece .ensures)
     (λ i. refl)
-
-add-word : tie.Need-add-word Inv-loop μ-loop
-add-word c = omega (arith, more c .1)
-
-loop-less : tie.Need-loop-less Inv-loop μ-loop
-loop-less c = omega (arith, within (c .before .before))
-
-loop-again : tie.Need-loop-again Inv-loop μ-loop
-loop-again c = (omega arith, more c .0)
 
 returns : tie.Need-returns Inv-loop μ-loop
 returns c =
@@ -66,22 +50,9 @@ returns c =
     now .inv .1 ∙ ap (number (side (a .skip) (a .used) (a .size) (a .counts .now) (a .spans .now)) (a .p)) all
 
 pub mask-word-spec : {M : Type 1} → statement M
+unfolding number
 mask-word-spec =
     tie.close
-    (tie.spec
-    Inv-loop
-    μ-loop
-    loop-holds
-    (λ c. omega arith)
-    (λ c. omega arith)
-    sub-smaller
-    (λ c. omega arith)
-    (λ c κs. tt)
-    (λ c. omega arith)
-    piece-requires
-    (λ c. omega arith)
-    add-word
-    (λ c. omega arith)
-    loop-less
-    loop-again
-    returns)
+    (tie.spec Inv-loop μ-loop (λ c. search needs) (λ c. omega arith) (λ c. omega arith) (λ c. omega (arith, within c)) (λ c. omega arith) (λ c κs. tt)
+    (λ c. omega arith) piece-requires (λ c. omega arith) (λ c. omega (arith, more c .1)) (λ c. omega arith)
+    (λ c. omega (arith, within (c .before .before))) (λ c. (omega arith, more c .0)) returns)

@@ -1,6 +1,5 @@
 -- `mask::pattern_word` is the pattern from its start: whole periods, doubled until they fill a word.
 use native.Mathlib.Omega.{arith}
-use borrow.Author.Needs.{needs}
 use mathlib.Core.Path.{_≡_, refl, sym, ap, _∙_}
 use mathlib.Core.Bool.{true}
 use Prim.Native.Nat.{_+_, _-_, _*_, _%_, _^_, _≤_, _<_, min}
@@ -38,9 +37,6 @@ twofold c =
     joined set 0 (now .filled) 0 (now .filled) (min (now .filled + now .filled) 64) (now .word) (now .word) (omega arith) refl word word
     (alike-on (a .skip) (a .used) (0 + now .filled) 0 (rw (zero-add (now .filled)) (now .inv .1 ∙ sym (zero-mod (period (a .skip) (a .used))))))
 
-add-word : tie.Need-add-word Inv-loop μ-loop
-add-word c = omega (arith, twofold c .1)
-
 loop-again : tie.Need-loop-again Inv-loop μ-loop
 loop-again c =
     let a = c .before .before .before .args in
@@ -57,18 +53,5 @@ returns c =
 pub pattern-word-spec : {M : Type 1} → statement M
 pattern-word-spec =
     tie.close
-    (tie.spec
-    Inv-loop
-    μ-loop
-    (λ c. omega arith)
-    (λ c κs. tt)
-    (λ c. omega arith)
-    (λ c. omega arith)
-    (λ c. omega arith)
-    loop-holds
-    (λ c. omega arith)
-    add-word
-    (λ c. omega arith)
-    (λ c. omega arith)
-    loop-again
-    returns)
+    (tie.spec Inv-loop μ-loop (λ c. omega arith) (λ c κs. tt) (λ c. omega arith) (λ c. omega arith) (λ c. omega arith) loop-holds (λ c. omega arith)
+    (λ c. omega (arith, twofold c .1)) (λ c. omega arith) (λ c. omega arith) loop-again returns)

@@ -23,12 +23,6 @@ loop-holds c = let a = c .before .args in none-counted (side (a .skip) (a .used)
 few : (c : tie.After-mask-word Inv-loop μ-loop) → ones (c .mask-word .result) ≤ 64
 few c = ones-le 64 (c .mask-word .result) (c .mask-word .ok)
 
-cast-zeroed : tie.Need-cast-zeroed Inv-loop μ-loop
-cast-zeroed c = omega (arith, few c)
-
-add-zeroed : tie.Need-add-zeroed Inv-loop μ-loop
-add-zeroed c = omega (arith, few c)
-
 mask-word-requires : tie.Need-mask-word-requires Inv-loop μ-loop
 mask-word-requires c κs =
     let start = c .before .before .before .before in
@@ -38,7 +32,7 @@ loop-again : tie.Need-loop-again Inv-loop μ-loop
 loop-again c =
     let a = c .before .before .before .before .before .before .args in
     let now = c .before .before .before .before .loop in
-    let count = c .before .before .smaller in
+    let count = c .before .before .lesser in
     let word = c .before .mask-word in
     one-more (side (a .skip) (a .used) (a .size) (a .counts .now) (a .spans .now)) (a .n) (now .at) (now .zeroed) (now .first) (now .p) (count .result) (word .result) (c .first-used .result)
     (now .inv)
@@ -60,20 +54,6 @@ returns c =
 pub pattern-words-spec : {M : Type 1} → statement M
 pattern-words-spec =
     tie.close
-    (tie.spec
-    Inv-loop
-    μ-loop
-    (λ c κs. search needs)
-    loop-holds
-    (λ c. omega arith)
-    (λ c κs. tt)
-    mask-word-requires
-    (λ c. omega arith)
-    (λ c. omega arith)
-    cast-zeroed
-    add-zeroed
-    (λ c κs. omega arith)
-    (λ c. omega arith)
-    (λ c. omega arith)
-    loop-again
+    (tie.spec Inv-loop μ-loop (λ c κs. search needs) loop-holds (λ c. omega arith) (λ c κs. tt) mask-word-requires (λ c. omega arith)
+    (λ c. omega arith) (λ c. omega (arith, few c)) (λ c. omega (arith, few c)) (λ c κs. omega arith) (λ c. omega arith) (λ c. omega arith) loop-again
     returns)

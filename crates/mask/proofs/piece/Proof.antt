@@ -11,12 +11,6 @@ use Rattle.mask.proofs.piece.Tie as tie
 below-four : (c : tie.Start) → c .args .p / c .args .size < 4
 below-four c = div-lt-iff-lt-mul {k = c .args .size} (omega arith) .1 (c .pre .0)
 
-element-copy-out-first : tie.Need-element-copy-out-first
-element-copy-out-first c = omega (arith, below-four c)
-
-element-copy-out-wide : tie.Need-element-copy-out-wide
-element-copy-out-wide c = omega (arith, below-four (c .before))
-
 returns : tie.Need-returns
 returns c =
     let a = c .before .before .before .before .before .before .args in
@@ -34,14 +28,5 @@ returns c =
 pub piece-spec : {M : Type 1} → statement M
 piece-spec =
     tie.close
-    (tie.spec
-    (λ c. search needs)
-    element-copy-out-first
-    element-copy-out-wide
-    (λ c κs. tt)
-    (λ c. search needs)
-    (λ c. search needs)
-    (λ c κs. search needs)
-    (λ c κs. search needs)
-    (λ c κs. tt)
-    returns)
+    (tie.spec (λ c. search needs) (λ c. omega (arith, below-four c)) (λ c. omega (arith, below-four (c .before))) (λ c κs. tt) (λ c. search needs)
+    (λ c. search needs) (λ c κs. search needs) (λ c κs. search needs) (λ c κs. tt) returns)

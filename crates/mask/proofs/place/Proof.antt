@@ -4,25 +4,10 @@ use Rattle.mask.proofs.Runs.{placed-set, placed-clear}
 use Rattle.mask.proofs.place.Statement.{statement}
 use Rattle.mask.proofs.place.Tie as tie
 
-returns : tie.Need-returns
-returns c = rw (c .if1 .taken) (placed-set (c .before .args .skip) (c .before .args .used) (c .before .args .q))
-
-returns-2 : tie.Need-returns-2
-returns-2 c = rw (c .if1 .left) (placed-clear (c .before .args .skip) (c .before .args .used) (c .before .args .q))
-
 pub place-spec : {M : Type 1} → statement M
 place-spec =
     tie.close
-    (tie.spec
-    (λ c. search needs)
-    (λ c. search needs)
-    (λ c. search needs)
-    (λ c. search needs)
-    (λ c. search needs)
-    (λ c. search needs)
-    (λ c. search needs)
-    (λ c. search needs)
-    (λ c. search needs)
-    (λ c. search needs)
-    returns
-    returns-2)
+    (tie.spec (λ c. search needs) (λ c. search needs) (λ c. search needs) (λ c. search needs) (λ c. search needs) (λ c. search needs)
+    (λ c. search needs) (λ c. search needs) (λ c. search needs) (λ c. search needs)
+    (λ c. rw (c .if1 .taken) (placed-set (c .before .args .skip) (c .before .args .used) (c .before .args .q)))
+    (λ c. rw (c .if1 .left) (placed-clear (c .before .args .skip) (c .before .args .used) (c .before .args .q))))

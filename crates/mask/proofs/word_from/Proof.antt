@@ -30,26 +30,8 @@ both c =
     (start .pre .3)
     (alike-on (a .skip) (a .used) (a .at + (P - a .at)) 0 (rw end (mod-self P ∙ sym (zero-mod P))))
 
-add-result : tie.Need-add-result
-add-result c = omega (arith, both c .1)
-
-returns : tie.Need-returns
-returns c = both c .0
-
-returns-2 : tie.Need-returns-2
-returns-2 c = lead (c .before) 64 (omega arith)
-
 pub word-from-spec : {M : Type 1} → statement M
 word-from-spec =
     tie.close
-    (tie.spec
-    (λ c. search needs)
-    (λ c κs. tt)
-    (λ c. search needs)
-    (λ c. search needs)
-    (λ c. search needs)
-    (λ c. search needs)
-    (λ c. search needs)
-    add-result
-    returns
-    returns-2)
+    (tie.spec (λ c. search needs) (λ c κs. tt) (λ c. search needs) (λ c. search needs) (λ c. search needs) (λ c. search needs) (λ c. search needs)
+    (λ c. omega (arith, both c .1)) (λ c. both c .0) (λ c. lead (c .before) 64 (omega arith)))

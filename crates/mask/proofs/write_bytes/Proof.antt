@@ -17,10 +17,6 @@ Inv-loop mask₀ words j₀ mask j = (j ≤ length mask₀) × (length mask ≡ 
 abbrev μ-loop : tie.MeasureT-loop
 μ-loop mask₀ words j₀ mask j = length mask₀ - j
 
-loop-holds : tie.Need-loop-holds Inv-loop μ-loop
-unfolding bytes
-loop-holds c = search needs
-
 loop-again : tie.Need-loop-again Inv-loop μ-loop
 loop-again c =
     let a = c .before .before .args in
@@ -31,9 +27,6 @@ loop-again c =
           ∙ bytes-store (wordBit (a .t1)) (a .mask .now) (now .j) (omega arith),
     )
 
-same-length : tie.Need-same-length Inv-loop μ-loop
-same-length c = c .before .loop .inv .1
-
 returns : tie.Need-returns Inv-loop μ-loop
 returns c =
     let a = c .before .before .args in
@@ -43,20 +36,8 @@ returns c =
     ∙ rw (drop-of-length-le (a .mask .now) {i = now .j} (omega arith), append-nil, all)
 
 pub write-bytes-spec : {M : Type 1} → statement M
+unfolding bytes
 write-bytes-spec =
     tie.close
-    (tie.spec
-    Inv-loop
-    μ-loop
-    loop-holds
-    (λ c. omega arith)
-    (λ c. omega arith)
-    (λ c. omega arith)
-    (λ c. omega arith)
-    (λ c. omega arith)
-    (λ c. omega arith)
-    (λ c. omega arith)
-    (λ c. omega arith)
-    loop-again
-    same-length
-    returns)
+    (tie.spec Inv-loop μ-loop (λ c. search needs) (λ c. omega arith) (λ c. omega arith) (λ c. omega arith) (λ c. omega arith) (λ c. omega arith)
+    (λ c. omega arith) (λ c. omega arith) (λ c. omega arith) loop-again (λ c. c .before .loop .inv .1) returns)

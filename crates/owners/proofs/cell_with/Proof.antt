@@ -4,14 +4,5 @@ use borrow.Author.Needs.{needs}
 use Rattle.owners.proofs.cell_with.Statement.{statement}
 use Rattle.owners.proofs.cell_with.Tie as tie
 
-add-result : tie.Need-add-result
-add-result c = search needs
-
-returns : tie.Need-returns
-returns c = rw (eq-eqb _ _ (c .before .if1 .taken))
-
-returns-2 : tie.Need-returns-2
-returns-2 c = rw (ne-eqb _ _ (c .if1 .left))
-
 pub cell-with-spec : {M : Type 1} → statement M
-cell-with-spec = tie.close (tie.spec add-result returns returns-2)
+cell-with-spec = tie.close (tie.spec (λ c. search needs) (λ c. rw (eq-eqb _ _ (c .before .if1 .taken))) (λ c. rw (ne-eqb _ _ (c .if1 .left))))

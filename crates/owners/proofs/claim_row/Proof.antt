@@ -6,22 +6,10 @@ use borrow.Author.Needs.{needs}
 use Rattle.owners.proofs.claim_row.Statement.{statement}
 use Rattle.owners.proofs.claim_row.Tie as tie
 
-entry-met-requires : tie.Need-entry-met-requires
-entry-met-requires c κs = search needs
-
-same-length : tie.Need-same-length
-same-length c = search needs
-
 returns : tie.Need-returns
 returns c =
     let a = c .before .before .before .before .before .args in
     claim-none (a .row .now) (a .flat .0) (a .table .now) (pos-of-ne-zero (λ e. c .if1 .taken (c .before .entry-met .ensures ∙ e)))
-
-write-row-requires : tie.Need-write-row-requires
-write-row-requires c κs = search needs
-
-same-length-2 : tie.Need-same-length-2
-same-length-2 c = search needs
 
 returns-2 : tie.Need-returns-2
 returns-2 c =
@@ -32,6 +20,4 @@ returns-2 c =
     claim-all (a .row .now) (a .flat .0) (write .result) (a .table .now) (write .last .0) (s .pre .0) (s .pre .1 .0) free (write .ensures .0) (write .ensures .1)
 
 pub claim-row-spec : {M : Type 1} → statement M
-claim-row-spec =
-    tie.close
-    (tie.spec entry-met-requires same-length returns write-row-requires same-length-2 returns-2)
+claim-row-spec = tie.close (tie.spec (λ c κs. search needs) (λ c. search needs) returns (λ c κs. search needs) (λ c. search needs) returns-2)

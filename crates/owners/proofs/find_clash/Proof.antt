@@ -8,15 +8,6 @@ use borrow.Author.Needs.{needs}
 use Rattle.owners.proofs.find_clash.Statement.{statement}
 use Rattle.owners.proofs.find_clash.Tie as tie
 
-entry-met-requires : tie.Need-entry-met-requires
-entry-met-requires c κs = search needs
-
-cell-met-requires : tie.Need-cell-met-requires
-cell-met-requires c κs = search needs
-
-sub-t6 : tie.Need-sub-t6
-sub-t6 c = search needs
-
 -- the cell met is that of the entry met
 cell : (c : tie.After-cell-met) →
     let a = c .before .before .before .before .args in
@@ -30,8 +21,7 @@ sub-t8 c =
     let s = c .before .before .before .before in
     omega (arith, cell c, cell-found (s .args .table .now) (s .args .row .now) (s .pre .1))
 
-returns : tie.Need-returns
-returns c = rw (cell c, c .before .entry-met .ensures)
-
 pub find-clash-spec : {M : Type 1} → statement M
-find-clash-spec = tie.close (tie.spec entry-met-requires cell-met-requires sub-t6 sub-t8 returns)
+find-clash-spec =
+    tie.close
+    (tie.spec (λ c κs. search needs) (λ c κs. search needs) (λ c. search needs) sub-t8 (λ c. rw (cell c, c .before .entry-met .ensures)))

@@ -4,11 +4,5 @@ use native.Mathlib.Omega.{arith}
 use Rattle.owners.proofs.free.Statement.{statement}
 use Rattle.owners.proofs.free.Tie as tie
 
-returns : tie.Need-returns
-returns c = rw (c .if1 .taken)
-
-returns-2 : tie.Need-returns-2
-returns-2 c = omega (arith, taken-owned (c .before .args .entry) (omega arith))
-
 pub free-spec : {M : Type 1} → statement M
-free-spec = tie.close (tie.spec returns returns-2)
+free-spec = tie.close (tie.spec (λ c. rw (c .if1 .taken)) (λ c. omega (arith, taken-owned (c .before .args .entry) (omega arith))))

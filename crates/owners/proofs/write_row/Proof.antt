@@ -1,9 +1,9 @@
--- `owners::write_row` writes the row: what is written so far, with the cells that are left, is the whole row written; each store counts what it occupies newly.
+-- `owners::write_row` writes the row: what is written so far, with the cells that are left, is the whole row rowWritten; each store counts what it occupies newly.
 use mathlib.Core.Path.{_≡_, refl, sym, _∙_}
 use Prim.Native.Nat.{_+_, _≤_, _<_, _-_}
 use lib.ListN.{length, getD, drop, length-set}
 use Rattle.claims.specs.Claims.{occupied}
-use Rattle.claims.specs.Rows.{written}
+use Rattle.claims.specs.Rows.{rowWritten}
 use Rattle.claims.proofs.Rows.{written-step, written-done, occupied-set, taken-owned}
 use native.Mathlib.Omega.{arith}
 use borrow.Author.Needs.{needs}
@@ -14,58 +14,16 @@ abbrev Inv-loop : tie.InvT-loop
 Inv-loop table₀ row entry newly₀ copy₀ table newly copy =
     (copy ≤ length row)
     × (length table ≡ length table₀)
-    × (written entry (drop copy row) table ≡ written entry row table₀)
+    × (rowWritten entry (drop copy row) table ≡ rowWritten entry row table₀)
     × (newly + occupied table₀ ≡ occupied table)
     × (newly ≤ copy)
 
 abbrev μ-loop : tie.MeasureT-loop
 μ-loop table₀ row entry newly₀ copy₀ table newly copy = length row - copy
 
-cast-entry : tie.Need-cast-entry Inv-loop μ-loop
-cast-entry c = omega arith
-
-add-entry : tie.Need-add-entry Inv-loop μ-loop
-add-entry c = omega arith
-
-loop-holds : tie.Need-loop-holds Inv-loop μ-loop
-loop-holds c = (omega arith, refl, refl, omega arith, omega arith)
-
 -- the cell of this copy is one of the table's
 below : (c : tie.In-loop Inv-loop μ-loop) → getD (c .before .before .before .before .before .args .row .now) (c .before .loop .copy) 0 < length (c .before .loop .table)
 below c = omega (arith, c .before .before .before .before .before .pre .0 (c .before .loop .copy) (omega arith))
-
-mul-cell : tie.Need-mul-cell Inv-loop μ-loop
-mul-cell c = omega arith
-
-shared-slice-read-cell : tie.Need-shared-slice-read-cell Inv-loop μ-loop
-shared-slice-read-cell c = omega arith
-
-cast-cell : tie.Need-cast-cell Inv-loop μ-loop
-cast-cell c = omega (arith, c .shared-slice-known2 .given (c .before .before .loop .copy))
-
-mul-free : tie.Need-mul-free Inv-loop μ-loop
-mul-free c = omega (arith, below (c .before))
-
-slice-read-free : tie.Need-slice-read-free Inv-loop μ-loop
-slice-read-free c = below (c .before .before)
-
-free-requires : tie.Need-free-requires Inv-loop μ-loop
-free-requires c κs = search needs
-
-add-newly : tie.Need-add-newly Inv-loop μ-loop
-add-newly c = omega arith
-
-mul-table : tie.Need-mul-table Inv-loop μ-loop
-mul-table c = omega (arith, below (c .before .before .before))
-
-slice-write-table : tie.Need-slice-write-table Inv-loop μ-loop
-slice-write-table c = below (c .before .before .before)
-
-add-copy : tie.Need-add-copy Inv-loop μ-loop
-add-copy c = omega arith
-
-loop-less : tie.Need-loop-less Inv-loop μ-loop
-loop-less c = omega arith
 
 loop-again : tie.Need-loop-again Inv-loop μ-loop
 loop-again c =
@@ -81,9 +39,6 @@ loop-again c =
       omega (arith, c .free .ensures),
     )
 
-same-length : tie.Need-same-length Inv-loop μ-loop
-same-length c = omega arith
-
 returns : tie.Need-returns Inv-loop μ-loop
 returns c =
     let a = c .before .before .before .before .before .args in
@@ -93,23 +48,7 @@ returns c =
 pub write-row-spec : {M : Type 1} → statement M
 write-row-spec =
     tie.close
-    (tie.spec
-    Inv-loop
-    μ-loop
-    cast-entry
-    add-entry
-    loop-holds
-    mul-cell
-    shared-slice-read-cell
-    cast-cell
-    mul-free
-    slice-read-free
-    free-requires
-    add-newly
-    mul-table
-    slice-write-table
-    add-copy
-    loop-less
-    loop-again
-    same-length
-    returns)
+    (tie.spec Inv-loop μ-loop (λ c. omega arith) (λ c. omega arith) (λ c. (omega arith, refl, refl, omega arith, omega arith)) (λ c. omega arith)
+    (λ c. omega arith) (λ c. omega (arith, c .shared-slice-known2 .given (c .before .before .loop .copy))) (λ c. omega (arith, below (c .before)))
+    (λ c. below (c .before .before)) (λ c κs. search needs) (λ c. omega arith) (λ c. omega (arith, below (c .before .before .before)))
+    (λ c. below (c .before .before .before)) (λ c. omega arith) (λ c. omega arith) loop-again (λ c. omega arith) returns)

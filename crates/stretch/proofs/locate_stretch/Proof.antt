@@ -6,17 +6,18 @@ use Prim.Native.Nat.{ℕ, _+_, _*_, _/_, min}
 use native.Mathlib.Nat.{min-eq-left}
 use native.Mathlib.Omega.{arith}
 use lib.Dec.{ltb}
-use lib.ListN.{take, drop}
+use lib.ListN.{length, take, drop}
 use borrow.Author.Needs.{needs}
 use borrow.Author.Tests.{lt-ltb, le-ltb, not-true, not-false}
 use Rattle.card.specs.Limits.{lastAxis}
-use Rattle.card.specs.Inside.{beyond}
+use Rattle.card.specs.Packed.{beyond}
 use Rattle.card.specs.Lists.{product}
 use Rattle.card.specs.Admission.{spaceFits}
 use Rattle.rules.specs.RowMajor.{rowMajor}
 use Rattle.laws.proofs.Lists.{take-whole}
 use Rattle.rules.proofs.Spots.{Numbered, position-at, position-past}
 use Rattle.rules.proofs.Prefixes.{row-major-prefix, prefix-within}
+use Rattle.copies.proofs.Spaces.{prefix-numerable}
 use Rattle.stretch.specs.Stretch.{asked}
 use Rattle.stretch.proofs.Checks.{Parted, parted}
 use Rattle.stretch.proofs.locate_stretch.Statement.{statement}
@@ -35,18 +36,9 @@ located c = c .before .before .before
 abbrev told : tie.After-product2 → tie.After-known-told
 told c = c .before .before .before
 
-returns : tie.Need-returns
-returns c = rw (lt-ltb lastAxis (c .before .before .args .axis) (c .if1 .taken))
-
 -- the asked axis is an axis
 an-axis : (c : tie.Else1) → ltb lastAxis (c .before .before .args .axis) ≡ false
 an-axis c = le-ltb lastAxis (c .before .before .args .axis) (c .if1 .left)
-
-space-fits-requires : tie.Need-space-fits-requires
-space-fits-requires c κs = search needs
-
-returns-2 : tie.Need-returns-2
-returns-2 c = rw (an-axis (c .before .before), sym (c .before .space-fits .ensures) ∙ not-true _ (c .if2 .taken))
 
 -- the space fits
 fits : (c : tie.Else2) → spaceFits (start c .args .t2) ≡ true
@@ -55,17 +47,13 @@ fits c = sym (c .before .space-fits .ensures) ∙ not-false _ (c .if2 .left)
 parts : (c : tie.Else2) → Parted (start c .args .t2) (start c .args .axis + 1)
 parts c = parted (start c .args .t2) (start c .args .axis + 1) (fits c)
 
-add-locate : tie.Need-add-locate
-add-locate c = search needs
-
 locate-requires : tie.Need-locate-requires
-locate-requires c κs = search (needs, parts (c .before .before))
-
-enum-known-number : tie.Need-enum-known-number
-enum-known-number c = search needs
-
-enum-known-outside : tie.Need-enum-known-outside
-enum-known-outside c = search needs
+locate-requires c κs =
+    let two = c .before .before in
+    let a = start two .args in
+    let p = parts two in
+    let eight : length (a .t2) ≡ 8 = search needs in
+    (prefix-numerable (a .t2) (a .axis + 1) (omega arith) (omega arith) (omega arith) (omega arith), search needs)
 
 returns-3 : tie.Need-returns-3
 returns-3 c =
@@ -83,9 +71,6 @@ numbered c =
     let a = start (fitting (located c)) .args in
     position-at (asked (a .axis) (a .t2)) (asked (a .axis) (a .t4)) _ (sym (located c .locate .ensures) ∙ c .before .number .given .1)
 
-product-requires : tie.Need-product-requires
-product-requires c κs = search needs
-
 -- the cells
 cells-are : (c : tie.After-product) → c .product .result ≡ product (start (fitting (located (c .before))) .args .t2)
 cells-are c =
@@ -99,12 +84,6 @@ returns-4 : tie.Need-returns-4
 returns-4 c =
     let two = fitting (located (c .before .before)) in
     rw (an-axis (two .before .before), fits two, numbered (c .before .before) .within, sym (cells-are (c .before)), lt-ltb _ _ (c .if3 .taken))
-
-add-product : tie.Need-add-product
-add-product c = search needs
-
-product-requires-2 : tie.Need-product-requires-2
-product-requires-2 c κs = search needs
 
 -- the cells of the asked axes, and of those after them
 first-cells : (c : tie.After-product2) →
@@ -152,19 +131,7 @@ returns-5 c =
 pub locate-stretch-spec : {M : Type 1} → statement M
 locate-stretch-spec =
     tie.close
-    (tie.spec
-    returns
-    space-fits-requires
-    returns-2
-    add-locate
-    locate-requires
-    enum-known-number
-    enum-known-outside
-    returns-3
-    product-requires
-    returns-4
-    add-product
-    product-requires-2
-    div-length
-    mul-t20
+    (tie.spec (λ c. rw (lt-ltb lastAxis (c .before .before .args .axis) (c .if1 .taken))) (λ c κs. search needs)
+    (λ c. rw (an-axis (c .before .before), sym (c .before .space-fits .ensures) ∙ not-true _ (c .if2 .taken))) (λ c. search needs) locate-requires
+    (λ c. search needs) (λ c. search needs) returns-3 (λ c κs. search needs) returns-4 (λ c. search needs) (λ c κs. search needs) div-length mul-t20
     returns-5)

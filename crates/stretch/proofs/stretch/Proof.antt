@@ -4,17 +4,11 @@ use native.Mathlib.Nat.{add-sub-cancel-left}
 use lib.ListN.{length}
 use Rattle.stretch.specs.Stretch.{stretchAnswer}
 use Rattle.stretch.specs.declared.Located.the-variants.{Stretch}
-use Rattle.stretch.proofs.Checks.{Within, answer-within}
+use Rattle.stretch.proofs.Checks.{StretchWithin, answer-within}
 use native.Mathlib.Omega.{arith}
 use borrow.Author.Needs.{needs}
 use Rattle.stretch.proofs.stretch.Statement.{statement}
 use Rattle.stretch.proofs.stretch.Tie as tie
-
-locate-stretch-requires : tie.Need-locate-stretch-requires
-locate-stretch-requires c κs = search needs
-
-enum-known-located : tie.Need-enum-known-located
-enum-known-located c = search needs
 
 -- the answer, and that the stretch lies within the table
 found : (c : tie.After-known-told) →
@@ -26,38 +20,11 @@ found c = sym (c .before .before .before .locate-stretch .ensures) ∙ c .before
 within : (c : tie.After-known-told) →
     let s = c .before .before .before .before .before in
     let v = c .before .located .given .0 in
-    Within (s .args .lengths) (length (s .args .table .now)) (v .0 .0) (v .1 .0)
+    StretchWithin (s .args .lengths) (length (s .args .table .now)) (v .0 .0) (v .1 .0)
 within c =
     let s = c .before .before .before .before .before in
     let v = c .before .located .given .0 in
     answer-within (s .args .lengths) (s .args .axis) (s .args .coordinates) (length (s .args .table .now)) (v .0) (v .1 .0) (found c)
-
-add-end : tie.Need-add-end
-add-end c = let w = within c in omega arith
-
-mul-result : tie.Need-mul-result
-mul-result c = let w = within c in omega arith
-
-sub-result : tie.Need-sub-result
-sub-result c = search needs
-
-part-result-start : tie.Need-part-result-start
-part-result-start c = search needs
-
-part-result-end : tie.Need-part-result-end
-part-result-end c = let w = within c in omega arith
-
-enum-told : tie.Need-enum-told
-enum-told c = search needs
-
-sub-result-2 : tie.Need-sub-result-2
-sub-result-2 c = search needs
-
-part-result-start-2 : tie.Need-part-result-start-2
-part-result-start-2 c = search needs
-
-part-result-end-2 : tie.Need-part-result-end-2
-part-result-end-2 c = search needs
 
 returns : tie.Need-returns
 returns c =
@@ -70,17 +37,6 @@ returns-2 c = rw (sym (c .before .before .before .locate-stretch .ensures) ∙ c
 pub stretch-spec : {M : Type 1} → statement M
 stretch-spec =
     tie.close
-    (tie.spec
-    locate-stretch-requires
-    enum-known-located
-    add-end
-    mul-result
-    sub-result
-    part-result-start
-    part-result-end
-    enum-told
-    sub-result-2
-    part-result-start-2
-    part-result-end-2
-    returns
-    returns-2)
+    (tie.spec (λ c κs. search needs) (λ c. search needs) (λ c. let w = within c in omega arith) (λ c. let w = within c in omega arith)
+    (λ c. search needs) (λ c. search needs) (λ c. let w = within c in omega arith) (λ c. search needs) (λ c. search needs) (λ c. search needs)
+    (λ c. search needs) returns returns-2)

@@ -9,17 +9,8 @@ use Rattle.swizzle.proofs.swizzle_of_mode.Tie as tie
 is-known : (c : tie.Then1) → known (c .before .before .args .bits) (c .before .before .args .mode) ≡ true
 is-known c = sym (c .before .is-known .ensures) ∙ c .if1 .taken
 
-is-known-requires : tie.Need-is-known-requires
-is-known-requires c κs = tt
-
-kept-bits-requires : tie.Need-kept-bits-requires
-kept-bits-requires c κs = known-parts (c .before .before .args .bits) (c .before .before .args .mode) (is-known c) .0
-
-returns : tie.Need-returns
-returns c = rw (is-known (c .before), c .kept-bits .ensures)
-
-returns-2 : tie.Need-returns-2
-returns-2 c = rw (sym (c .before .is-known .ensures) ∙ c .if1 .left)
-
 pub swizzle-of-mode-spec : {M : Type 1} → statement M
-swizzle-of-mode-spec = tie.close (tie.spec is-known-requires kept-bits-requires returns returns-2)
+swizzle-of-mode-spec =
+    tie.close
+    (tie.spec (λ c κs. tt) (λ c κs. known-parts (c .before .before .args .bits) (c .before .before .args .mode) (is-known c) .0)
+    (λ c. rw (is-known (c .before), c .kept-bits .ensures)) (λ c. rw (sym (c .before .is-known .ensures) ∙ c .if1 .left)))

@@ -6,29 +6,29 @@ use lib.ListN.{length, replicate, length-replicate}
 use Rattle.card.specs.Card.{elements, cells}
 use Rattle.card.specs.declared.Card.{Card}
 use Rattle.card.proofs.Admitted.{sized}
-use Rattle.rules.specs.Inside.{cardOf}
+use Rattle.card.specs.Packed.{cardOf}
 use Rattle.claims.specs.Claims.{OwnedTable}
 use Rattle.judgement.specs.Judgement.{placed}
-use Rattle.verdict.specs.Inside.{Claimable}
-use Rattle.verdict.proofs.Laws.{Ready, row-ready, claims-none, claims-count, claims-more, claims-met, claims-clash}
+use Rattle.verdict.specs.Contracts.{Claimable}
+use Rattle.verdict.proofs.Laws.{admits, RowReady, row-ready, claims-none, claims-count, claims-more, claims-met, claims-clash}
 use Rattle.verdict.proofs.Promises.{clash-promise, approved-promise}
 use Rattle.verdict.proofs.claim_all.Statement.{statement}
 use Rattle.verdict.proofs.claim_all.Tie as tie
 
 abbrev Inv-loop : tie.InvT-loop
-Inv-loop shard shardStrides replica replicaStrides offset lengths swizzle elements row₀ table₀ occupied₀ flat₀ row table occupied flat =
-    let card = cardOf shard shardStrides replica replicaStrides offset lengths swizzle in
+Inv-loop numbers strides elements row₀ table₀ occupied₀ flat₀ row table occupied flat =
+    let card = cardOf numbers strides in
     (flat ≤ elements) × (length row ≡ length row₀) × OwnedTable (placed card) flat (cells card) table occupied
 
 abbrev μ-loop : tie.MeasureT-loop
-μ-loop shard shardStrides replica replicaStrides offset lengths swizzle elements row₀ table₀ occupied₀ flat₀ row table occupied flat =
+μ-loop numbers strides elements row₀ table₀ occupied₀ flat₀ row table occupied flat =
     elements - flat
 
--- the lent card
+-- the card
 abbrev card : tie.Start Inv-loop μ-loop → Card
 card s =
     let a = s .args in
-    cardOf (a .shard .now) (a .shard-strides .now) (a .replica .now) (a .replica-strides .now) (a .offset .now) (a .lengths .now) (a .swizzle .now)
+    cardOf (a .numbers .now) (a .strides .now)
 
 -- the table lent has exactly the cells
 exact : (s : tie.Start Inv-loop μ-loop) → length (s .args .table .now) ≡ cells (card s)
@@ -43,15 +43,15 @@ claimable t =
 abbrev test : tie.After-claim-element Inv-loop μ-loop → tie.In-loop Inv-loop μ-loop
 test m = m .before .before .before
 
-ready : (m : tie.After-claim-element Inv-loop μ-loop) → Ready (test m .before .loop .flat) (m .claim-element .last .1 .1 .1 .1 .1 .1 .1 .1 .0) (test m .before .loop .table)
+ready : (m : tie.After-claim-element Inv-loop μ-loop) → RowReady (test m .before .loop .flat) (m .claim-element .last .1 .1 .1 .0) (test m .before .loop .table)
 ready m =
     let l = test m .before .loop in
     let s = test m .before .before .before .before in
-    row-ready (card s) (l .flat) (l .table) (s .pre .0 .lent .admitted) (claimable (test m)) (m .claim-element .ensures .placed)
+    row-ready (card s) (l .flat) (l .table) (admits (s .pre .0) .admitted) (claimable (test m)) (m .claim-element .ensures .placed)
 
 -- the table has as many cells after the claim
-size : (m : tie.After-claim-element Inv-loop μ-loop) → length (m .claim-element .last .1 .1 .1 .1 .1 .1 .1 .1 .1 .0) ≡ cells (card (test m .before .before .before .before))
-size m = m .claim-element .kept .1 .1 .1 .1 .1 .1 .1 .1 .1 .0 ∙ test m .before .loop .inv .2 .size
+size : (m : tie.After-claim-element Inv-loop μ-loop) → length (m .claim-element .last .1 .1 .1 .1 .0) ≡ cells (card (test m .before .before .before .before))
+size m = m .claim-element .kept .1 .1 .1 .1 .0 ∙ test m .before .loop .inv .2 .size
 
 loop-holds : tie.Need-loop-holds Inv-loop μ-loop
 loop-holds c =
@@ -65,7 +65,7 @@ claim-element-requires : tie.Need-claim-element-requires Inv-loop μ-loop
 claim-element-requires c κs =
     let t = c .before .before in
     let s = t .before .before .before .before in
-    (s .pre .0 .lent, (t .before .loop .inv .1 ∙ s .pre .0 .one-each, claimable t))
+    (admits (s .pre .0), (t .before .loop .inv .1 ∙ s .pre .0 .one-each, claimable t))
 
 refuse-clash-requires : tie.Need-refuse-clash-requires Inv-loop μ-loop
 refuse-clash-requires c κs =
@@ -89,7 +89,7 @@ returns c =
     let s = test m .before .before .before .before in
     let a = s .args in
     clash-promise (card s) (a .table .now) (s .pre .0 .admitted) (exact s) (s .pre .1 .0)
-    (m .claim-element .last .1 .1 .1 .1 .1 .1 .1 .1 .1 .0) (m .claim-element .last .1 .1 .1 .1 .1 .1 .1 .1 .0) (record { 0 = l .flat })
+    (m .claim-element .last .1 .1 .1 .1 .0) (m .claim-element .last .1 .1 .1 .0) (record { 0 = l .flat })
     (claims-clash (card s) (l .flat) (m .claim-element .result) (l .occupied) (l .inv .2) (m .claim-element .ensures) (claimable (test m) .element) (i .if1 .taken))
     (r .refuse-clash .ensures .0) (r .refuse-clash .ensures .1 ∙ ap (λ (n : ℕ). replicate n 0) (size m))
 
@@ -98,7 +98,7 @@ add-occupied c =
     let m = c .before .before .before .before .before in
     let l = test m .before .loop in
     let s = test m .before .before .before .before in
-    let n = sized (card s) (s .pre .0 .lent .admitted) in
+    let n = sized (card s) (admits (s .pre .0) .admitted) in
     omega (arith, claims-count (card s) (l .flat) (m .claim-element .result) (l .occupied) (l .inv .2) (m .claim-element .ensures) (size m))
 
 loop-again : tie.Need-loop-again Inv-loop μ-loop
@@ -107,7 +107,7 @@ loop-again c =
     let l = test m .before .loop in
     let s = test m .before .before .before .before in (
       omega arith,
-      m .claim-element .kept .1 .1 .1 .1 .1 .1 .1 .1 .0 ∙ l .inv .1,
+      m .claim-element .kept .1 .1 .1 .0 ∙ l .inv .1,
       claims-more (card s) (l .flat) (m .claim-element .result) (l .occupied) (l .inv .2) (m .claim-element .ensures) (ready m .within) (size m) (omega arith),
     )
 
@@ -125,19 +125,5 @@ returns-2 c =
 pub claim-all-spec : {M : Type 1} → statement M
 claim-all-spec =
     tie.close
-    (tie.spec
-    Inv-loop
-    μ-loop
-    loop-holds
-    claim-element-requires
-    refuse-clash-requires
-    (λ c. omega arith)
-    same-length-2
-    returns
-    add-occupied
-    (λ c. omega arith)
-    (λ c. omega arith)
-    loop-again
-    (λ c. omega arith)
-    same-length-4
-    returns-2)
+    (tie.spec Inv-loop μ-loop loop-holds claim-element-requires refuse-clash-requires (λ c. omega arith) same-length-2 returns add-occupied
+    (λ c. omega arith) (λ c. omega arith) loop-again (λ c. omega arith) same-length-4 returns-2)

@@ -2,23 +2,23 @@
 use mathlib.Core.Path.{_≡_}
 use Rattle.card.specs.declared.Card.{Card}
 use Rattle.rules.specs.Copies.{copyCells}
-use Rattle.rules.specs.Inside.{cardOf}
+use Rattle.card.specs.Packed.{cardOf}
 use Rattle.verdict.proofs.Laws.{row-cells, row-ready}
 use borrow.Author.Needs.{needs}
 use Rattle.verdict.proofs.claim_element.Statement.{statement}
 use Rattle.verdict.proofs.claim_element.Tie as tie
 
--- the lent card
+-- the card
 abbrev card : tie.Start → Card
 card s =
     let a = s .args in
-    cardOf (a .shard .now) (a .shard-strides .now) (a .replica .now) (a .replica-strides .now) (a .offset .now) (a .lengths .now) (a .swizzle .now)
+    cardOf (a .numbers .now) (a .strides .now)
 
 abbrev start : tie.After-place-row → tie.Start
 start p = p .before .before .before .before
 
 -- the row as it is placed
-is-placed : (p : tie.After-place-row) → p .place-row .last .1 .1 .1 .1 .1 .1 .1 .1 .0 ≡ copyCells (card (start p)) (start p .args .flat .0)
+is-placed : (p : tie.After-place-row) → p .place-row .last .1 .1 .1 .0 ≡ copyCells (card (start p)) (start p .args .flat .0)
 is-placed p = row-cells (card (start p)) (start p .args .flat .0) (p .place-row .ensures) (start p .pre .1 .0)
 
 claim-row-requires : tie.Need-claim-row-requires
@@ -34,5 +34,4 @@ returns c =
     record { placed = is-placed (m .before .before .before .before .before); claim = m .claim-row .ensures }
 
 pub claim-element-spec : {M : Type 1} → statement M
-claim-element-spec =
-    tie.close (tie.spec (λ c κs. search needs) claim-row-requires (λ c. search needs) (λ c. search needs) returns)
+claim-element-spec = tie.close (tie.spec (λ c κs. search needs) claim-row-requires (λ c. search needs) (λ c. search needs) returns)

@@ -5,31 +5,32 @@ use native.Mathlib.Nat.{not-suc-le-zero}
 use native.Mathlib.Omega.{arith}
 use lib.ListN.{length}
 use Rattle.card.specs.declared.Card.{Card}
-use Rattle.rules.specs.Inside.{cardOf}
-use Rattle.verdict.proofs.Laws.{InsideBelow, inside-more, outside-first}
+use Rattle.card.specs.Packed.{cardOf}
+use Rattle.card.proofs.ReadBack.{eight-lengths}
+use Rattle.verdict.proofs.Laws.{admits, InsideBelow, inside-more, outside-first}
 use Rattle.verdict.proofs.first_outside.Statement.{statement}
 use Rattle.verdict.proofs.first_outside.Tie as tie
 
 abbrev Inv-loop : tie.InvT-loop
-Inv-loop shard shardStrides replica replicaStrides offset lengths swizzle elements row₀ flat₀ row flat =
+Inv-loop numbers strides elements row₀ flat₀ row flat =
     (flat ≤ elements) × (length row ≡ length row₀)
-    × InsideBelow (cardOf shard shardStrides replica replicaStrides offset lengths swizzle) flat
+    × InsideBelow (cardOf numbers strides) flat
 
 abbrev μ-loop : tie.MeasureT-loop
-μ-loop shard shardStrides replica replicaStrides offset lengths swizzle elements row₀ flat₀ row flat =
+μ-loop numbers strides elements row₀ flat₀ row flat =
     elements - flat
 
--- the lent card
+-- the card
 abbrev card : tie.Start Inv-loop μ-loop → Card
 card s =
     let a = s .args in
-    cardOf (a .shard .now) (a .shard-strides .now) (a .replica .now) (a .replica-strides .now) (a .offset .now) (a .lengths .now) (a .swizzle .now)
+    cardOf (a .numbers .now) (a .strides .now)
 
 loop-holds : tie.Need-loop-holds Inv-loop μ-loop
 loop-holds c = (omega arith, refl, λ f r h. absurd (not-suc-le-zero h))
 
 place-row-requires : tie.Need-place-row-requires Inv-loop μ-loop
-place-row-requires c κs = c .before .before .before .before .pre .lent
+place-row-requires c κs = admits (c .before .before .before .before .pre)
 
 returns : tie.Need-returns Inv-loop μ-loop
 returns c =
@@ -45,8 +46,8 @@ loop-again c =
     let l = p .before .before .before .loop in
     let s = p .before .before .before .before .before in (
       omega arith,
-      p .place-row .kept .1 .1 .1 .1 .1 .1 .1 .1 .0 ∙ l .inv .1,
-      inside-more (card s) (l .flat) (p .place-row .ensures) (l .inv .1 ∙ s .pre .one-each) (s .pre .lent .eight-lengths) (c .if1 .left) (l .inv .2),
+      p .place-row .kept .1 .1 .1 .0 ∙ l .inv .1,
+      inside-more (card s) (l .flat) (p .place-row .ensures) (l .inv .1 ∙ s .pre .one-each) (eight-lengths (s .pre .whole)) (c .if1 .left) (l .inv .2),
     )
 
 returns-2 : tie.Need-returns-2 Inv-loop μ-loop
@@ -58,15 +59,5 @@ returns-2 c =
 pub first-outside-spec : {M : Type 1} → statement M
 first-outside-spec =
     tie.close
-    (tie.spec
-    Inv-loop
-    μ-loop
-    loop-holds
-    place-row-requires
-    (λ c. omega arith)
-    returns
-    (λ c. omega arith)
-    (λ c. omega arith)
-    loop-again
-    (λ c. omega arith)
-    returns-2)
+    (tie.spec Inv-loop μ-loop loop-holds place-row-requires (λ c. omega arith) returns (λ c. omega arith) (λ c. omega arith) loop-again
+    (λ c. omega arith) returns-2)

@@ -14,20 +14,20 @@ judged k = k .before .before .before .before
 abbrev start : tie.After-judge-admitted → tie.Start
 start j = j .before .before .before
 
-below : (k : tie.After-enum-told) → start (judged k) .args .cell .0 < length (judged k .judge-admitted .last .1 .0)
+below : (k : tie.After-enum-told) → start (judged k) .args .cell .0 < length (judged k .judge-admitted .last .1 .1 .0)
 below k =
     let j = judged k in
     let room = approved-room (j .judge-admitted .ensures) (k .enum-told .given .1) in
-    omega (arith, start j .pre .1, j .judge-admitted .kept .1 .0)
+    omega (arith, start j .pre .1, j .judge-admitted .kept .1 .1 .0)
 
-mul-t10 : tie.Need-mul-t10
-mul-t10 c = omega (arith, below c)
+mul-t11 : tie.Need-mul-t11
+mul-t11 c = omega (arith, below c)
 
-slice-read-t12 : tie.Need-slice-read-t12
-slice-read-t12 c = below (c .before)
+slice-read-t13 : tie.Need-slice-read-t13
+slice-read-t13 c = below (c .before)
 
-cast-t13 : tie.Need-cast-t13
-cast-t13 c = omega (arith, c .slice-known3 .given (c .before .before .before .before .before .before .before .before .args .cell .0))
+cast-t14 : tie.Need-cast-t14
+cast-t14 c = omega (arith, c .slice-known3 .given (c .before .before .before .before .before .before .before .before .args .cell .0))
 
 returns : tie.Need-returns
 returns c =
@@ -42,14 +42,5 @@ returns-2 c =
 pub owner-at-spec : {M : Type 1} → statement M
 owner-at-spec =
     tie.close
-    (tie.spec
-    (λ c κs. search needs)
-    (λ c. search needs)
-    mul-t10
-    slice-read-t12
-    cast-t13
-    (λ c. search needs)
-    (λ c. search needs)
-    returns
-    (λ c. search needs)
-    returns-2)
+    (tie.spec (λ c κs. search needs) (λ c. search needs) mul-t11 slice-read-t13 cast-t14 (λ c. search needs) (λ c. search needs) returns
+    (λ c. search needs) returns-2)

@@ -9,7 +9,8 @@ use borrow.Author.Tests.{eqb-true}
 use lib.Dec.{eqb}
 use lib.ListN.{length, getD}
 use Rattle.laws.proofs.Table.{every, every-at}
-use Rattle.fragment.specs.Kinds.{computation, place, packed}
+use Rattle.fragment.specs.Kinds.{computation, place}
+use Rattle.fragment.specs.Table.{packed}
 use Rattle.fragment.proofs.accumulator.entry.Statement.{statement}
 use Rattle.fragment.proofs.accumulator.entry.Tie as tie
 
@@ -28,18 +29,6 @@ at-entry table all lane i h small =
     eqb-true (getD table k 0) (rule k) (every-at test table 0 all k h)
     ∙ ap₂ (λ (l j : ℕ). packed (place 5 l j)) same-lane same-register
 
-mul-result : tie.Need-mul-result
-mul-result c = search needs
-
-add-result : tie.Need-add-result
-add-result c = search needs
-
-mul-result-2 : tie.Need-mul-result-2
-mul-result-2 c = search needs
-
-array-read-result : tie.Need-array-read-result
-array-read-result c = search needs
-
 -- the search finds the table in what is to be shown, and computes its test
 returns : tie.Need-returns
 unfolding computation place
@@ -49,4 +38,4 @@ returns c =
     search at-entry
 
 pub entry-spec : {M : Type 1} → statement M
-entry-spec = tie.close (tie.spec mul-result add-result mul-result-2 array-read-result returns)
+entry-spec = tie.close (tie.spec (λ c. search needs) (λ c. search needs) (λ c. search needs) (λ c. search needs) returns)

@@ -20,12 +20,4 @@ sub-result : tie.Need-sub-result
 sub-result c = let n = c .before .before .args .n in rw (toZ-pos w64 {n = n} (omega arith)) (from-zero n (omega arith))
 
 pub signed-spec : {M : Type 1} → statement M
-signed-spec =
-    tie.close
-    (tie.spec
-    (λ c. search needs)
-    sub-result
-    (λ c. search needs)
-    (λ c. search needs)
-    (λ c. search needs)
-    (λ c. search needs))
+signed-spec = tie.close (tie.spec (λ c. search needs) sub-result (λ c. search needs) (λ c. search needs) (λ c. search needs) (λ c. search needs))

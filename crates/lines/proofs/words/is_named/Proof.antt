@@ -2,26 +2,18 @@
 use Prim.Native.Nat.{_-_}
 use native.Mathlib.Omega.{arith}
 use borrow.Author.Needs.{needs}
+use lib.ListN.{length}
 use Rattle.lines.proofs.words.is_named.Statement.{statement}
 use Rattle.lines.proofs.words.is_named.Tie as tie
 
 abbrev Inv-loop : tie.InvT-loop
-Inv-loop line end k i₀ i = Unit
+Inv-loop line end name i₀ i = Unit
 
 abbrev μ-loop : tie.MeasureT-loop
-μ-loop line end k i₀ i = 11 - i
+μ-loop line end name i₀ i = length name - i
 
 pub is-named-spec : {M : Type 1} → statement M
 is-named-spec =
     tie.close
-    (tie.spec
-    Inv-loop
-    μ-loop
-    (λ c. search needs)
-    (λ c κs. search needs)
-    (λ c κs. search needs)
-    (λ c. search needs)
-    (λ c. omega arith)
-    (λ c. omega arith)
-    (λ c. search needs)
-    (λ c. search needs))
+    (tie.spec Inv-loop μ-loop (λ c. search needs) (λ c. search needs) (λ c. omega arith) (λ c. omega arith) (λ c. search needs) (λ c. omega arith)
+    (λ c. omega arith) (λ c. search needs) (λ c. search needs))

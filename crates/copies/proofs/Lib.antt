@@ -1,0 +1,6 @@
+pub mod Below
+pub mod Numbering
+pub mod Numbers
+pub mod Spaces
+pub mod Turn
+pub mod Cards
