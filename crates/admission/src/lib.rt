@@ -139,7 +139,7 @@ pub fn check_fields(numbers: &[u64; 48], strides: &[i64; 24]) -> Admission
 pub fn space_fits(lengths: [u64; 8]) -> bool
     ensures { λ r. ⌜ r ≡ spaceFits lengths ⌝ }
 {
-    all_within(&lengths, 0, 8, 1, card::MOST_LENGTH) & (packed::product(lengths, 8) <= MOST_CELLS)
+    all_within(&lengths, 0, 8, 1, card::MOST_LENGTH) & (products::product(lengths, 8) <= MOST_CELLS)
 }
 
 // Check 4 of a packed card.

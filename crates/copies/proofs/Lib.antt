@@ -2,5 +2,4 @@ pub mod Below
 pub mod Numbering
 pub mod Numbers
 pub mod Spaces
-pub mod Turn
 pub mod Cards

@@ -13,6 +13,7 @@ use Rattle.card.specs.Limits.{mostExtent}
 use Rattle.card.specs.Packed.{beyond, farthest, itersOf, ListOf}
 use Rattle.card.specs.Admission.{itersFit, itersOnAxes, spaceFits}
 use Rattle.rules.specs.Rules.{axes}
+use Rattle.sums.specs.Walks.{Walkable, Sums}
 use Rattle.rules.specs.declared.Position.{Position}
 use Rattle.rules.specs.declared.Position.the-variants.{At, Past}
 
@@ -30,26 +31,6 @@ cellFrom number = cond (ltb number beyond) number 0
 
 abbrev pub axisFrom : ℕ → ℕ
 axisFrom number = cond (ltb number beyond) (length axes) (number - beyond)
-
--- how far from zero the sums before a walk are at most, with room to spare
-abbrev pub roomy : ℕ
-roomy = 2 ^ 40
-
--- a list of iters whose numbers lie within the limits
-pub record Walkable (numbers : List ℕ) (strides : List ℤ) (list : ℕ) : Type 0 where
-  pub of : ListOf numbers list
-  pub fit : itersFit (itersOf numbers strides list) ≡ true
-  pub on-axes : itersOnAxes (itersOf numbers strides list) ≡ true
-
-pub record Sums (sums : List ℤ) : Type 0 where
-  pub eight : length sums ≡ 8
-  pub small : (axis : ℕ) → natAbs (getD sums axis (pos 0)) ≤ roomy
-
--- a sum, a component and a stride whose product can be added to the sum
-pub record Steps (sum : ℤ) (component : ℕ) (stride : ℤ) : Type 0 where
-  pub small-sum : natAbs sum ≤ 2 * roomy
-  pub small-component : component ≤ mostExtent
-  pub small-stride : natAbs stride ≤ farthest
 
 -- the swizzle numbers are permitted
 abbrev pub Permits : List ℕ → Type 0

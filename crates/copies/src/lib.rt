@@ -8,15 +8,14 @@ ghost use mathlib.Core.Path.{_≡_};
 ghost use mathlib.Core.Bool.{true};
 ghost use mathlib.Core.List.{map};
 ghost use Prim.Native.Nat.{_+_, min};
-ghost use lib.IntN.{pos, _+ℤ_, _*ℤ_};
 ghost use lib.ListN.{length, take};
 ghost use lib.Seq.{slice};
 ghost use Rattle.card.specs.Packed.{itersOf, swizzleOf, cardOf, Admits};
 ghost use Rattle.card.specs.Admission.{spaceFits};
 ghost use Rattle.rules.specs.RowMajor.{position};
 ghost use Rattle.rules.specs.Rules.{swizzledZ, onAxis, spotAt, spot};
-ghost use Rattle.rules.specs.Walked.{walked, positionFrom, spotFrom, PlacedRow};
-ghost use Rattle.copies.specs.Contracts.{numberOf, cellFrom, axisFrom, Walkable, Sums, Steps, Permits, Numerable, positionOf, Ready};
+ghost use Rattle.rules.specs.Walked.{positionFrom, spotFrom, PlacedRow};
+ghost use Rattle.copies.specs.Contracts.{numberOf, cellFrom, axisFrom, Permits, Numerable, positionOf, Ready};
 
 // How many axes there are: past the last stands for none. Public for the crates above.
 pub const AXES: u64 = card::LAST_AXIS + 1;
@@ -26,32 +25,6 @@ const M: usize = card::LAST_AXIS as usize;
 
 // What a coordinate below zero counts as: one past the largest length, so that it lies outside.
 const BELOW_ZERO: u64 = card::MOST_LENGTH;
-
-// A sum with a component times its stride.
-fn step(sum: i64, component: u64, stride: i64) -> i64
-    requires { ⌜ Steps sum component stride ⌝ }
-    ensures { λ r. ⌜ r ≡ sum +ℤ pos component *ℤ stride ⌝ }
-{
-    sum + component as i64 * stride
-}
-
-// Adds to the sums what a list of iters adds to each axis at an index: one walk over the iters for all
-// eight axes, from the last, which runs fastest. Public, with a requires, for the crates above.
-pub fn walk(numbers: &[u64; 48], strides: &[i64; 24], list: usize, index: u64, sums: &mut [i64; 8])
-    requires { ⌜ Walkable (now numbers) (now strides) list × Sums (now sums) ⌝ }
-    ensures { λ r. ⌜ now (sums .exit) ≡ walked (itersOf (now (numbers .entry)) (now (strides .entry)) list) index (now (sums .entry)) ⌝ }
-{
-    let mut rest = index;
-    let mut k = numbers[card::COUNTS + list] as usize;
-    while 0 < k {
-        k -= 1;
-        let extent = numbers[16 * list + k];
-        let axis = numbers[16 * list + 8 + k] as usize;
-        let sum = step(sums[axis], rest % extent, strides[8 * list + k]);
-        sums[axis] = sum;
-        rest = rest / extent;
-    }
-}
 
 // Where coordinates are among so many sizes from a place on, as one word for the loops: their number
 // row-major, or BEYOND and the first place past its size.
@@ -148,7 +121,7 @@ fn copy_number(base: &[i64; 8], numbers: &[u64; 48], strides: &[i64; 24], combin
     ensures { λ r. ⌜ r ≡ numberOf (positionFrom (slice 32 40 (now (numbers .entry))) (swizzleOf (now (numbers .entry))) (itersOf (now (numbers .entry)) (now (strides .entry)) 1) (now (base .entry)) combination) ⌝ }
 {
     let mut sums = *base;
-    walk(numbers, strides, card::REPLICA, combination, &mut sums);
+    sums::walk(numbers, strides, card::REPLICA, combination, &mut sums);
     let mut coordinates: [u64; 8] = [0; 8];
     finish(&sums, &mut coordinates);
     coordinates[M] = swizzled_on_axis(numbers, sums[M]);
@@ -226,6 +199,6 @@ pub fn place_row(numbers: &[u64; 48], strides: &[i64; 24], flat: Flat, row: &mut
     ensures { λ r. ⌜ PlacedRow (spot (cardOf (now (numbers .entry)) (now (strides .entry))) (flat .0)) (now (row .entry)) (now (row .exit)) r ⌝ }
 {
     let mut base = offset(strides);
-    walk(numbers, strides, card::SHARD, flat.0, &mut base);
+    sums::walk(numbers, strides, card::SHARD, flat.0, &mut base);
     place_copies(&base, numbers, strides, row)
 }

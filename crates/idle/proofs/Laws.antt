@@ -14,7 +14,7 @@ use Rattle.card.specs.Card.{size}
 use Rattle.card.specs.declared.Iters.{Iters}
 use Rattle.rules.specs.Rules.{part}
 use Rattle.rules.specs.Walked.{walked}
-use Rattle.copies.specs.Contracts.{Sums}
+use Rattle.sums.specs.Walks.{Sums}
 use Rattle.card.proofs.ReadBack.{eight-at}
 use Rattle.idle.specs.Idle.{SameSums, IdlePair}
 use Rattle.idle.specs.Contracts.{Says, zeros, NoneBelow, Twin, NoneBefore}

@@ -7,7 +7,7 @@ ghost use mathlib.Core.Path.{_≡_};
 ghost use lib.ListN.{length};
 ghost use Rattle.card.specs.Packed.{itersOf, cardOf, Whole, Admits};
 ghost use Rattle.rules.specs.Walked.{walked};
-ghost use Rattle.copies.specs.Contracts.{Walkable};
+ghost use Rattle.sums.specs.Walks.{Walkable};
 ghost use Rattle.idle.specs.Idle.{Finds};
 ghost use Rattle.idle.specs.Admission.{fullAdmission};
 ghost use Rattle.idle.specs.Contracts.{Says, zeros, Twin};
@@ -40,7 +40,7 @@ fn gives(numbers: &[u64; 48], strides: &[i64; 24], combination: u64, sums: &[i64
     ensures { λ r. ⌜ Says (walked (itersOf (now (numbers .entry)) (now (strides .entry)) 1) combination zeros ≡ now (sums .entry)) r ⌝ }
 {
     let mut given = [0i64; 8];
-    copies::walk(numbers, strides, card::REPLICA, combination, &mut given);
+    sums::walk(numbers, strides, card::REPLICA, combination, &mut given);
     are_equal(&given, sums)
 }
 
@@ -50,7 +50,7 @@ fn find_twin(numbers: &[u64; 48], strides: &[i64; 24], b: u64) -> u64
     ensures { λ r. ⌜ Twin (itersOf (now (numbers .entry)) (now (strides .entry)) 1) b r ⌝ }
 {
     let mut sums = [0i64; 8];
-    copies::walk(numbers, strides, card::REPLICA, b, &mut sums);
+    sums::walk(numbers, strides, card::REPLICA, b, &mut sums);
     let mut a: u64 = 0;
     while a < b {
         if gives(numbers, strides, a, &sums) {

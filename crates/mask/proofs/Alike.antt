@@ -8,12 +8,13 @@ use native.Mathlib.Omega.{arith}
 use lib.Dec.{ltb}
 use lib.ListN.{getD, drop}
 use Rattle.descriptor.specs.Descriptor.{fieldsOf, reserved}
-use Rattle.mask.specs.Mask.{maskSize, subMasks, subBits, column, columns, bytes, maskOf, maskAnswer, maskMemory}
+use Rattle.pattern.specs.Pattern.{column, bytes}
+use Rattle.mask.specs.Mask.{maskSize, subMasks, subBits, columns, maskOf, maskAnswer, maskMemory}
 use Rattle.descriptor.specs.declared.Fields.{Fields}
 use Rattle.mask.specs.declared.Generated.{Generated}
 use Rattle.mask.specs.declared.Generated.the-variants.{Mask, Refused}
-use Rattle.mask.proofs.Numbers.{zeroed-same, first-same}
-use Rattle.mask.proofs.Bytes.{bytes-same}
+use Rattle.pattern.proofs.Numbers.{zeroed-same, first-same}
+use Rattle.pattern.proofs.Bytes.{bytes-same}
 use Rattle.mask.proofs.Sizes.{Sized, sized}
 
 -- alike but for the shift and the fields of sub-masks that M does not use

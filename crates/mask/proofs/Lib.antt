@@ -1,9 +1,3 @@
-pub mod Numbers
-pub mod Least
-pub mod Bytes
 pub mod Sizes
-pub mod Pattern
-pub mod Runs
-pub mod Counted
 pub mod Alike
 pub mod Theorems

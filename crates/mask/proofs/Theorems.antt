@@ -12,18 +12,19 @@ use lib.Seq.{drop-at}
 use Rattle.answers.specs.Refusals.{answer}
 use Rattle.answers.proofs.OneToOne.{refusal-not-zero, readBack, refused-back, pinned, rung}
 use Rattle.descriptor.specs.Descriptor.{yes, fieldsOf, reserved}
-use Rattle.mask.specs.Mask.{maskSize, subBits, columns, bytes, zeroed, firstUsed, maskOf, maskAnswer, maskMemory, maskNumbers}
-use Rattle.mask.specs.Bits.{bColumn, maskBit}
+use Rattle.pattern.specs.Pattern.{bytes, zeroed, firstUsed}
+use Rattle.mask.specs.Mask.{maskSize, subBits, columns, maskOf, maskAnswer, maskMemory, maskNumbers}
+use Rattle.pattern.specs.Bits.{bColumn, maskBit}
 use Rattle.descriptor.specs.declared.Fields.{Fields}
 use Rattle.mask.specs.declared.Generated.{Generated}
 use Rattle.mask.specs.declared.Generated.the-variants.{Mask, Refused}
-use Rattle.mask.proofs.Numbers.{zeroed-same, first-same}
-use Rattle.mask.proofs.Bytes.{bytes-length, none-zeroed, all-used, zero-bytes, bytes-bit}
+use Rattle.pattern.proofs.Numbers.{zeroed-same, first-same}
+use Rattle.pattern.proofs.Bytes.{bytes-length, none-zeroed, all-used, zero-bytes, bytes-bit}
 use Rattle.mask.proofs.Sizes.{sized}
 use Rattle.mask.proofs.Alike.{Alike, alike-same}
 -- the endless pattern runs in turns; a mask repeats from the start of each sub-mask; the first used column is the smallest that is clear
-pub use Rattle.mask.proofs.Pattern.{Turns, turns, all-clear, repeats}
-pub use Rattle.mask.proofs.Least.{Least, first-least, least-one}
+pub use Rattle.pattern.proofs.Pattern.{Turns, turns, all-clear, repeats}
+pub use Rattle.pattern.proofs.Least.{Least, first-least, least-one}
 
 -- a mask whose non-zero mask field is 0: no column is zeroed, and every byte is 0
 pub clear-mask : (M N d : ℕ) → fieldsOf d .«non_zero» ≡ false → (maskOf (columns M N d) N ≡ Mask 0 0) × (bytes (columns M N d) (N / 8) ≡ replicate (N / 8) 0)

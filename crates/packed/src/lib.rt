@@ -3,9 +3,7 @@ use card::Card;
 use card::Iters;
 ghost use mathlib.Core.Path.{_≡_};
 ghost use mathlib.Core.List.{map};
-ghost use Prim.Native.Nat.{_*_, _≤_, min};
-ghost use lib.ListN.{take};
-ghost use Rattle.card.specs.Lists.{product};
+ghost use Prim.Native.Nat.{min};
 ghost use Rattle.card.specs.Card.{extentOf, size};
 ghost use Rattle.card.specs.Packed.{beyond, lastColumn, Packs};
 
@@ -27,34 +25,6 @@ const REPLICA_STRIDES: usize = 8;
 pub struct Packed {
     pub numbers: [u64; 48],
     pub strides: [i64; 24],
-}
-
-// A whole product, told apart below BEYOND: no factor is too large, and nothing wraps.
-fn times(a: u64, b: u64) -> u64
-    ensures { λ r. ⌜ r ≡ min (a * b) beyond ⌝ }
-{
-    if b == 0 {
-        return 0;
-    }
-    if card::BEYOND / b < a {
-        return card::BEYOND;
-    }
-    a * b
-}
-
-// The whole product of the first `count` numbers, told apart below BEYOND. Public, with a
-// requires, for the crates above, which judge other products by it.
-pub fn product(numbers: [u64; 8], count: u64) -> u64
-    requires { ⌜ count ≤ 8 ⌝ }
-    ensures { λ r. ⌜ r ≡ min (product (take count numbers)) beyond ⌝ }
-{
-    let mut part: u64 = 1;
-    let mut k: u64 = 0;
-    while k < count {
-        part = times(part, numbers[k as usize]);
-        k += 1;
-    }
-    part
 }
 
 // The extents of all eight iters.
@@ -86,7 +56,7 @@ fn size(iters: Iters) -> u64
     ensures { λ r. ⌜ r ≡ min (size iters) beyond ⌝ }
 {
     let extents = extents(iters);
-    product(extents, named(iters.count))
+    products::product(extents, named(iters.count))
 }
 
 // The counts, M, B, S and the sizes of a card.
@@ -104,7 +74,7 @@ fn last_column(card: Card) -> [u64; 8]
         card.swizzle.s,
         size(shard),
         size(replica),
-        product(lengths, 8),
+        products::product(lengths, 8),
     ]
 }
 

@@ -42,7 +42,7 @@ fn is_admitted(shape: Tuple, elements: u64) -> bool
     let at = shape.at;
     let count = shape.count;
     if (1 <= count) & (count <= MOST_DIMENSIONS) {
-        packed::product(at, count) == elements
+        products::product(at, count) == elements
     } else {
         false
     }

@@ -14,7 +14,7 @@ use Rattle.swizzle.specs.Swizzle.{swizzled}
 use Rattle.swizzle.specs.Mode.{bitLength}
 use Rattle.fragment.specs.Kinds.{computation, registers, place}
 use Rattle.descriptor.specs.Descriptor.{descriptorOf}
-use Rattle.mask.specs.Mask.{column, number, bytes, zeroed, firstUsed}
+use Rattle.pattern.specs.Pattern.{column, number, bytes, zeroed, firstUsed}
 use Rattle.card.specs.Admission.{admission}
 use Rattle.rules.specs.RowMajor.{position}
 use Rattle.rules.specs.Rules.{coordinates, spot}

@@ -30,12 +30,12 @@ pub fn locate_stretch(table: &[u32], lengths: [u64; 8], axis: u64, coordinates: 
             return Located::Refused(Refusal::CellOutside { axis: outside });
         }
     };
-    let cells = packed::product(lengths, 8);
+    let cells = products::product(lengths, 8);
     if (table.len() as u64) < cells {
         return Located::Refused(Refusal::TooShort { needed: cells });
     }
     // each prefix has equally many cells under it
-    let length = cells / packed::product(lengths, axis + 1);
+    let length = cells / products::product(lengths, axis + 1);
     Located::Stretch {
         first: Cell(number * length),
         length,

@@ -1,44 +1,12 @@
--- What the functions inside promise each other: an admitted card, packed, and a row for the copies of one element.
+-- What the functions inside promise each other: a verdict, and one entry read of the table after it.
 use mathlib.Core.Path.{_≡_}
 use mathlib.Core.List.{List}
-use Prim.Native.Nat.{ℕ, _<_}
-use lib.IntN.{ℤ}
+use Prim.Native.Nat.{ℕ}
 use lib.ListN.{length, getD}
-use Rattle.card.specs.Card.{elements, copies, cells}
-use Rattle.card.specs.Packed.{cardOf, Whole}
 use Rattle.card.specs.declared.Card.{Card}
-use Rattle.card.specs.declared.Admission.the-variants.{Admitted}
-use Rattle.rules.specs.Copies.{copyCells}
-use Rattle.idle.specs.Admission.{fullAdmission}
-use Rattle.claims.specs.Rows.{RowClaim}
-use Rattle.judgement.specs.Judgement.{AllInside, FirstOutside, Judgement, ComesTo}
+use Rattle.judgement.specs.Judgement.{Judgement, ComesTo}
 use Rattle.judgement.specs.Verdict.{verdictOf, tableAfter, readEntry}
 use Rattle.judgement.specs.declared.Owner.{Owner}
-use Rattle.verdict.specs.declared.Search.{Search}
-use Rattle.verdict.specs.declared.Search.the-variants.{Outside, NoneOutside}
-
--- what a pass over the elements is lent: an admitted card, packed, how many elements it has, and a row as long as its copies
-pub record Pass (numbers : List ℕ) (strides : List ℤ) (count : ℕ) (row : List ℕ) : Type 0 where
-  pub whole : Whole numbers strides
-  pub admitted : fullAdmission (cardOf numbers strides) ≡ Admitted
-  pub all-elements : count ≡ elements (cardOf numbers strides)
-  pub one-each : length row ≡ copies (cardOf numbers strides)
-
--- what the first pass finds
-abbrev pub Finds : Card → Search → Type 0
-Finds card (Outside flat axis) = FirstOutside card (flat .0) axis
-Finds card NoneOutside = AllInside card
-
--- an element can be claimed: every copy of every element lies in the space, and the table has exactly the cells
-pub record Claimable (card : Card) (flat : ℕ) (table : List ℕ) : Type 0 where
-  pub inside : AllInside card
-  pub element : flat < elements card
-  pub size : length table ≡ cells card
-
--- one element's claim: its row is placed, and claimed or not
-pub record ElementClaim (card : Card) (flat newly : ℕ) (row before after : List ℕ) : Type 0 where
-  pub placed : row ≡ copyCells card flat
-  pub claim : RowClaim row flat newly before after
 
 -- the verdict, and one entry read of the table after it
 pub record ReadAt (card : Card) (cell : ℕ) (before after : List ℕ) (owner : Owner) : Type 0 where

@@ -1,6 +1,5 @@
 // The verdict on a layout card, and the owner of a cell.
 use answers::Cell;
-use answers::Flat;
 use answers::Refusal;
 use card::Admission;
 use card::Card;
@@ -9,121 +8,13 @@ use judgement::Verdict;
 use rules::Spot;
 ghost use mathlib.Core.Path.{_≡_};
 ghost use Prim.Native.Nat.{_<_};
-ghost use lib.ListN.{length, replicate};
-ghost use Rattle.card.specs.Card.{copies, cells};
-ghost use Rattle.card.specs.Packed.{cardOf, Whole, Admits};
+ghost use lib.ListN.{length};
+ghost use Rattle.card.specs.Card.{cells};
+ghost use Rattle.card.specs.Packed.{cardOf, Whole};
 ghost use Rattle.card.specs.declared.Admission.the-variants.{Admitted};
 ghost use Rattle.idle.specs.Admission.{fullAdmission};
-ghost use Rattle.claims.specs.Rows.{Within, entryMet};
-ghost use Rattle.owners.specs.Owners.{clashOf};
-ghost use Rattle.judgement.specs.Judgement.{AllInside};
 ghost use Rattle.judgement.specs.Verdict.{VerdictPromise, OwnerPromise};
-ghost use Rattle.verdict.specs.Contracts.{Pass, Finds, Claimable, ElementClaim, ReadAt};
-
-// What the first pass over the elements finds.
-enum Search {
-    Outside { flat: Flat, axis: u64 },
-    NoneOutside,
-}
-
-// The first pass: the smallest element of which a copy lies outside the space.
-fn first_outside(numbers: &[u64; 48], strides: &[i64; 24], elements: u64, row: &mut [u32]) -> Search
-    requires { ⌜ Pass (now numbers) (now strides) elements (now row) ⌝ }
-    ensures { λ r. ⌜ Finds (cardOf (now (numbers .entry)) (now (strides .entry))) r ⌝ }
-{
-    let mut flat: u64 = 0;
-    while flat < elements {
-        let axis = copies::place_row(numbers, strides, Flat(flat), row);
-        if axis < copies::AXES {
-            return Search::Outside {
-                flat: Flat(flat),
-                axis,
-            };
-        }
-        flat += 1;
-    }
-    Search::NoneOutside
-}
-
-// Places the copies of one element and claims their cells: how many are newly occupied, none where a
-// cell has an owner already.
-fn claim_element(
-    numbers: &[u64; 48],
-    strides: &[i64; 24],
-    flat: Flat,
-    row: &mut [u32],
-    table: &mut [u32],
-) -> u64
-    requires { ⌜ Admits (now numbers) (now strides) ⌝ }
-    requires { ⌜ length (now row) ≡ copies (cardOf (now numbers) (now strides)) ⌝ }
-    requires { ⌜ Claimable (cardOf (now numbers) (now strides)) (flat .0) (now table) ⌝ }
-    ensures { λ r. ⌜ ElementClaim (cardOf (now (numbers .entry)) (now (strides .entry))) (flat .0) r (now (row .exit)) (now (table .entry)) (now (table .exit)) ⌝ }
-{
-    copies::place_row(numbers, strides, flat, row);
-    owners::claim_row(table, row, flat)
-}
-
-// Why an element's row can not be claimed; the cells are all nobody's after it.
-fn refuse_clash(table: &mut [u32], row: &[u32], flat: Flat) -> Refusal
-    requires { ⌜ Within (now row) (now table) ⌝ }
-    requires { ⌜ 0 < entryMet (now table) (now row) ⌝ }
-    ensures { λ r. ⌜ r ≡ clashOf (now (table .entry)) (now (row .entry)) flat ⌝ }
-    ensures { λ r. ⌜ now (table .exit) ≡ replicate (length (now (table .entry))) 0 ⌝ }
-{
-    let refusal = owners::find_clash(table, row, flat);
-    owners::clear(table);
-    refusal
-}
-
-// The second pass: claims the cells of every element in the cleared table, which has exactly the
-// cells. The first element that meets an owner is refused.
-fn claim_all(
-    numbers: &[u64; 48],
-    strides: &[i64; 24],
-    elements: u64,
-    row: &mut [u32],
-    table: &mut [u32],
-) -> Verdict
-    requires { ⌜ Pass (now numbers) (now strides) elements (now row) ⌝ }
-    requires { ⌜ AllInside (cardOf (now numbers) (now strides)) × (now table ≡ replicate (cells (cardOf (now numbers) (now strides))) 0) ⌝ }
-    ensures { λ r. ⌜ VerdictPromise (cardOf (now (numbers .entry)) (now (strides .entry))) (now (table .entry)) (now (table .exit)) r ⌝ }
-{
-    let mut occupied: u64 = 0;
-    let mut flat: u64 = 0;
-    while flat < elements {
-        let newly = claim_element(numbers, strides, Flat(flat), row, table);
-        if newly == 0 {
-            return Verdict::Refused(refuse_clash(table, row, Flat(flat)));
-        }
-        occupied += newly;
-        flat += 1;
-    }
-    Verdict::Approved {
-        elements,
-        occupied,
-        cells: table.len() as u64,
-    }
-}
-
-// Both passes, in a table of exactly the cells.
-fn judge_passes(
-    numbers: &[u64; 48],
-    strides: &[i64; 24],
-    elements: u64,
-    row: &mut [u32],
-    table: &mut [u32],
-) -> Verdict
-    requires { ⌜ Pass (now numbers) (now strides) elements (now row) ⌝ }
-    requires { ⌜ length (now table) ≡ cells (cardOf (now numbers) (now strides)) ⌝ }
-    ensures { λ r. ⌜ VerdictPromise (cardOf (now (numbers .entry)) (now (strides .entry))) (now (table .entry)) (now (table .exit)) r ⌝ }
-{
-    owners::clear(table);
-    let search = first_outside(numbers, strides, elements, row);
-    if let Search::Outside { flat, axis } = search {
-        return Verdict::Refused(Refusal::CopyOutside { flat, axis });
-    }
-    claim_all(numbers, strides, elements, row, table)
-}
+ghost use Rattle.verdict.specs.Contracts.{ReadAt};
 
 // The verdict on an admitted card in a table of exactly its cells, with one row for the copies of an
 // element.
@@ -135,7 +26,7 @@ fn judge_cells(numbers: &[u64; 48], strides: &[i64; 24], table: &mut [u32]) -> V
     let copies = numbers[card::COPIES] as usize;
     let elements = numbers[card::ELEMENTS];
     let mut row = [0u32; card::MOST_COPIES as usize];
-    judge_passes(numbers, strides, elements, &mut row[..copies], table)
+    passes::judge_passes(numbers, strides, elements, &mut row[..copies], table)
 }
 
 // The verdict on an admitted card: room for its cells, then the owners in them.

@@ -5,9 +5,9 @@ use mathlib.Core.Path.{_≡_, ap₂, _∙_}
 use mathlib.Core.List.{List, _++_, append-nil}
 use Prim.Native.Nat.{ℕ, _-_, _≤_}
 use lib.ListN.{length, drop, length-set, drop-of-length-le, set as store}
-use Rattle.mask.specs.Mask.{bytes}
-use Rattle.mask.proofs.Bytes.{bytes-store}
-use Rattle.mask.proofs.Counted.{wordBit, word-byte}
+use Rattle.pattern.specs.Pattern.{bytes}
+use Rattle.pattern.proofs.Bytes.{bytes-store}
+use Rattle.pattern.proofs.Counted.{wordBit, word-byte}
 use Rattle.mask.proofs.write_bytes.Statement.{statement}
 use Rattle.mask.proofs.write_bytes.Tie as tie
 
