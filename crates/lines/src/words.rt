@@ -33,29 +33,8 @@ fn is_named(line: &[u8; 4096], end: usize, name: &[u8]) -> bool {
     true
 }
 
-// The line's word, by its name.
-fn word_of(line: &[u8; 4096], end: usize) -> Word {
-    if is_named(line, end, b"swizzle") {
-        return Word::Swizzle;
-    }
-    if is_named(line, end, b"mode") {
-        return Word::Mode;
-    }
-    if is_named(line, end, b"fragment") {
-        return Word::Fragment;
-    }
-    if is_named(line, end, b"holder") {
-        return Word::Holder;
-    }
-    if is_named(line, end, b"fields") {
-        return Word::Fields;
-    }
-    if is_named(line, end, b"descriptor") {
-        return Word::Descriptor;
-    }
-    if is_named(line, end, b"mask") {
-        return Word::Mask;
-    }
+// The line's word, by its name: those of layouts,
+fn layout_word(line: &[u8; 4096], end: usize) -> Word {
     if is_named(line, end, b"place") {
         return Word::Place;
     }
@@ -69,6 +48,37 @@ fn word_of(line: &[u8; 4096], end: usize) -> Word {
         return Word::Stretch;
     }
     Word::Unknown
+}
+
+// those of masks,
+fn mask_word(line: &[u8; 4096], end: usize) -> Word {
+    if is_named(line, end, b"fields") {
+        return Word::Fields;
+    }
+    if is_named(line, end, b"descriptor") {
+        return Word::Descriptor;
+    }
+    if is_named(line, end, b"mask") {
+        return Word::Mask;
+    }
+    layout_word(line, end)
+}
+
+// and those of swizzles and fragments first.
+fn word_of(line: &[u8; 4096], end: usize) -> Word {
+    if is_named(line, end, b"swizzle") {
+        return Word::Swizzle;
+    }
+    if is_named(line, end, b"mode") {
+        return Word::Mode;
+    }
+    if is_named(line, end, b"fragment") {
+        return Word::Fragment;
+    }
+    if is_named(line, end, b"holder") {
+        return Word::Holder;
+    }
+    mask_word(line, end)
 }
 
 // How many numbers the question of a word has.
