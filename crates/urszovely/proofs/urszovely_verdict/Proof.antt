@@ -1,0 +1,19 @@
+-- `urszovely::urszovely_verdict` answers what the library's question answers, in its four numbers.
+use mathlib.Core.Path.{sym}
+use borrow.Author.Needs.{needs}
+use Rattle.urszovely.proofs.urszovely_verdict.Statement.{statement}
+use Rattle.urszovely.proofs.urszovely_verdict.Tie as tie
+
+returns : tie.Need-returns
+returns c =
+    let n = c .before in
+    let j = n .before .before .before in
+    let k = j .before .before in
+    record {
+      verdict = j .judge .result;
+      allowed = rw (sym (k .card .ensures)) (j .judge .ensures);
+      numbers = rw (c .four .ensures, n .verdict-numbers .ensures);
+    }
+
+pub urszovely-verdict-spec : {M : Type 1} → statement M
+urszovely-verdict-spec = tie.close (tie.spec (λ c κs. search needs) (λ c κs. search needs) (λ c κs. search needs) (λ c κs. search needs) (λ c. search needs) returns)

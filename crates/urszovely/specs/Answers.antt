@@ -1,0 +1,33 @@
+-- What the exported questions promise where the library's promise is a record: some answer that the library allows, in its numbers.
+use Prim.Native.Nat.{ℕ}
+use mathlib.Core.Path.{_≡_}
+use mathlib.Core.List.{List}
+use Rattle.fragment.specs.Fragment.{HolderAnswer, holderNumbers}
+use Rattle.fragment.specs.declared.Place.{Place}
+use Rattle.fragment.specs.declared.Holder.{Holder}
+use Rattle.placement.specs.Placement.{Placing, placementNumbers}
+use Rattle.placement.specs.declared.Placement.{Placement}
+use Rattle.judgement.specs.Verdict.{VerdictPromise, OwnerPromise, verdictNumbers, ownerNumbers}
+use Rattle.judgement.specs.declared.Verdict.{Verdict}
+use Rattle.judgement.specs.declared.Owner.{Owner}
+use Rattle.plain.specs.Plain.{cardFrom, tupleFrom, four}
+
+pub record AsHolder (kind : ℕ) (place : Place) (answer : List ℕ) : Type 0 where
+  pub holder : Holder
+  pub allowed : HolderAnswer kind place holder
+  pub numbers : answer ≡ four (holderNumbers holder)
+
+pub record AsPlacement (card shape coordinates before after answer : List ℕ) : Type 0 where
+  pub placement : Placement
+  pub allowed : Placing (cardFrom card) (tupleFrom shape) (tupleFrom coordinates) before after placement
+  pub numbers : answer ≡ four (placementNumbers placement)
+
+pub record AsVerdict (card before after answer : List ℕ) : Type 0 where
+  pub verdict : Verdict
+  pub allowed : VerdictPromise (cardFrom card) before after verdict
+  pub numbers : answer ≡ four (verdictNumbers verdict)
+
+pub record AsOwner (card coordinates before after answer : List ℕ) : Type 0 where
+  pub owner : Owner
+  pub allowed : OwnerPromise (cardFrom card) coordinates before after owner
+  pub numbers : answer ≡ four (ownerNumbers owner)

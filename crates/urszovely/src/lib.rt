@@ -1,0 +1,173 @@
+// Every question for C: numbers in arrays, an answer as four numbers, lent memory as a pointer and a length. include/urszovely.h
+// declares them.
+ghost use mathlib.Core.Path.{_≡_};
+ghost use lib.ListN.{length};
+ghost use Rattle.swizzle.specs.Swizzle.{swizzleAnswer, swizzleNumbers};
+ghost use Rattle.swizzle.specs.Mode.{modeAnswer, modeNumbers};
+ghost use Rattle.fragment.specs.Fragment.{heldAnswer, heldNumbers};
+ghost use Rattle.descriptor.specs.Descriptor.{readAnswer, readNumbers, writeAnswer, writeNumbers, shiftLimit};
+ghost use Rattle.mask.specs.Mask.{maskAnswer, maskMemory, maskNumbers};
+ghost use Rattle.card.specs.Admission.{admissionNumbers};
+ghost use Rattle.idle.specs.Admission.{fullAdmission};
+ghost use Rattle.stretch.specs.Stretch.{stretchAnswer, stretchNumbers};
+ghost use Rattle.plain.specs.Plain.{cardFrom, fieldsFrom, bytesOf, four};
+ghost use Rattle.urszovely.specs.Answers.{AsHolder, AsPlacement, AsVerdict, AsOwner};
+
+// The swizzle of an address.
+#[no_mangle]
+pub extern "C" fn urszovely_swizzle(m: u64, b: u64, s: u64, address: u64, answer: &mut [u64; 4])
+    ensures { λ r. ⌜ now (answer .exit) ≡ four (swizzleNumbers (swizzleAnswer m b s address)) ⌝ }
+{
+    let swizzled = swizzle::swizzle_address(m, b, s, address);
+    let numbers = swizzle::swizzle_numbers(swizzled);
+    *answer = plain::four(numbers);
+}
+
+// M, B, S from element bits and mode.
+#[no_mangle]
+pub extern "C" fn urszovely_mode(bits: u64, mode: u64, answer: &mut [u64; 4])
+    ensures { λ r. ⌜ now (answer .exit) ≡ four (modeNumbers (modeAnswer bits mode)) ⌝ }
+{
+    let chosen = swizzle::swizzle_of_mode(bits, mode);
+    let numbers = swizzle::mode_numbers(chosen);
+    *answer = plain::four(numbers);
+}
+
+// What a register of a warp's lane holds.
+#[no_mangle]
+pub extern "C" fn urszovely_fragment(kind: u64, lane: u64, register: u64, answer: &mut [u64; 4])
+    ensures { λ r. ⌜ now (answer .exit) ≡ four (heldNumbers (heldAnswer kind lane register)) ⌝ }
+{
+    let held = fragment::held_by(kind, lane, register);
+    let numbers = fragment::held_numbers(held);
+    *answer = plain::four(numbers);
+}
+
+// Which register holds a place.
+#[no_mangle]
+pub extern "C" fn urszovely_holder(
+    kind: u64,
+    computation: u64,
+    row: u64,
+    column: u64,
+    answer: &mut [u64; 4],
+)
+    ensures { λ r. ⌜ AsHolder kind (record { computation = computation; row = row; column = column }) (now (answer .exit)) ⌝ }
+{
+    let holder = fragment::holder_of(kind, computation, row, column);
+    let numbers = fragment::holder_numbers(holder);
+    *answer = plain::four(numbers);
+}
+
+// The fields of a descriptor, read.
+#[no_mangle]
+pub extern "C" fn urszovely_fields(descriptor: u64, fields: &mut [u8; 12], answer: &mut [u64; 4])
+    ensures { λ r. ⌜ now (answer .exit) ≡ four (readNumbers (readAnswer descriptor .answer)) ⌝ }
+    ensures { λ r. ⌜ now (fields .exit) ≡ bytesOf (readAnswer descriptor .fields) ⌝ }
+{
+    let reading = descriptor::read_descriptor(descriptor);
+    let read = reading.fields;
+    *fields = plain::field_bytes(read);
+    let told = reading.answer;
+    let numbers = descriptor::read_numbers(told);
+    *answer = plain::four(numbers);
+}
+
+// And written.
+#[no_mangle]
+pub extern "C" fn urszovely_descriptor(fields: &[u8; 11], shift: u64, answer: &mut [u64; 4])
+    ensures { λ r. ⌜ now (answer .exit) ≡ four (writeNumbers (writeAnswer shiftLimit (fieldsFrom (now (fields .entry)) shift))) ⌝ }
+{
+    let written = descriptor::write_descriptor(plain::fields(fields, shift));
+    let numbers = descriptor::write_numbers(written);
+    *answer = plain::four(numbers);
+}
+
+// The zero-column mask.
+#[no_mangle]
+pub extern "C" fn urszovely_mask(
+    m: u64,
+    n: u64,
+    descriptor: u64,
+    mask: &mut [u8],
+    answer: &mut [u64; 4],
+)
+    ensures { λ r. ⌜ now (answer .exit) ≡ four (maskNumbers (maskAnswer shiftLimit m n descriptor (length (now (mask .entry))))) ⌝ }
+    ensures { λ r. ⌜ now (mask .exit) ≡ maskMemory (maskAnswer shiftLimit m n descriptor (length (now (mask .entry)))) m n descriptor (now (mask .entry)) ⌝ }
+{
+    let generated = mask::generate_mask(m, n, descriptor, mask);
+    let numbers = mask::mask_numbers(generated);
+    *answer = plain::four(numbers);
+}
+
+// A card's own checks: 1 to 6, then 17.
+#[no_mangle]
+pub extern "C" fn urszovely_admit(card: &[u64; 57], answer: &mut [u64; 4])
+    ensures { λ r. ⌜ now (answer .exit) ≡ four (admissionNumbers (fullAdmission (cardFrom (now (card .entry))))) ⌝ }
+{
+    let admission = idle::admit(plain::card(card));
+    let numbers = admission::admission_numbers(admission);
+    *answer = plain::four(numbers);
+}
+
+// The placement of one element.
+#[no_mangle]
+pub extern "C" fn urszovely_place(
+    card: &[u64; 57],
+    shape: &[u64; 9],
+    coordinates: &[u64; 9],
+    memory: &mut [u32],
+    answer: &mut [u64; 4],
+)
+    ensures { λ r. ⌜ AsPlacement (now (card .entry)) (now (shape .entry)) (now (coordinates .entry)) (now (memory .entry)) (now (memory .exit)) (now (answer .exit)) ⌝ }
+{
+    let placement = placement::place(
+        plain::card(card),
+        plain::tuple(shape),
+        plain::tuple(coordinates),
+        memory,
+    );
+    let numbers = placement::placement_numbers(placement);
+    *answer = plain::four(numbers);
+}
+
+// The verdict.
+#[no_mangle]
+pub extern "C" fn urszovely_verdict(card: &[u64; 57], table: &mut [u32], answer: &mut [u64; 4])
+    ensures { λ r. ⌜ AsVerdict (now (card .entry)) (now (table .entry)) (now (table .exit)) (now (answer .exit)) ⌝ }
+{
+    let verdict = verdict::judge(plain::card(card), table);
+    let numbers = judgement::verdict_numbers(verdict);
+    *answer = plain::four(numbers);
+}
+
+// The owner of a cell.
+#[no_mangle]
+pub extern "C" fn urszovely_owner(
+    card: &[u64; 57],
+    coordinates: &[u64; 8],
+    table: &mut [u32],
+    answer: &mut [u64; 4],
+)
+    ensures { λ r. ⌜ AsOwner (now (card .entry)) (now (coordinates .entry)) (now (table .entry)) (now (table .exit)) (now (answer .exit)) ⌝ }
+{
+    let owner = verdict::owner_of(plain::card(card), *coordinates, table);
+    let numbers = judgement::owner_numbers(owner);
+    *answer = plain::four(numbers);
+}
+
+// Where a stretch of a table lies: its first cell and its length.
+#[no_mangle]
+pub extern "C" fn urszovely_stretch(
+    table: &[u32],
+    lengths: &[u64; 8],
+    axis: u64,
+    coordinates: &[u64; 8],
+    answer: &mut [u64; 4],
+)
+    ensures { λ r. ⌜ now (answer .exit) ≡ four (stretchNumbers (stretchAnswer (now (lengths .entry)) axis (now (coordinates .entry)) (length (now (table .entry))))) ⌝ }
+{
+    let located = stretch::locate_stretch(table, *lengths, axis, *coordinates);
+    let numbers = stretch::stretch_numbers(located);
+    *answer = plain::four(numbers);
+}

@@ -1,0 +1,113 @@
+/* urszovely.h: tile layouts, swizzles, warp fragments and zero-column masks, answered by a proved library. C99 and C++.
+ *
+ * Every question takes any numbers and answers four: answer[0] is 0 or the number of a refusal, answer[1] to answer[3] are its
+ * details, 0 unless said. Pointers are valid, not NULL and do not overlap; nothing else is asked of a caller. A refusal touches no
+ * lent memory, but 7 and 8 of verdict and owner leave the first `cells` entries of the table 0.
+ *
+ * A card is 57 numbers: the shard count; eight times extent, stride, axis; the replica count; four times extent, stride, axis;
+ * eight offsets and eight lengths, pid to m; M, B, S. Strides and offsets are in two's complement: (uint64_t)(int64_t)-1. */
+#ifndef URSZOVELY_H
+#define URSZOVELY_H
+
+#include <stddef.h>
+#include <stdint.h>
+
+#ifdef __cplusplus
+extern "C" {
+#endif
+
+enum { URSZOVELY_CARD = 57 };
+
+enum urszovely_refusal {
+    URSZOVELY_APPROVED = 0,
+    URSZOVELY_COUNTS = 1,      /* shard or replica iter count outside limits */
+    URSZOVELY_LIMITS = 2,      /* an extent, stride or offset outside limits */
+    URSZOVELY_AXIS = 3,        /* an axis above 7 */
+    URSZOVELY_SPACE = 4,       /* a length outside limits, or too many cells */
+    URSZOVELY_TOO_MANY = 5,    /* too many elements or copies */
+    URSZOVELY_SWIZZLE = 6,     /* swizzle numbers, bits or mode not allowed */
+    URSZOVELY_OUTSIDE = 7,     /* a copy lies outside the space: flat, axis */
+    URSZOVELY_SHARED = 8,      /* two elements share a cell: x, y, cell */
+    URSZOVELY_SHAPE = 9,       /* shape not admitted */
+    URSZOVELY_COORDINATE = 10, /* a coordinate outside its dimension */
+    URSZOVELY_TOO_SHORT = 11,  /* lent memory too short: the length needed */
+    URSZOVELY_CELL = 12,       /* asked cell coordinate outside the space: axis */
+    URSZOVELY_MASK_SIZE = 13,  /* mask M or N not allowed */
+    URSZOVELY_FRAGMENT = 14,   /* unknown fragment kind, or a number outside it */
+    URSZOVELY_RESERVED = 15,   /* reserved descriptor bits set */
+    URSZOVELY_SHIFT = 16,      /* mask shift above its limit: the limit */
+    URSZOVELY_IDLE = 17        /* two replica combinations give the same sum on every axis: a, b */
+};
+
+/* The swizzle M, B, S of an address: 0 with the new address, or 6. */
+void urszovely_swizzle(uint64_t m, uint64_t b, uint64_t s, uint64_t address, uint64_t answer[4]);
+
+/* M, B, S from element bits and mode: 0 with M, B, S, or 6. */
+void urszovely_mode(uint64_t bits, uint64_t mode, uint64_t answer[4]);
+
+/* What a register of a warp's lane holds: 0 with computation, row, column, or 14. */
+void urszovely_fragment(uint64_t kind, uint64_t lane, uint64_t reg, uint64_t answer[4]);
+
+/* Which register holds a place: 0 with lane and register, or 14. */
+void urszovely_holder(uint64_t kind, uint64_t computation, uint64_t row, uint64_t column, uint64_t answer[4]);
+
+/* The fields of a descriptor, read: 0, or 15 with all fields 0. Four start counts, four first spans, the non-zero mask, the skip span,
+ * the use span, the shift. */
+void urszovely_fields(uint64_t descriptor, uint8_t fields[12], uint64_t answer[4]);
+
+/* And written: 0 with the descriptor, or 16 with the limit. The fields in the same order without the shift; of the five one-bit
+ * fields anything but 0 is a yes. */
+void urszovely_descriptor(const uint8_t fields[11], uint64_t shift, uint64_t answer[4]);
+
+/* The zero-column mask for M, N and a descriptor in N / 8 lent bytes: 0 with zeroed columns and first used column, bytes past the mask
+ * stay; or 13, 15, 16 with the limit, 11 with N / 8. */
+void urszovely_mask(uint64_t m, uint64_t n, uint64_t descriptor, uint8_t *mask, size_t length, uint64_t answer[4]);
+
+/* A card's own checks: 0, or 1 to 6, then 17 with the two combinations. */
+void urszovely_admit(const uint64_t card[57], uint64_t answer[4]);
+
+/* The cells of the copies of one element: 0 with the copies, entries past them stay; or 1 to 6, 17, 9, 10, 11 with the copies, 7. A shape,
+ * like coordinates, is a count and eight numbers. */
+void urszovely_place(const uint64_t card[57], const uint64_t shape[9], const uint64_t coordinates[9], uint32_t *memory, size_t length, uint64_t answer[4]);
+
+/* The verdict: 0 with elements, occupied cells, cells, and in the table each cell's owner plus 1, or 0 for nobody, entries past the cells
+ * stay; or 1 to 6, 17, 11 with the cells, 7, 8. */
+void urszovely_verdict(const uint64_t card[57], uint32_t *table, size_t length, uint64_t answer[4]);
+
+/* The owner of the cell that eight coordinates name: 0 with the entry, the table filled alike; or 1 to 6, 17, 12, 11, 7, 8. */
+void urszovely_owner(const uint64_t card[57], const uint64_t coordinates[8], uint32_t *table, size_t length, uint64_t answer[4]);
+
+/* The cells of a table under the coordinates of all axes up to one: 0 with the first cell and how many; or 3, 4, 12, 11. */
+void urszovely_stretch(const uint32_t *table, size_t length, const uint64_t lengths[8], uint64_t axis, const uint64_t coordinates[8], uint64_t answer[4]);
+
+/* A refusal's number in words. */
+static inline const char *urszovely_refusal_text(uint64_t number)
+{
+    switch (number) {
+    case 0: return "approved";
+    case 1: return "shard or replica iter count outside limits";
+    case 2: return "an extent, stride or offset outside limits";
+    case 3: return "an axis above 7";
+    case 4: return "a length outside limits, or too many cells";
+    case 5: return "too many elements or copies";
+    case 6: return "swizzle numbers, bits or mode not allowed";
+    case 7: return "a copy lies outside the space";
+    case 8: return "two elements share a cell";
+    case 9: return "shape not admitted";
+    case 10: return "a coordinate outside its dimension";
+    case 11: return "lent memory too short";
+    case 12: return "asked cell coordinate outside the space";
+    case 13: return "mask M or N not allowed";
+    case 14: return "unknown fragment kind, or a number outside it";
+    case 15: return "reserved descriptor bits set";
+    case 16: return "mask shift above its limit";
+    case 17: return "two replica combinations give the same sum on every axis";
+    default: return "no refusal";
+    }
+}
+
+#ifdef __cplusplus
+}
+#endif
+
+#endif
