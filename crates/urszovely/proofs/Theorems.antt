@@ -1,0 +1,38 @@
+-- Two outcomes that a promise to C allows are equal, memory and all four numbers: the library's own answer is settled.
+use Prim.Native.Nat.{ℕ}
+use mathlib.Core.Path.{_≡_, sym, ap, _∙_}
+use mathlib.Core.List.{List}
+use Rattle.fragment.specs.Fragment.{holderNumbers}
+use Rattle.fragment.specs.declared.Place.{Place}
+use Rattle.fragment.specs.declared.Holder.{Holder}
+use Rattle.fragment.proofs.Theorems.{holder-settled}
+use Rattle.placement.specs.Placement.{placementNumbers}
+use Rattle.placement.specs.declared.Placement.{Placement}
+use Rattle.placement.proofs.Theorems.{placement-settled}
+use Rattle.judgement.specs.Verdict.{verdictNumbers, ownerNumbers}
+use Rattle.judgement.specs.declared.Verdict.{Verdict}
+use Rattle.judgement.specs.declared.Owner.{Owner}
+use Rattle.judgement.proofs.Theorems.{verdict-settled, owner-settled}
+use Rattle.plain.specs.Plain.{cardFrom, tupleFrom, four}
+use Rattle.urszovely.specs.Answers.{AsHolder, AsPlacement, AsVerdict, AsOwner}
+
+pub as-holder-settled : (kind : ℕ) (place : Place) (x y : List ℕ) → AsHolder kind place x → AsHolder kind place y → x ≡ y
+as-holder-settled kind place x y h k =
+    h .numbers ∙ ap (λ (r : Holder). four (holderNumbers r)) (holder-settled kind place (h .holder) (k .holder) (h .allowed) (k .allowed)) ∙ sym (k .numbers)
+
+pub as-placement-settled : (card shape coordinates before a b x y : List ℕ) → AsPlacement card shape coordinates before a x
+    → AsPlacement card shape coordinates before b y → (a ≡ b) × (x ≡ y)
+as-placement-settled card shape coordinates before a b x y h k =
+    let same = placement-settled (cardFrom card) (tupleFrom shape) (tupleFrom coordinates) before a b (h .placement) (k .placement) (h .allowed) (k .allowed) in
+    (same .1, h .numbers ∙ ap (λ (p : Placement). four (placementNumbers p)) (same .0) ∙ sym (k .numbers))
+
+pub as-verdict-settled : (card before a b x y : List ℕ) → AsVerdict card before a x → AsVerdict card before b y → (a ≡ b) × (x ≡ y)
+as-verdict-settled card before a b x y h k =
+    let same = verdict-settled (cardFrom card) before a b (h .verdict) (k .verdict) (h .allowed) (k .allowed) in
+    (same .0, h .numbers ∙ ap (λ (v : Verdict). four (verdictNumbers v)) (same .1) ∙ sym (k .numbers))
+
+pub as-owner-settled : (card coordinates before a b x y : List ℕ) → AsOwner card coordinates before a x → AsOwner card coordinates before b y
+    → (a ≡ b) × (x ≡ y)
+as-owner-settled card coordinates before a b x y h k =
+    let same = owner-settled (cardFrom card) coordinates before a b (h .owner) (k .owner) (h .allowed) (k .allowed) in
+    (same .0, h .numbers ∙ ap (λ (v : Owner). four (ownerNumbers v)) (same .1) ∙ sym (k .numbers))
