@@ -1,0 +1,279 @@
+/* The lines of docs/PROTOCOL.md answered through urszovely.h: the same questions, limits and answers as the program desk. Of the C library
+ * it takes read and write alone. */
+#include "urszovely.h"
+
+long read(int file, void *bytes, size_t length);
+long write(int file, const void *bytes, size_t length);
+
+/* the program's own limits; another program over this file may lend longer tables */
+enum { CARD = URSZOVELY_CARD, MOST_LINE = 4096, MOST_NUMBERS = 80, MOST_LENT = 64 };
+#ifndef MOST_TABLE
+#define MOST_TABLE 16384
+#endif
+
+/* input and output: what is finished is written out before the next read */
+static char in[65536], out[131072];
+static size_t in_at, in_end, out_end;
+
+static int flush(void)
+{
+    size_t at = 0;
+    while (at < out_end) {
+        long n = write(1, out + at, out_end - at);
+        if (n <= 0) return 0;
+        at += (size_t)n;
+    }
+    out_end = 0;
+    return 1;
+}
+
+/* the next byte, or -1 at the end of the input */
+static int next(void)
+{
+    if (in_at == in_end) {
+        if (!flush()) return -1;
+        long n = read(0, in, sizeof in);
+        if (n <= 0) return -1;
+        in_at = 0;
+        in_end = (size_t)n;
+    }
+    return (unsigned char)in[in_at++];
+}
+
+static void put(char c) { out[out_end++] = c; }
+
+static void put_text(const char *text)
+{
+    while (*text) put(*text++);
+}
+
+static void put_number(uint64_t n)
+{
+    char digits[20];
+    int count = 0;
+    do digits[count++] = (char)('0' + n % 10);
+    while (n /= 10);
+    while (count) put(digits[--count]);
+}
+
+/* a line's word and numbers; signs[i] says whether a minus stood before number i */
+static char line[MOST_LINE];
+static size_t line_length;
+static const char *word;
+static size_t word_length;
+static uint64_t numbers[MOST_NUMBERS];
+static int signs[MOST_NUMBERS];
+static int count;
+
+static int parse_number(size_t *at)
+{
+    size_t from = *at, digits;
+    uint64_t n = 0;
+    int minus = from < line_length && line[from] == '-';
+    if (minus) from++;
+    for (digits = 0; from + digits < line_length && line[from + digits] >= '0' && line[from + digits] <= '9'; digits++) {
+        uint64_t digit = (uint64_t)(line[from + digits] - '0');
+        if (digits == 20 || n > (UINT64_MAX - digit) / 10) return 0;
+        n = n * 10 + digit;
+    }
+    if (!digits || (digits > 1 && line[from] == '0')) return 0;
+    if (minus && (!n || n > (uint64_t)1 << 63)) return 0;
+    if (count == MOST_NUMBERS) return 0;
+    numbers[count] = n;
+    signs[count++] = minus;
+    *at = from + digits;
+    return 1;
+}
+
+static int parse(void)
+{
+    size_t at = 0;
+    while (at < line_length && line[at] != ' ') at++;
+    word = line;
+    word_length = at;
+    count = 0;
+    while (at < line_length) {
+        at++;
+        if (!parse_number(&at) || (at < line_length && line[at] != ' ')) return 0;
+    }
+    return 1;
+}
+
+static int is(const char *name)
+{
+    size_t i;
+    for (i = 0; i < word_length; i++)
+        if (!name[i] || name[i] != word[i]) return 0;
+    return !name[i];
+}
+
+/* whether number i of a card is a stride or an offset */
+static int is_signed(int i)
+{
+    int stride = (i >= 1 && i < 25 && i % 3 == 2) || (i >= 26 && i < 38 && i % 3 == 0);
+    return stride || (i >= 38 && i < 46);
+}
+
+/* so many numbers, a minus only before a stride or an offset of a card that begins the line */
+static int fits(int wanted, int with_card)
+{
+    int i;
+    if (count != wanted) return 0;
+    for (i = 0; i < count; i++)
+        if (signs[i] && !(with_card && is_signed(i))) return 0;
+    return 1;
+}
+
+/* the card: strides and offsets in two's complement, from 2^63 on without a minus the largest */
+static uint64_t card[CARD];
+
+static void take_card(void)
+{
+    int i;
+    for (i = 0; i < CARD; i++) {
+        card[i] = signs[i] ? 0 - numbers[i] : numbers[i];
+        if (is_signed(i) && !signs[i] && numbers[i] >> 63) card[i] = UINT64_MAX >> 1;
+    }
+}
+
+static uint32_t table[MOST_TABLE];
+static uint8_t bytes[MOST_LENT];
+static uint64_t answer[4];
+
+static void lend(uint64_t length)
+{
+    uint64_t i;
+    for (i = 0; i < length; i++) table[i] = (uint32_t)(1000000 + i);
+}
+
+static uint64_t digest(const uint32_t *entries, uint64_t length)
+{
+    uint64_t i, sum = 0;
+    for (i = 0; i < length; i++) sum = (sum + (i + 1) * entries[i]) % 4294967291u;
+    return sum;
+}
+
+static void put_answer(void)
+{
+    int i;
+    for (i = 0; i < 4; i++) {
+        if (i) put(' ');
+        put_number(answer[i]);
+    }
+}
+
+static void put_value(uint64_t n)
+{
+    put(' ');
+    put_number(n);
+}
+
+/* the words */
+static int layout(void)
+{
+    uint64_t length = count ? numbers[count - 1] : 0, i;
+    if (is("verdict") || is("owner")) {
+        if (!fits(is("verdict") ? CARD + 1 : CARD + 9, 1) || length > MOST_TABLE) return 0;
+        take_card();
+        lend(length);
+        if (is("verdict")) urszovely_verdict(card, table, (size_t)length, answer);
+        else urszovely_owner(card, numbers + CARD, table, (size_t)length, answer);
+        put_answer();
+        put_text(" |");
+        put_value(digest(table, length));
+        return 1;
+    }
+    if (is("place")) {
+        if (!fits(CARD + 19, 1) || length > MOST_LENT) return 0;
+        take_card();
+        lend(length);
+        urszovely_place(card, numbers + CARD, numbers + CARD + 9, table, (size_t)length, answer);
+        put_answer();
+        put_text(" |");
+        for (i = 0; i < length; i++) put_value(table[i]);
+        return 1;
+    }
+    if (!fits(18, 0) || length > MOST_TABLE) return 0;
+    lend(length);
+    urszovely_stretch(table, (size_t)length, numbers, numbers[8], numbers + 9, answer);
+    put_answer();
+    put_text(" |");
+    put_value(answer[0] ? 0 : digest(table + answer[1], answer[2]));
+    return 1;
+}
+
+static int mask(void)
+{
+    uint64_t length, i;
+    if (!fits(4, 0) || numbers[3] > MOST_LENT) return 0;
+    length = numbers[3];
+    for (i = 0; i < length; i++) bytes[i] = 165;
+    urszovely_mask(numbers[0], numbers[1], numbers[2], bytes, (size_t)length, answer);
+    put_answer();
+    put_text(" |");
+    for (i = 0; i < length; i++) put_value(bytes[i]);
+    return 1;
+}
+
+static int fields(void)
+{
+    int i;
+    if (!fits(1, 0)) return 0;
+    urszovely_fields(numbers[0], bytes, answer);
+    put_answer();
+    put_text(" |");
+    for (i = 0; i < 12; i++) put_value(bytes[i]);
+    return 1;
+}
+
+static int descriptor(void)
+{
+    int i;
+    if (!fits(12, 0)) return 0;
+    for (i = 0; i < 11; i++) {
+        if (numbers[i] > (i >= 4 && i < 9 ? 1u : 255u)) return 0;
+        bytes[i] = (uint8_t)numbers[i];
+    }
+    urszovely_descriptor(bytes, numbers[11], answer);
+    put_answer();
+    return 1;
+}
+
+static int plain(void)
+{
+    if (is("swizzle") && fits(4, 0)) urszovely_swizzle(numbers[0], numbers[1], numbers[2], numbers[3], answer);
+    else if (is("mode") && fits(2, 0)) urszovely_mode(numbers[0], numbers[1], answer);
+    else if (is("fragment") && fits(3, 0)) urszovely_fragment(numbers[0], numbers[1], numbers[2], answer);
+    else if (is("holder") && fits(4, 0)) urszovely_holder(numbers[0], numbers[1], numbers[2], numbers[3], answer);
+    else return 0;
+    put_answer();
+    return 1;
+}
+
+static int ask(void)
+{
+    if (!parse()) return 0;
+    if (is("verdict") || is("owner") || is("place") || is("stretch")) return layout();
+    if (is("mask")) return mask();
+    if (is("fields")) return fields();
+    if (is("descriptor")) return descriptor();
+    return plain();
+}
+
+int main(void)
+{
+    int c = 0;
+    while (c != -1) {
+        size_t length = 0;
+        while ((c = next()) != -1 && c != '\n') {
+            if (length < MOST_LINE) line[length] = (char)c;
+            length++;
+        }
+        if (!length) continue;
+        line_length = length;
+        if (length > MOST_LINE || !ask()) put('?');
+        put('\n');
+        if (out_end > sizeof out - MOST_LINE && !flush()) return 1;
+    }
+    return !flush();
+}

@@ -1,0 +1,203 @@
+/* The client with every question asked twice through fenced memory: each array and slice lies once right after an inaccessible page and
+ * once right before one, what is only read is write-protected, and the answer begins as two patterns. A touch outside ends the run, and so
+ * does a difference between the two. It lends tables up to the library's own limit. */
+#include "urszovely.h"
+
+void *mmap(void *at, size_t length, int access, int kind, int file, long offset);
+int mprotect(void *at, size_t length, int access);
+void *memcpy(void *to, const void *from, size_t length);
+void *memset(void *to, int byte, size_t length);
+int memcmp(const void *one, const void *other, size_t length);
+long write(int file, const void *bytes, size_t length);
+void _exit(int status) __attribute__((noreturn));
+
+enum { READ = 1, READ_WRITE = 3, PRIVATE_ANONYMOUS = 0x22 };
+enum { EDGE = 65536, ROOM = 262144, SLOT = EDGE + ROOM + EDGE };
+enum { FIRST, SECOND, THIRD, LENT, ANSWER, SLOTS };
+
+static void stop(const char *why)
+{
+    size_t length = 0;
+    while (why[length]) length++;
+    write(2, "driver: ", 8);
+    write(2, why, length);
+    write(2, "\n", 1);
+    _exit(1);
+}
+
+static uint8_t *fenced[2];
+
+/* a slot of memory on one side of the fences: side 0 right after an inaccessible page, side 1 right before one */
+static uint8_t *slot(int which, int side, size_t size)
+{
+    uint8_t *room = fenced[side] + (size_t)which * SLOT + EDGE;
+    if (size > ROOM) stop("a buffer larger than its room");
+    return side ? room + ROOM - size : room;
+}
+
+static void access_to(int which, int side, int access)
+{
+    if (mprotect(fenced[side] + (size_t)which * SLOT + EDGE, ROOM, access)) stop("no mprotect");
+}
+
+static void fence(void)
+{
+    int side, which;
+    for (side = 0; side < 2; side++) {
+        fenced[side] = mmap(0, (size_t)SLOTS * SLOT, 0, PRIVATE_ANONYMOUS, -1, 0);
+        if (fenced[side] == (void *)-1) stop("no mmap");
+        for (which = 0; which < SLOTS; which++) access_to(which, side, READ_WRITE);
+    }
+}
+
+/* what is only read */
+static const void *given(int which, int side, const void *bytes, size_t size)
+{
+    uint8_t *at = slot(which, side, size);
+    access_to(which, side, READ_WRITE);
+    memcpy(at, bytes, size);
+    access_to(which, side, READ);
+    return at;
+}
+
+/* what may be written, as the caller has it */
+static void *lent(int side, const void *bytes, size_t size) { return memcpy(slot(LENT, side, size), bytes, size); }
+
+/* the four numbers, unlike on the two sides so that one left unwritten shows */
+static uint64_t *blank(int side) { return memset(slot(ANSWER, side, 32), side ? 0x5a : 0xa5, 32); }
+
+/* both sides left the same, which the caller gets */
+static void settle(int which, void *bytes, size_t size)
+{
+    if (memcmp(slot(which, 0, size), slot(which, 1, size), size)) stop("two answers to one question");
+    memcpy(bytes, slot(which, 0, size), size);
+}
+
+static void guarded_swizzle(uint64_t m, uint64_t b, uint64_t s, uint64_t address, uint64_t *answer)
+{
+    int side;
+    for (side = 0; side < 2; side++) urszovely_swizzle(m, b, s, address, blank(side));
+    settle(ANSWER, answer, 32);
+}
+
+static void guarded_mode(uint64_t bits, uint64_t mode, uint64_t *answer)
+{
+    int side;
+    for (side = 0; side < 2; side++) urszovely_mode(bits, mode, blank(side));
+    settle(ANSWER, answer, 32);
+}
+
+static void guarded_fragment(uint64_t kind, uint64_t lane, uint64_t reg, uint64_t *answer)
+{
+    int side;
+    for (side = 0; side < 2; side++) urszovely_fragment(kind, lane, reg, blank(side));
+    settle(ANSWER, answer, 32);
+}
+
+static void guarded_holder(uint64_t kind, uint64_t computation, uint64_t row, uint64_t column, uint64_t *answer)
+{
+    int side;
+    for (side = 0; side < 2; side++) urszovely_holder(kind, computation, row, column, blank(side));
+    settle(ANSWER, answer, 32);
+}
+
+static void guarded_fields(uint64_t descriptor, uint8_t *fields, uint64_t *answer)
+{
+    int side;
+    for (side = 0; side < 2; side++) urszovely_fields(descriptor, memset(slot(LENT, side, 12), side ? 0x5a : 0xa5, 12), blank(side));
+    settle(LENT, fields, 12);
+    settle(ANSWER, answer, 32);
+}
+
+/* on the second side a yes is 2 or 255 */
+static void guarded_descriptor(const uint8_t *fields, uint64_t shift, uint64_t *answer)
+{
+    uint8_t other[11];
+    int i;
+    memcpy(other, fields, 11);
+    for (i = 4; i < 9; i++)
+        if (other[i]) other[i] = i % 2 ? 2 : 255;
+    urszovely_descriptor(given(FIRST, 0, fields, 11), shift, blank(0));
+    urszovely_descriptor(given(FIRST, 1, other, 11), shift, blank(1));
+    settle(ANSWER, answer, 32);
+}
+
+static void guarded_mask(uint64_t m, uint64_t n, uint64_t descriptor, uint8_t *mask, size_t length, uint64_t *answer)
+{
+    int side;
+    for (side = 0; side < 2; side++) urszovely_mask(m, n, descriptor, lent(side, mask, length), length, blank(side));
+    settle(LENT, mask, length);
+    settle(ANSWER, answer, 32);
+}
+
+/* the card's own checks come first in each of the three questions below, so they agree with admit */
+static void admitted(const uint64_t *card, const uint64_t *answer)
+{
+    uint64_t own[4];
+    int side, check = (answer[0] >= 1 && answer[0] <= 6) || answer[0] == 17;
+    for (side = 0; side < 2; side++) urszovely_admit(given(FIRST, side, card, 57 * 8), blank(side));
+    settle(ANSWER, own, 32);
+    if (check ? memcmp(own, answer, 32) != 0 : own[0] || own[1] || own[2] || own[3]) stop("admit has another answer");
+}
+
+static void guarded_place(const uint64_t *card, const uint64_t *shape, const uint64_t *coordinates, uint32_t *memory, size_t length, uint64_t *answer)
+{
+    int side;
+    for (side = 0; side < 2; side++)
+        urszovely_place(given(FIRST, side, card, 57 * 8), given(SECOND, side, shape, 72), given(THIRD, side, coordinates, 72),
+                        lent(side, memory, 4 * length), length, blank(side));
+    settle(LENT, memory, 4 * length);
+    settle(ANSWER, answer, 32);
+    admitted(card, answer);
+}
+
+static void guarded_verdict(const uint64_t *card, uint32_t *table, size_t length, uint64_t *answer)
+{
+    int side;
+    for (side = 0; side < 2; side++)
+        urszovely_verdict(given(FIRST, side, card, 57 * 8), lent(side, table, 4 * length), length, blank(side));
+    settle(LENT, table, 4 * length);
+    settle(ANSWER, answer, 32);
+    admitted(card, answer);
+}
+
+static void guarded_owner(const uint64_t *card, const uint64_t *coordinates, uint32_t *table, size_t length, uint64_t *answer)
+{
+    int side;
+    for (side = 0; side < 2; side++)
+        urszovely_owner(given(FIRST, side, card, 57 * 8), given(SECOND, side, coordinates, 64), lent(side, table, 4 * length), length, blank(side));
+    settle(LENT, table, 4 * length);
+    settle(ANSWER, answer, 32);
+    admitted(card, answer);
+}
+
+static void guarded_stretch(const uint32_t *table, size_t length, const uint64_t *lengths, uint64_t axis, const uint64_t *coordinates, uint64_t *answer)
+{
+    int side;
+    for (side = 0; side < 2; side++)
+        urszovely_stretch(given(FIRST, side, table, 4 * length), length, given(SECOND, side, lengths, 64), axis,
+                          given(THIRD, side, coordinates, 64), blank(side));
+    settle(ANSWER, answer, 32);
+}
+
+#define MOST_TABLE 16384
+#define urszovely_swizzle guarded_swizzle
+#define urszovely_mode guarded_mode
+#define urszovely_fragment guarded_fragment
+#define urszovely_holder guarded_holder
+#define urszovely_fields guarded_fields
+#define urszovely_descriptor guarded_descriptor
+#define urszovely_mask guarded_mask
+#define urszovely_place guarded_place
+#define urszovely_verdict guarded_verdict
+#define urszovely_owner guarded_owner
+#define urszovely_stretch guarded_stretch
+#define main answer_all
+#include "client.c"
+#undef main
+
+int main(void)
+{
+    fence();
+    return answer_all();
+}

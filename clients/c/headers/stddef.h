@@ -1,0 +1,7 @@
+/* What urszovely.h takes of stddef.h, for a compiler that comes without it. */
+#ifndef CLIENTS_STDDEF_H
+#define CLIENTS_STDDEF_H
+
+typedef __SIZE_TYPE__ size_t;
+
+#endif

@@ -1,0 +1,12 @@
+/* What urszovely.h and the client take of stdint.h, for a compiler that comes without it. */
+#ifndef CLIENTS_STDINT_H
+#define CLIENTS_STDINT_H
+
+typedef __UINT8_TYPE__ uint8_t;
+typedef __UINT32_TYPE__ uint32_t;
+typedef __UINT64_TYPE__ uint64_t;
+typedef __INT64_TYPE__ int64_t;
+
+#define UINT64_MAX __UINT64_MAX__
+
+#endif
