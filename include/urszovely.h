@@ -55,9 +55,9 @@ void urszovely_holder(uint64_t kind, uint64_t computation, uint64_t row, uint64_
  * the use span, the shift. */
 void urszovely_fields(uint64_t descriptor, uint8_t fields[12], uint64_t answer[4]);
 
-/* And written: 0 with the descriptor, or 16 with the limit. The fields in the same order without the shift; of the five one-bit
- * fields anything but 0 is a yes. */
-void urszovely_descriptor(const uint8_t fields[11], uint64_t shift, uint64_t answer[4]);
+/* And written for M: 0 with the descriptor, or 13, 16 with the limit, which is 16 for M = 32 and 32 otherwise. The fields in the same
+ * order without the shift; of the five one-bit fields anything but 0 is a yes. */
+void urszovely_descriptor(uint64_t m, const uint8_t fields[11], uint64_t shift, uint64_t answer[4]);
 
 /* The zero-column mask for M, N and a descriptor in N / 8 lent bytes: 0 with zeroed columns and first used column, bytes past the mask
  * stay; or 13, 15, 16 with the limit, 11 with N / 8. */

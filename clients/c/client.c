@@ -229,12 +229,12 @@ static int fields(void)
 static int descriptor(void)
 {
     int i;
-    if (!fits(12, 0)) return 0;
+    if (!fits(13, 0)) return 0;
     for (i = 0; i < 11; i++) {
-        if (numbers[i] > (i >= 4 && i < 9 ? 1u : 255u)) return 0;
-        bytes[i] = (uint8_t)numbers[i];
+        if (numbers[1 + i] > (i >= 4 && i < 9 ? 1u : 255u)) return 0;
+        bytes[i] = (uint8_t)numbers[1 + i];
     }
-    urszovely_descriptor(bytes, numbers[11], answer);
+    urszovely_descriptor(numbers[0], bytes, numbers[12], answer);
     put_answer();
     return 1;
 }

@@ -110,15 +110,15 @@ static void guarded_fields(uint64_t descriptor, uint8_t *fields, uint64_t *answe
 }
 
 /* on the second side a yes is 2 or 255 */
-static void guarded_descriptor(const uint8_t *fields, uint64_t shift, uint64_t *answer)
+static void guarded_descriptor(uint64_t m, const uint8_t *fields, uint64_t shift, uint64_t *answer)
 {
     uint8_t other[11];
     int i;
     memcpy(other, fields, 11);
     for (i = 4; i < 9; i++)
         if (other[i]) other[i] = i % 2 ? 2 : 255;
-    urszovely_descriptor(given(FIRST, 0, fields, 11), shift, blank(0));
-    urszovely_descriptor(given(FIRST, 1, other, 11), shift, blank(1));
+    urszovely_descriptor(m, given(FIRST, 0, fields, 11), shift, blank(0));
+    urszovely_descriptor(m, given(FIRST, 1, other, 11), shift, blank(1));
     settle(ANSWER, answer, 32);
 }
 

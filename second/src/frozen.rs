@@ -7,6 +7,7 @@ const BLOCKS: &[&[u8]] = &[
     include_bytes!("../loads/blocks/01-base.txt"),
     include_bytes!("../loads/blocks/02-ask-06.txt"),
     include_bytes!("../loads/blocks/03-ask-08.txt"),
+    include_bytes!("../loads/blocks/04-ask-03.txt"),
 ];
 
 /// The lines of full size: 16,384 elements, up to 64 copies, tables of
@@ -35,9 +36,10 @@ mod tests {
 
     /// The checks of the files: one that is changed later is noticed here.
     const CHECKS: &[u64] = &[
-        0xd403_5fcf_a071_55cd,
-        0x6273_8f9d_ad12_3b5c,
+        0xad71_fdc8_ebfc_3c99,
+        0x3f92_b786_492e_cde8,
         0x34eb_bf2b_0c8b_dadd,
+        0x095b_87f6_f306_1e0a,
     ];
     const LARGE_CHECKS: &[u64] = &[
         0xa6f5_5d97_af13_b392,

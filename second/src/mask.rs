@@ -9,14 +9,23 @@ const RESERVED_BITS: u64 = 15;
 const SHIFT_ABOVE_LIMIT: u64 = 16;
 const TOO_SHORT: u64 = 11;
 
-/// The one limit on the shift.
-const MOST_SHIFT: u64 = 32;
-
 /// The program lends at most so many bytes to a mask.
 const MOST_BYTES: u64 = 64;
 
 /// What a lent byte is before the question.
 const LENT_BYTE: u64 = 165;
+
+fn permitted_m(m: u64) -> bool {
+    [128, 64, 32].contains(&m)
+}
+
+/// The limit on the shift, for a permitted M.
+fn most_shift(m: u64) -> u64 {
+    match m {
+        32 => 16,
+        _ => 32,
+    }
+}
 
 #[derive(Clone, Copy, Debug, Default, PartialEq, Eq)]
 pub struct Fields {
@@ -111,10 +120,14 @@ pub fn answer_fields(numbers: &[u64]) -> Option<Answer> {
     })
 }
 
+/// M, then the twelve fields: refusals 13, 16.
 pub fn answer_descriptor(numbers: &[u64]) -> Option<Answer> {
-    let fields = Fields::of(numbers).filter(Fields::within_the_program)?;
-    Some(if fields.shift > MOST_SHIFT {
-        Answer::plain(SHIFT_ABOVE_LIMIT, [MOST_SHIFT, 0, 0])
+    let (&m, fields) = numbers.split_first()?;
+    let fields = Fields::of(fields).filter(Fields::within_the_program)?;
+    Some(if !permitted_m(m) {
+        Answer::plain(WRONG_M_OR_N, [0; 3])
+    } else if fields.shift > most_shift(m) {
+        Answer::plain(SHIFT_ABOVE_LIMIT, [most_shift(m), 0, 0])
     } else {
         Answer::plain(0, [fields.write(), 0, 0])
     })
@@ -153,12 +166,12 @@ fn mask_bits(m: u64, n: u64, fields: &Fields) -> Vec<bool> {
 /// Number and details of refusal, if the mask is refused.
 fn mask_refusal(m: u64, n: u64, descriptor: u64, length: u64) -> Option<(u64, u64)> {
     let multiple_of_8 = (1..=32).any(|k| n == 8 * k);
-    if ![128, 64, 32].contains(&m) || !multiple_of_8 {
+    if !permitted_m(m) || !multiple_of_8 {
         Some((WRONG_M_OR_N, 0))
     } else if reserved_bits_set(descriptor) {
         Some((RESERVED_BITS, 0))
-    } else if Fields::read(descriptor).shift > MOST_SHIFT {
-        Some((SHIFT_ABOVE_LIMIT, MOST_SHIFT))
+    } else if Fields::read(descriptor).shift > most_shift(m) {
+        Some((SHIFT_ABOVE_LIMIT, most_shift(m)))
     } else if length < n / 8 {
         Some((TOO_SHORT, n / 8))
     } else {
@@ -227,7 +240,7 @@ mod tests {
             &format!("fields {}", 0x0203028301020100u64),
             "0 0 0 0 | 0 1 2 1 1 1 0 0 1 2 3 2",
         );
-        says("descriptor 0 0 0 0 0 0 0 0 1 2 3 0", &{
+        says("descriptor 64 0 0 0 0 0 0 0 0 1 2 3 0", &{
             let wanted = 1u64 << 39 | 2 << 40 | 3 << 48;
             format!("0 {wanted} 0 0")
         });
@@ -277,15 +290,49 @@ mod tests {
         says(&format!("mask 31 8 {all_wrong} 0"), "13 0 0 0 |");
         says(&format!("mask 32 264 {all_wrong} 1"), "13 0 0 0 | 165");
         says(&format!("mask 32 256 {all_wrong} 0"), "15 0 0 0 |");
-        says(&format!("mask 32 256 {shift} 0"), "16 32 0 0 |");
+        says(&format!("mask 32 256 {shift} 0"), "16 16 0 0 |");
+        says(&format!("mask 64 256 {shift} 0"), "16 32 0 0 |");
         says("mask 32 256 0 31", &{
             let bytes = " 165".repeat(31);
             format!("11 32 0 0 |{bytes}")
         });
         says("mask 32 8 0 65", "?");
-        says("descriptor 0 0 0 0 0 0 0 0 0 0 0 33", "16 32 0 0");
-        says("descriptor 256 0 0 0 0 0 0 0 0 0 0 33", "?");
-        says("descriptor 0 0 0 0 0 0 0 2 0 0 0 0", "?");
+        says("descriptor 64 0 0 0 0 0 0 0 0 0 0 0 33", "16 32 0 0");
+        says("descriptor 31 0 0 0 0 0 0 0 0 0 0 0 33", "13 0 0 0");
+        says("descriptor 31 256 0 0 0 0 0 0 0 0 0 0 33", "?");
+        says("descriptor 64 0 0 0 0 0 0 0 2 0 0 0 0", "?");
+        says("descriptor 0 0 0 0 0 0 0 0 0 0 0 0", "?");
+    }
+
+    #[test]
+    fn the_limit_on_the_shift_is_of_m() {
+        for (m, limit) in [(32u64, 16u64), (64, 32), (128, 32)] {
+            for shift in 0..64 {
+                let refused = format!("16 {limit} 0 0");
+                let (written, masked) = match shift <= limit {
+                    true => (format!("0 {} 0 0", shift << 56), "0 0 0 0 | 0"),
+                    false => (refused.clone(), &*format!("{refused} | 165")),
+                };
+                let line = format!("descriptor {m} 0 0 0 0 0 0 0 0 0 0 0 {shift}");
+                says(&line, &written);
+                says(&format!("mask {m} 8 {} 1", shift << 56), masked);
+                let fields = format!("0 0 0 0 | 0 0 0 0 0 0 0 0 0 0 0 {shift}");
+                says(&format!("fields {}", shift << 56), &fields);
+            }
+            let line = format!("descriptor {m} 0 0 0 0 0 0 0 0 0 0 0 {}", u64::MAX);
+            says(&line, &format!("16 {limit} 0 0"));
+        }
+    }
+
+    #[test]
+    fn a_wrong_m_comes_before_the_shift() {
+        for m in [0, 1, 16, 31, 33, 63, 65, 127, 129, (1 << 32) + 32, u64::MAX] {
+            for shift in [0, 17, 33, u64::MAX] {
+                let line = format!("descriptor {m} 0 0 0 0 0 0 0 0 0 0 0 {shift}");
+                says(&line, "13 0 0 0");
+            }
+            says(&format!("mask {m} 8 {} 1", 33u64 << 56), "13 0 0 0 | 165");
+        }
     }
 
     #[test]

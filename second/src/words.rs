@@ -44,7 +44,7 @@ pub const WORDS: &[Word] = &[
     },
     Word {
         name: "descriptor",
-        count: 12,
+        count: 13,
         answer: |numbers| mask::answer_descriptor(&plain(numbers)?),
     },
     Word {
@@ -82,7 +82,7 @@ pub const NUMBERS: &[(&str, &[u64])] = &[
     ("fragment", &[0, 14]),
     ("holder", &[0, 14]),
     ("fields", &[0, 15]),
-    ("descriptor", &[0, 16]),
+    ("descriptor", &[0, 13, 16]),
     ("mask", &[0, 11, 13, 15, 16]),
     ("place", &[0, 1, 2, 3, 4, 5, 6, 7, 9, 10, 11, 17]),
     ("verdict", &[0, 1, 2, 3, 4, 5, 6, 7, 8, 11, 17]),

@@ -1,15 +1,15 @@
 -- What the definitions mean, in plain for-alls: reading and writing undo each other, and each promise settles its answer.
 use mathlib.Core.Path.{_≡_, refl, sym, ap, _∙_}
-use mathlib.Core.Bool.{Bool, true, false, cond}
+use mathlib.Core.Bool.{Bool, true, false, cond, not}
 use Prim.Native.Nat.{ℕ, _^_, _≤_, _<_}
 use native.Mathlib.Omega.{arith}
 use borrow.Author.Tests.{le-ltb, ltb-false}
-use lib.Dec.{ltb}
+use lib.Dec.{eqb, ltb}
 use Rattle.answers.specs.Refusals.{answer}
-use Rattle.answers.specs.declared.Refusal.the-variants.{Reserved, Shift}
+use Rattle.answers.specs.declared.Refusal.the-variants.{MaskSize, Reserved, Shift}
 use Rattle.answers.proofs.OneToOne.{readBack, refused-back, pinned, rung}
 use Rattle.laws.proofs.Rungs.{apart, passed-by}
-use Rattle.descriptor.specs.Descriptor.{fieldsOf, noFields, reserved, readAnswer, descriptorOf, writeAnswer, readNumbers, writeNumbers}
+use Rattle.descriptor.specs.Descriptor.{fieldsOf, noFields, reserved, readAnswer, descriptorOf, maskM, shiftLimit, writeAnswer, readNumbers, writeNumbers}
 use Rattle.descriptor.specs.declared.Fields.{Fields}
 use Rattle.descriptor.specs.declared.Read.{Read}
 use Rattle.descriptor.specs.declared.Read.the-variants.{Done, Refused}
@@ -18,34 +18,44 @@ use Rattle.descriptor.specs.declared.Written.{Written}
 use Rattle.descriptor.specs.declared.Written.the-variants.{Descriptor, Refused as NotWritten}
 use Rattle.descriptor.proofs.Digits.{Typed, fields-back, reserved-clear, descriptor-back}
 
--- reading what was written gives the same fields
-pub read-written : (limit d : ℕ) (f : Fields) → limit < 64 → Typed f → writeAnswer limit f ≡ Descriptor d → readAnswer d ≡ record { answer = Done; fields = f }
-read-written limit d f small t e =
-    let written = passed-by (ltb limit (f .shift)) e (λ q. apart (cc)) in
+-- no limit is above 32, so an allowed shift has six bits
+pub limit-small : (M : ℕ) → shiftLimit M ≤ 32
+limit-small M = by (eqb M 32)
+  where
+    by : (b : Bool) → cond b 16 32 ≤ 32
+    by true = omega arith
+    by false = omega arith
+
+-- reading what was written for an M gives the same fields
+pub read-written : (M d : ℕ) (f : Fields) → Typed f → writeAnswer (shiftLimit M) M f ≡ Descriptor d → readAnswer d ≡ record { answer = Done; fields = f }
+read-written M d f t e =
+    let known = passed-by (not (maskM M)) e (λ q. apart (cc)) in
+    let written = passed-by (ltb (shiftLimit M) (f .shift)) (known .1) (λ q. apart (cc)) in
     let last = written .1 in
     let same : descriptorOf f ≡ d = cc in
-    let below : f .shift < 64 = omega (arith, ltb-false limit (f .shift) (written .0)) in
+    let below : f .shift < 64 = omega (arith, limit-small M, ltb-false (shiftLimit M) (f .shift) (written .0)) in
     rw (sym same, reserved-clear f t below, fields-back f t below)
 
--- writing what was read gives the same descriptor, for every descriptor that reading accepts and writing allows
-pub written-read : (limit d : ℕ) → d < 2 ^ 64 → readAnswer d .answer ≡ Done → readAnswer d .fields .shift ≤ limit
-    → writeAnswer limit (readAnswer d .fields) ≡ Descriptor d
-written-read limit d h = split (reserved d) refl
+-- writing for an M what was read gives the same descriptor, for every descriptor that reading accepts and writing for this M allows
+pub written-read : (M d : ℕ) → d < 2 ^ 64 → maskM M ≡ true → readAnswer d .answer ≡ Done → readAnswer d .fields .shift ≤ shiftLimit M
+    → writeAnswer (shiftLimit M) M (readAnswer d .fields) ≡ Descriptor d
+written-read M d h m = split (reserved d) refl
   where
     read : Bool → Reading
     read b = cond b (record { answer = Refused Reserved; fields = noFields }) (record { answer = Done; fields = fieldsOf d })
 
-    split : (b : Bool) → reserved d ≡ b → read b .answer ≡ Done → read b .fields .shift ≤ limit → writeAnswer limit (read b .fields) ≡ Descriptor d
+    split : (b : Bool) → reserved d ≡ b → read b .answer ≡ Done → read b .fields .shift ≤ shiftLimit M
+        → writeAnswer (shiftLimit M) M (read b .fields) ≡ Descriptor d
     split true b e l = absurd (apart (cc))
-    split false b e l = rw (le-ltb limit (fieldsOf d .shift) l, descriptor-back d h b)
+    split false b e l = rw (m, le-ltb (shiftLimit M) (fieldsOf d .shift) l, descriptor-back d h b)
 
 -- two outcomes that the promise of reading allows are equal
 pub read-settled : (d : ℕ) (p q : Reading) → p ≡ readAnswer d → q ≡ readAnswer d → p ≡ q
 read-settled d p q e f = e ∙ sym f
 
 -- and so are two that the promise of writing allows
-pub write-settled : (limit : ℕ) (f : Fields) (p q : Written) → p ≡ writeAnswer limit f → q ≡ writeAnswer limit f → p ≡ q
-write-settled limit f p q e g = e ∙ sym g
+pub write-settled : (limit M : ℕ) (f : Fields) (p q : Written) → p ≡ writeAnswer limit M f → q ≡ writeAnswer limit M f → p ≡ q
+write-settled limit M f p q e g = e ∙ sym g
 
 -- pinning the numbers pins the answer
 read-back : (p : Read) → readBack (λ n. Done) Refused (readNumbers p) ≡ p
@@ -67,7 +77,8 @@ pub read-in-numbers : (d : ℕ) (r : Reading) → r ≡ readAnswer d
     → (readNumbers (r .answer) ≡ cond (reserved d) (answer 15 0 0 0) (answer 0 0 0 0)) × (r .fields ≡ cond (reserved d) noFields (fieldsOf d))
 read-in-numbers d r e = rw e (rung (λ (r : Reading). readNumbers (r .answer)) (reserved d) refl refl, rung (λ (r : Reading). r .fields) (reserved d) refl refl)
 
--- 16 and the limit, or 0 and the descriptor
-pub write-in-numbers : (limit : ℕ) (f : Fields) (r : Written) → r ≡ writeAnswer limit f
-    → writeNumbers r ≡ cond (ltb limit (f .shift)) (answer 16 limit 0 0) (answer 0 (descriptorOf f) 0 0)
-write-in-numbers limit f r e = ap writeNumbers e ∙ rung writeNumbers (ltb limit (f .shift)) refl refl
+-- 13, 16 and the limit, or 0 and the descriptor
+pub write-in-numbers : (limit M : ℕ) (f : Fields) (r : Written) → r ≡ writeAnswer limit M f
+    → writeNumbers r
+    ≡ cond (not (maskM M)) (answer 13 0 0 0) (cond (ltb limit (f .shift)) (answer 16 limit 0 0) (answer 0 (descriptorOf f) 0 0))
+write-in-numbers limit M f r e = ap writeNumbers e ∙ rung writeNumbers (not (maskM M)) refl (rung writeNumbers (ltb limit (f .shift)) refl refl)

@@ -6,7 +6,7 @@ use lib.Dec.{eqb, ltb}
 use lib.ListN.{getD}
 use Rattle.answers.specs.Refusals.{answer, refusalNumbers}
 use Rattle.answers.specs.declared.Numbers.{Numbers}
-use Rattle.answers.specs.declared.Refusal.the-variants.{Reserved, Shift}
+use Rattle.answers.specs.declared.Refusal.the-variants.{MaskSize, Reserved, Shift}
 use Rattle.descriptor.specs.declared.Fields.{Fields}
 use Rattle.descriptor.specs.declared.Read.{Read}
 use Rattle.descriptor.specs.declared.Read.the-variants.{Done, Refused}
@@ -69,13 +69,18 @@ descriptorOf f =
     + f .«use_span» * 2 ^ 48
     + f .shift * 2 ^ 56
 
--- writing refuses 16 only, exactly when the shift is above its limit
-abbrev pub writeAnswer : ℕ → Fields → Written
-writeAnswer limit f = cond (ltb limit (f .shift)) (NotWritten (Shift limit)) (Descriptor (descriptorOf f))
+-- M is 128, 64 or 32
+abbrev pub maskM : ℕ → Bool
+maskM M = eqb M 128 || eqb M 64 || eqb M 32
 
--- for now one limit on the shift, for every M
-abbrev pub shiftLimit : ℕ
-shiftLimit = 32
+-- the limit on the shift: 16 for M = 32, and 32 otherwise
+abbrev pub shiftLimit : ℕ → ℕ
+shiftLimit M = cond (eqb M 32) 16 32
+
+-- writing for M refuses a wrong M, 13, and then a shift above the limit, 16
+abbrev pub writeAnswer : ℕ → ℕ → Fields → Written
+writeAnswer limit M f =
+    cond (not (maskM M)) (NotWritten MaskSize) (cond (ltb limit (f .shift)) (NotWritten (Shift limit)) (Descriptor (descriptorOf f)))
 
 -- at number 0 the details of a reading are zero: its fields stand beside it
 abbrev pub readNumbers : Read → Numbers

@@ -3,10 +3,7 @@ use answers::Numbers;
 use answers::Refusal;
 ghost use mathlib.Core.Path.{_≡_};
 ghost use Prim.Native.Nat.{_+_, _^_, _<_, _≤_};
-ghost use Rattle.descriptor.specs.Descriptor.{fieldsOf, noFields, reserved, readAnswer, bit, countBits, spanBits, descriptorOf, writeAnswer, shiftLimit, readNumbers, writeNumbers};
-
-// The largest shift that is allowed. Public for the crates above.
-pub const SHIFT_LIMIT: u64 = 32;
+ghost use Rattle.descriptor.specs.Descriptor.{fieldsOf, noFields, reserved, readAnswer, bit, countBits, spanBits, descriptorOf, maskM, shiftLimit, writeAnswer, readNumbers, writeNumbers};
 
 // The fields of a descriptor; one start count and one first span for each of four sub-masks.
 pub struct Fields {
@@ -141,15 +138,32 @@ fn descriptor_of(fields: Fields) -> u64
         + (fields.shift << 56)
 }
 
-// The descriptor of any fields.
-pub fn write_descriptor(fields: Fields) -> Written
-    ensures { λ r. ⌜ r ≡ writeAnswer shiftLimit fields ⌝ }
+// Whether M is 128, 64 or 32. Public for the crates above.
+pub fn is_mask_m(m: u64) -> bool
+    ensures { λ r. ⌜ r ≡ maskM m ⌝ }
 {
-    if SHIFT_LIMIT < fields.shift {
-        Written::Refused(Refusal::Shift { limit: SHIFT_LIMIT })
-    } else {
-        Written::Descriptor(descriptor_of(fields))
+    (m == 128) | (m == 64) | (m == 32)
+}
+
+// The largest shift that is allowed for M. Public for the crates above.
+pub fn shift_limit(m: u64) -> u64
+    ensures { λ r. ⌜ (r ≡ shiftLimit m) × (r ≤ 32) ⌝ }
+{
+    if m == 32 { 16 } else { 32 }
+}
+
+// The descriptor of any fields, for any M.
+pub fn write_descriptor(m: u64, fields: Fields) -> Written
+    ensures { λ r. ⌜ r ≡ writeAnswer (shiftLimit m) m fields ⌝ }
+{
+    if !is_mask_m(m) {
+        return Written::Refused(Refusal::MaskSize);
     }
+    let limit = shift_limit(m);
+    if limit < fields.shift {
+        return Written::Refused(Refusal::Shift { limit });
+    }
+    Written::Descriptor(descriptor_of(fields))
 }
 
 // The plain numbers of a reading's answer.

@@ -18,20 +18,20 @@ const LENT: u8 = 165;
 // The start counts that a line gives.
 fn counts(numbers: &[u64; 80]) -> [u8; 4] {
     [
-        byte(numbers[places::START_COUNTS]),
-        byte(numbers[places::START_COUNTS + 1]),
-        byte(numbers[places::START_COUNTS + 2]),
-        byte(numbers[places::START_COUNTS + 3]),
+        byte(numbers[places::WRITTEN + places::START_COUNTS]),
+        byte(numbers[places::WRITTEN + places::START_COUNTS + 1]),
+        byte(numbers[places::WRITTEN + places::START_COUNTS + 2]),
+        byte(numbers[places::WRITTEN + places::START_COUNTS + 3]),
     ]
 }
 
 // The first spans that a line gives.
 fn spans(numbers: &[u64; 80]) -> [bool; 4] {
     [
-        numbers[places::FIRST_SPANS] == 1,
-        numbers[places::FIRST_SPANS + 1] == 1,
-        numbers[places::FIRST_SPANS + 2] == 1,
-        numbers[places::FIRST_SPANS + 3] == 1,
+        numbers[places::WRITTEN + places::FIRST_SPANS] == 1,
+        numbers[places::WRITTEN + places::FIRST_SPANS + 1] == 1,
+        numbers[places::WRITTEN + places::FIRST_SPANS + 2] == 1,
+        numbers[places::WRITTEN + places::FIRST_SPANS + 3] == 1,
     ]
 }
 
@@ -40,18 +40,33 @@ fn given(numbers: &[u64; 80]) -> Fields {
     Fields {
         start_counts: counts(numbers),
         first_spans: spans(numbers),
-        non_zero: numbers[places::NON_ZERO] == 1,
-        skip_span: byte(numbers[places::SKIP_SPAN]),
-        use_span: byte(numbers[places::USE_SPAN]),
-        shift: numbers[places::SHIFT],
+        non_zero: numbers[places::WRITTEN + places::NON_ZERO] == 1,
+        skip_span: byte(numbers[places::WRITTEN + places::SKIP_SPAN]),
+        use_span: byte(numbers[places::WRITTEN + places::USE_SPAN]),
+        shift: numbers[places::WRITTEN + places::SHIFT],
     }
 }
 
 // Whether counts and spans are bytes, and one-bit fields 0 or 1.
 fn are_fields(numbers: &[u64; 80]) -> bool {
-    within(numbers, places::START_COUNTS, places::FIRST_SPANS, 255)
-        & within(numbers, places::FIRST_SPANS, places::SKIP_SPAN, 1)
-        & within(numbers, places::SKIP_SPAN, places::SHIFT, 255)
+    within(
+        numbers,
+        places::WRITTEN + places::START_COUNTS,
+        places::WRITTEN + places::FIRST_SPANS,
+        255,
+    )
+        & within(
+            numbers,
+            places::WRITTEN + places::FIRST_SPANS,
+            places::WRITTEN + places::SKIP_SPAN,
+            1,
+        )
+        & within(
+            numbers,
+            places::WRITTEN + places::SKIP_SPAN,
+            places::WRITTEN + places::SHIFT,
+            255,
+        )
 }
 
 // The fields that all sub-masks share, as numbers.
@@ -79,10 +94,10 @@ pub fn fields(numbers: &[u64; 80]) -> Reply {
     )
 }
 
-// descriptor, with the twelve fields
+// descriptor M, with the twelve fields
 pub fn descriptor(numbers: &[u64; 80]) -> Reply {
     if are_fields(numbers) {
-        let written = descriptor::write_descriptor(given(numbers));
+        let written = descriptor::write_descriptor(numbers[0], given(numbers));
         return reply::plain(descriptor::write_numbers(written));
     }
     reply::unknown()

@@ -52,7 +52,8 @@ pub const STRETCH_LENT: usize = STRETCH_COORDINATES + 8;
 // `mask`, after M, N and the descriptor.
 pub const MASK_LENT: usize = 3;
 
-// The twelve fields of a descriptor, on the line of `descriptor` and after the bar of `fields`.
+// The twelve fields of a descriptor, counted from the first of them: after the bar of `fields`, and on
+// the line of `descriptor`.
 pub const START_COUNTS: usize = 0;
 
 pub const FIRST_SPANS: usize = START_COUNTS + 4;
@@ -66,3 +67,6 @@ pub const USE_SPAN: usize = SKIP_SPAN + 1;
 pub const SHIFT: usize = USE_SPAN + 1;
 
 pub const FIELDS: usize = SHIFT + 1;
+
+// Where the first field stands on the line of `descriptor`, after M.
+pub const WRITTEN: usize = 1;

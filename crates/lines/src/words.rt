@@ -89,7 +89,7 @@ fn wanted(word: Word) -> usize {
         Word::Fragment => 3,
         Word::Holder => 4,
         Word::Fields => 1,
-        Word::Descriptor => places::FIELDS,
+        Word::Descriptor => places::WRITTEN + places::FIELDS,
         Word::Mask => places::MASK_LENT + 1,
         Word::Place => places::PLACE_LENT + 1,
         Word::Verdict => places::VERDICT_LENT + 1,

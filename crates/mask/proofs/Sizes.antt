@@ -1,11 +1,12 @@
 -- What a mask's size says: its sub-masks are 1, 2 or 4, of N, N/2 or N/4 bits, and hold its N columns.
 use mathlib.Core.Path.{_≡_}
-use mathlib.Core.Bool.{Bool, true, false, cond, _||_}
+use mathlib.Core.Bool.{Bool, true, false, cond}
 use Prim.Native.Nat.{ℕ, _*_, _/_, _%_, _≤_}
 use native.Mathlib.Omega.{arith}
 use borrow.Author.Tests.{eqb-true, leb-true}
 use lib.Dec.{eqb, leb}
 use Rattle.laws.proofs.Tests.{four-of}
+use Rattle.descriptor.specs.Descriptor.{maskM}
 use Rattle.mask.specs.Mask.{maskSize, subMasks, subBits}
 
 -- what holds of 1, 2 and 4 holds of the number of sub-masks
@@ -29,8 +30,7 @@ pub record Sized (M N : ℕ) : Type 0 where
 
 pub sized : (M N : ℕ) → maskSize M N ≡ true → Sized M N
 sized M N h =
-    let known = eqb M 128 || eqb M 64 || eqb M 32 in
-    let parts = four-of known (eqb (N % 8) 0) (leb 8 N) (leb N 256) h in
+    let parts = four-of (maskM M) (eqb (N % 8) 0) (leb 8 N) (leb N 256) h in
     let eights = eqb-true (N % 8) 0 (parts .1) in
     let least = leb-true 8 N (parts .2) in
     let most = leb-true N 256 (parts .3) in

@@ -7,7 +7,7 @@ use lib.ListN.{getD, drop}
 use Rattle.answers.specs.Refusals.{answer, refusalNumbers}
 use Rattle.answers.specs.declared.Numbers.{Numbers}
 use Rattle.answers.specs.declared.Refusal.the-variants.{TooShort, MaskSize, Reserved, Shift}
-use Rattle.descriptor.specs.Descriptor.{yes, bit, fieldsOf, reserved}
+use Rattle.descriptor.specs.Descriptor.{fieldsOf, reserved, maskM}
 use Rattle.descriptor.specs.declared.Fields.{Fields}
 use Rattle.pattern.specs.Pattern.{column, bytes, zeroed, firstUsed}
 use Rattle.mask.specs.declared.Generated.{Generated}
@@ -15,7 +15,7 @@ use Rattle.mask.specs.declared.Generated.the-variants.{Mask, Refused}
 
 -- M is 128, 64 or 32, and N a multiple of 8 in 8 to 256
 abbrev pub maskSize : ℕ → ℕ → Bool
-maskSize M N = (eqb M 128 || eqb M 64 || eqb M 32) && eqb (N % 8) 0 && leb 8 N && leb N 256
+maskSize M N = maskM M && eqb (N % 8) 0 && leb 8 N && leb N 256
 
 -- M = 128, 64, 32 gives 1, 2, 4 sub-masks of N, N/2, N/4 bits
 abbrev pub subMasks : ℕ → ℕ

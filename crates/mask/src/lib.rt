@@ -19,7 +19,7 @@ pub enum Generated {
 fn is_mask_size(m: u64, n: u64) -> bool
     ensures { λ r. ⌜ r ≡ maskSize m n ⌝ }
 {
-    ((m == 128) | (m == 64) | (m == 32)) & (n % 8 == 0) & (8 <= n) & (n <= 256)
+    descriptor::is_mask_m(m) & (n % 8 == 0) & (8 <= n) & (n <= 256)
 }
 
 // The bytes of words, as many as are lent.
@@ -63,7 +63,7 @@ fn fill_mask(size: u64, fields: Fields, mask: &mut [u8]) -> Generated
 
 // The mask for any M, N and descriptor, into the first N/8 of the lent bytes.
 pub fn generate_mask(m: u64, n: u64, descriptor: u64, mask: &mut [u8]) -> Generated
-    ensures { λ r. ⌜ (r ≡ maskAnswer shiftLimit m n descriptor (length (now (mask .entry)))) × (now (mask .exit) ≡ maskMemory r m n descriptor (now (mask .entry))) ⌝ }
+    ensures { λ r. ⌜ (r ≡ maskAnswer (shiftLimit m) m n descriptor (length (now (mask .entry)))) × (now (mask .exit) ≡ maskMemory r m n descriptor (now (mask .entry))) ⌝ }
 {
     if !is_mask_size(m, n) {
         return Generated::Refused(Refusal::MaskSize);
@@ -72,10 +72,9 @@ pub fn generate_mask(m: u64, n: u64, descriptor: u64, mask: &mut [u8]) -> Genera
         return Generated::Refused(Refusal::Reserved);
     }
     let fields = descriptor::fields_of(descriptor);
-    if descriptor::SHIFT_LIMIT < fields.shift {
-        return Generated::Refused(Refusal::Shift {
-            limit: descriptor::SHIFT_LIMIT,
-        });
+    let limit = descriptor::shift_limit(m);
+    if limit < fields.shift {
+        return Generated::Refused(Refusal::Shift { limit });
     }
     let needed = n / 8;
     if (mask.len() as u64) < needed {

@@ -89,8 +89,20 @@ loads =
     ∷ (mask 128 16 (descriptorOf (plain false true 2 3 0)) two is reply (answer 0 6 0 0) (0x70 ∷ 0x38 ∷ []))
     ∷ (mask 128 16 (descriptorOf (plain false true 2 3 32)) two is reply (answer 0 6 0 0) (0x70 ∷ 0x38 ∷ []))
     ∷ (mask 128 16 (descriptorOf (plain false true 2 3 33)) two is reply (answer 16 32 0 0) two)
-    ∷ (descriptor (plain false true 2 3 32) is reply (answer 0 2306690182922895360 0 0) [])
-    ∷ (descriptor (plain false true 2 3 33) is reply (answer 16 32 0 0) [])
+    -- a shift's limit is 16 for M = 32 and 32 otherwise, in a mask
+    ∷ (mask 64 16 (descriptorOf (plain false true 2 3 32)) two is reply (answer 0 6 0 0) (0x70 ∷ 0x70 ∷ []))
+    ∷ (mask 64 16 (descriptorOf (plain false true 2 3 33)) two is reply (answer 16 32 0 0) two)
+    ∷ (mask 32 8 (descriptorOf (plain false true 2 3 16)) two is reply (answer 0 0 0 0) (0 ∷ 165 ∷ []))
+    ∷ (mask 32 8 (descriptorOf (plain false true 2 3 17)) two is reply (answer 16 16 0 0) two)
+    -- and in a written descriptor, where a wrong M comes first
+    ∷ (descriptor 128 (plain false true 2 3 32) is reply (answer 0 2306690182922895360 0 0) [])
+    ∷ (descriptor 128 (plain false true 2 3 33) is reply (answer 16 32 0 0) [])
+    ∷ (descriptor 64 (plain false true 2 3 32) is reply (answer 0 2306690182922895360 0 0) [])
+    ∷ (descriptor 64 (plain false true 2 3 33) is reply (answer 16 32 0 0) [])
+    ∷ (descriptor 32 (plain false true 2 3 16) is reply (answer 0 1153768678316048384 0 0) [])
+    ∷ (descriptor 32 (plain false true 2 3 17) is reply (answer 16 16 0 0) [])
+    ∷ (descriptor 16 (plain false true 2 3 16) is reply (answer 13 0 0 0) [])
+    ∷ (descriptor 96 (plain false true 2 3 33) is reply (answer 13 0 0 0) [])
     -- example 3
     ∷ (mask 64 32 (descriptorOf (plain true true 2 3 0)) four is reply (answer 0 14 3 0) (0x87 ∷ 0xc3 ∷ 0x70 ∷ 0x38 ∷ []))
     ∷ (mask 64 40 (descriptorOf (plain true true 2 3 0)) (replicate 5 165)

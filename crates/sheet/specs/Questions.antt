@@ -6,7 +6,7 @@ use Rattle.answers.specs.declared.Numbers.{Numbers}
 use Rattle.swizzle.specs.Swizzle.{swizzleAnswer, swizzleNumbers}
 use Rattle.swizzle.specs.Mode.{modeAnswer, modeNumbers}
 use Rattle.fragment.specs.Fragment.{heldAnswer, heldNumbers}
-use Rattle.descriptor.specs.Descriptor.{writeAnswer, shiftLimit, writeNumbers}
+use Rattle.descriptor.specs.Descriptor.{shiftLimit, writeAnswer, writeNumbers}
 use Rattle.mask.specs.Mask.{maskAnswer, maskMemory, maskNumbers}
 use Rattle.descriptor.specs.declared.Fields.{Fields}
 use Rattle.card.specs.declared.Card.{Card}
@@ -23,8 +23,8 @@ pub data Question : Type 0 where
   mode : ℕ → ℕ → Question
   -- kind, lane and register
   fragment : ℕ → ℕ → ℕ → Question
-  -- the fields
-  descriptor : Fields → Question
+  -- M and the fields
+  descriptor : ℕ → Fields → Question
   -- M, N, the descriptor and the lent bytes
   mask : ℕ → ℕ → ℕ → List ℕ → Question
   -- the card, the shape, the coordinates and the lent entries
@@ -49,9 +49,9 @@ unfoldable pub asked : Question → Reply
 asked (swizzle M B S m) = reply (swizzleNumbers (swizzleAnswer M B S m)) []
 asked (mode bits n) = reply (modeNumbers (modeAnswer bits n)) []
 asked (fragment kind lane i) = reply (heldNumbers (heldAnswer kind lane i)) []
-asked (descriptor fields) = reply (writeNumbers (writeAnswer shiftLimit fields)) []
+asked (descriptor M fields) = reply (writeNumbers (writeAnswer (shiftLimit M) M fields)) []
 asked (mask M N d lent) =
-    let generated = maskAnswer shiftLimit M N d (length lent) in
+    let generated = maskAnswer (shiftLimit M) M N d (length lent) in
     reply (maskNumbers generated) (maskMemory generated M N d lent)
 asked (place card shape coordinates lent) =
     reply (placementNumbers (placementAnswer card shape coordinates (length lent))) (placementMemory card shape coordinates lent)

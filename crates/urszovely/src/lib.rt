@@ -5,7 +5,7 @@ ghost use lib.ListN.{length};
 ghost use Rattle.swizzle.specs.Swizzle.{swizzleAnswer, swizzleNumbers};
 ghost use Rattle.swizzle.specs.Mode.{modeAnswer, modeNumbers};
 ghost use Rattle.fragment.specs.Fragment.{heldAnswer, heldNumbers};
-ghost use Rattle.descriptor.specs.Descriptor.{readAnswer, readNumbers, writeAnswer, writeNumbers, shiftLimit};
+ghost use Rattle.descriptor.specs.Descriptor.{readAnswer, readNumbers, shiftLimit, writeAnswer, writeNumbers};
 ghost use Rattle.mask.specs.Mask.{maskAnswer, maskMemory, maskNumbers};
 ghost use Rattle.card.specs.Admission.{admissionNumbers};
 ghost use Rattle.idle.specs.Admission.{fullAdmission};
@@ -73,12 +73,12 @@ pub extern "C" fn urszovely_fields(descriptor: u64, fields: &mut [u8; 12], answe
     *answer = plain::four(numbers);
 }
 
-// And written.
+// And written, for M.
 #[no_mangle]
-pub extern "C" fn urszovely_descriptor(fields: &[u8; 11], shift: u64, answer: &mut [u64; 4])
-    ensures { λ r. ⌜ now (answer .exit) ≡ four (writeNumbers (writeAnswer shiftLimit (fieldsFrom (now (fields .entry)) shift))) ⌝ }
+pub extern "C" fn urszovely_descriptor(m: u64, fields: &[u8; 11], shift: u64, answer: &mut [u64; 4])
+    ensures { λ r. ⌜ now (answer .exit) ≡ four (writeNumbers (writeAnswer (shiftLimit m) m (fieldsFrom (now (fields .entry)) shift))) ⌝ }
 {
-    let written = descriptor::write_descriptor(plain::fields(fields, shift));
+    let written = descriptor::write_descriptor(m, plain::fields(fields, shift));
     let numbers = descriptor::write_numbers(written);
     *answer = plain::four(numbers);
 }
@@ -92,8 +92,8 @@ pub extern "C" fn urszovely_mask(
     mask: &mut [u8],
     answer: &mut [u64; 4],
 )
-    ensures { λ r. ⌜ now (answer .exit) ≡ four (maskNumbers (maskAnswer shiftLimit m n descriptor (length (now (mask .entry))))) ⌝ }
-    ensures { λ r. ⌜ now (mask .exit) ≡ maskMemory (maskAnswer shiftLimit m n descriptor (length (now (mask .entry)))) m n descriptor (now (mask .entry)) ⌝ }
+    ensures { λ r. ⌜ now (answer .exit) ≡ four (maskNumbers (maskAnswer (shiftLimit m) m n descriptor (length (now (mask .entry))))) ⌝ }
+    ensures { λ r. ⌜ now (mask .exit) ≡ maskMemory (maskAnswer (shiftLimit m) m n descriptor (length (now (mask .entry)))) m n descriptor (now (mask .entry)) ⌝ }
 {
     let generated = mask::generate_mask(m, n, descriptor, mask);
     let numbers = mask::mask_numbers(generated);

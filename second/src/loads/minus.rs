@@ -88,7 +88,7 @@ mod tests {
         "fragment 5 5 6",
         "holder 5 1 3 4",
         "fields 847173709201408",
-        "descriptor 1 1 1 1 1 1 1 1 1 2 3 32",
+        "descriptor 64 1 1 1 1 1 1 1 1 1 2 3 32",
         "mask 128 16 847173709201408 2",
         "stretch 1 11 32 1 1 1 1 2 1 1 6 9 1 1 1 1 1 704",
     ];

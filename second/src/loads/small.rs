@@ -122,8 +122,8 @@ fn random_byte(random: &mut Random) -> u64 {
 fn random_shift(random: &mut Random) -> u64 {
     match random.below(8) {
         0 | 1 => 0,
-        2..=4 => random.below(17),
-        5 | 6 => random.around_one_of(SHIFTS),
+        2 | 3 => random.below(17),
+        4..=6 => random.around_one_of(SHIFTS),
         _ => random.below(64),
     }
 }
@@ -154,7 +154,19 @@ pub fn fields(random: &mut Random) -> Vec<Number> {
     whole(&[random_descriptor(random)])
 }
 
+/// One that a mask can have, mostly; others look like one, even when cut to
+/// 32 bits.
+fn random_m(random: &mut Random) -> u64 {
+    match random.below(20) {
+        0..=16 => random.pick(&[32, 64, 128]),
+        17 => random.pick(&[0, 1, 8, 16, 31, 33, 63, 65, 96, 127, 129, 256]),
+        18 => (1 << random.between(32, 63)) + random.pick(&[32, 64, 128]),
+        _ => random.hostile(),
+    }
+}
+
 pub fn descriptor(random: &mut Random) -> Vec<Number> {
+    let m = random_m(random);
     let mut numbers = random_fields(random).numbers();
     if random.once_in(6) {
         numbers[11] = random.hostile();
@@ -164,7 +176,7 @@ pub fn descriptor(random: &mut Random) -> Vec<Number> {
         let at = random.index(numbers.len());
         numbers[at] = random.pick(&[2, 255, 256, 257, 511, 1 << 32, u64::MAX]);
     }
-    whole(&numbers)
+    whole(&[&[m], &numbers[..]].concat())
 }
 
 fn random_n(random: &mut Random) -> u64 {
@@ -177,11 +189,7 @@ fn random_n(random: &mut Random) -> u64 {
 }
 
 pub fn mask(random: &mut Random) -> Vec<Number> {
-    let m = match random.below(20) {
-        0..=17 => random.pick(&[32, 64, 128]),
-        18 => random.pick(&[0, 1, 8, 16, 31, 33, 63, 65, 96, 127, 129, 256]),
-        _ => random.hostile(),
-    };
+    let m = random_m(random);
     let n = random_n(random);
     let length = match random.below(12) {
         0..=6 => n / 8 % 64,
