@@ -4,6 +4,8 @@
  * details, 0 unless said. Pointers are valid, not NULL and do not overlap; nothing else is asked of a caller. A refusal touches no
  * lent memory, but 7 and 8 of verdict and owner leave the first `cells` entries of the table 0.
  *
+ * Limits: extents, lengths, elements and cells 1 to 65,536, copies at most 64, strides and offsets -65,536 to 65,535.
+ *
  * A card is 57 numbers: the shard count; eight times extent, stride, axis; the replica count; four times extent, stride, axis;
  * eight offsets and eight lengths, pid to m; M, B, S. Strides and offsets are in two's complement: (uint64_t)(int64_t)-1. */
 #ifndef URSZOVELY_H

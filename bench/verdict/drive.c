@@ -94,7 +94,7 @@ static u64 random_card(struct card *card) {
         }
     } while (cells > MOST);
     if (below(20) == 0) {
-        static const i64 edges[] = {0, 8, 9, 64, 65, 16384, 16385, 65535, 65536, -65536, -65537};
+        static const i64 edges[] = {0, 8, 9, 64, 65, 16384, 16385, 65535, 65536, 65537, -65536, -65537};
         ((i64 *)card)[below(NUMBERS)] = below(3) ? edges[below(sizeof edges / sizeof *edges)] : (i64)any();
     }
     return cells;

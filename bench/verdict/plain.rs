@@ -106,7 +106,7 @@ impl Card {
 
     /// Checks 1 to 6: the number of the first that fails.
     fn refusal(&self) -> Option<u64> {
-        let size = |n: u64| (1..=16384).contains(&n);
+        let size = |n: u64| (1..=65536).contains(&n);
         let stride = |n: i64| (-65536..=65535).contains(&n);
         if self.shards < 1 || self.shards > 8 || self.replicas > 4 {
             return Some(1);
@@ -122,10 +122,10 @@ impl Card {
         if iters.any(|iter| iter.axis > 7) {
             return Some(3);
         }
-        if !self.lengths.iter().all(|&n| size(n)) || self.cells() > 16384 {
+        if !self.lengths.iter().all(|&n| size(n)) || self.cells() > 65536 {
             return Some(4);
         }
-        if self.elements() > 16384 || self.copies() > 64 {
+        if self.elements() > 65536 || self.copies() > 64 {
             return Some(5);
         }
         if self.m > 8 || self.b > 4 || self.s > 8 || self.b > self.s {

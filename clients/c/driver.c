@@ -180,7 +180,7 @@ static void guarded_stretch(const uint32_t *table, size_t length, const uint64_t
     settle(ANSWER, answer, 32);
 }
 
-#define MOST_TABLE 16384
+#define MOST_TABLE 65536
 #define urszovely_swizzle guarded_swizzle
 #define urszovely_mode guarded_mode
 #define urszovely_fragment guarded_fragment

@@ -8,14 +8,16 @@ const BLOCKS: &[&[u8]] = &[
     include_bytes!("../loads/blocks/02-ask-06.txt"),
     include_bytes!("../loads/blocks/03-ask-08.txt"),
     include_bytes!("../loads/blocks/04-ask-03.txt"),
+    include_bytes!("../loads/blocks/05-ask-04.txt"),
 ];
 
-/// The lines of full size: 16,384 elements, up to 64 copies, tables of
-/// 16,384.
+/// The lines of full size: 16,384 elements and more, up to 64 copies, tables
+/// of 16,384.
 const LARGE: &[&[u8]] = &[
     include_bytes!("../loads/large/01-base.txt"),
     include_bytes!("../loads/large/02-ask-06.txt"),
     include_bytes!("../loads/large/03-ask-08.txt"),
+    include_bytes!("../loads/large/05-ask-04.txt"),
 ];
 
 pub fn blocks() -> Vec<u8> {
@@ -31,6 +33,7 @@ mod tests {
     use super::*;
     use crate::lines::{answers, reached};
     use crate::loads::random::seed_of;
+    use crate::verdict::MOST_ENTRIES;
     use crate::words::NUMBERS;
     use std::fs;
 
@@ -40,11 +43,13 @@ mod tests {
         0x3f92_b786_492e_cde8,
         0x34eb_bf2b_0c8b_dadd,
         0x095b_87f6_f306_1e0a,
+        0x50b8_c06c_a5fb_c750,
     ];
     const LARGE_CHECKS: &[u64] = &[
         0xa6f5_5d97_af13_b392,
         0xe96a_db53_c368_7374,
         0x0ff1_3733_25d6_4632,
+        0x5b14_d33b_47c5_2648,
     ];
 
     #[test]
@@ -82,7 +87,7 @@ mod tests {
             let beginning = format!("{word} ");
             let mut own = lines.clone();
             own.retain(|line| line.starts_with(beginning.as_bytes()));
-            let reached = reached(&own.join(&b'\n'));
+            let reached = reached(&own.join(&b'\n'), MOST_ENTRIES);
             assert_eq!(Vec::from_iter(reached.into_keys()), *numbers, "{word}");
         }
     }
@@ -91,7 +96,7 @@ mod tests {
     fn what_the_large_lines_say() {
         let lines = large();
         let plain = |text: String| text.split(" |").next().unwrap_or("").to_string();
-        let said: Vec<String> = answers(&lines).map(plain).collect();
+        let said: Vec<String> = answers(&lines, MOST_ENTRIES).map(plain).collect();
         let wanted = [
             "0 16384 16384 16384",
             "7 16383 7 0",
@@ -104,6 +109,10 @@ mod tests {
             "17 0 2 0",
             "0 1024 16384 16384",
             "7 16321 7 0",
+            "8 0 16384 0",
+            "7 65535 7 0",
+            "7 65024 7 0",
+            "11 28672 0 0",
         ];
         for text in wanted {
             assert!(said.iter().any(|said| said == text), "{text}");

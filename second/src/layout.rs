@@ -10,12 +10,12 @@ pub const M_AXIS: usize = 7;
 pub const SHARD_SLOTS: usize = 8;
 pub const REPLICA_SLOTS: usize = 4;
 
-const MOST_EXTENT: u64 = 16_384;
+const MOST_EXTENT: u64 = 65_536;
 const LEAST_STRIDE: Number = -65_536;
 const MOST_STRIDE: Number = 65_535;
-const MOST_LENGTH: u64 = 16_384;
-const MOST_CELLS: u64 = 16_384;
-const MOST_ELEMENTS: u64 = 16_384;
+const MOST_LENGTH: u64 = 65_536;
+const MOST_CELLS: u64 = 65_536;
+const MOST_ELEMENTS: u64 = 65_536;
 const MOST_COPIES: u64 = 64;
 
 /// Refusals 1 to 5, 7, 9 to 11 and 17 by name; 6 is the swizzle's.
@@ -599,7 +599,90 @@ mod tests {
         assert_eq!(refused(&card), Some(2));
         card.replica_count = 5;
         assert_eq!(refused(&card), Some(1));
-        assert_eq!(refused(&cards::accumulator()), Some(4));
+    }
+
+    #[test]
+    fn limits_of_extents_and_elements() {
+        let refused = |extents: &[u64]| {
+            let iters = Vec::from_iter(extents.iter().map(|extent| cards::iter(*extent, 0, 7)));
+            cards::card_of(&iters, &[]).refusal().map(|no| no.number)
+        };
+        for extents in [
+            &[65_536][..],
+            &[65_536, 1],
+            &[256, 256],
+            &[255, 257],
+            &[4; 8],
+        ] {
+            assert_eq!(refused(extents), None, "{extents:?}");
+        }
+        for extents in [
+            &[2, 32_769][..],
+            &[65_536, 2],
+            &[65_536, 65_536],
+            &[65_536; 4],
+            &[244, 1_321, 13_325],
+            &[8_192, 2_763, 2_857, 6_529, 43_691],
+        ] {
+            assert_eq!(refused(extents), Some(5), "{extents:?}");
+        }
+        for extents in [&[65_537][..], &[1, 65_537], &[1 << 32], &[u64::MAX]] {
+            assert_eq!(refused(extents), Some(2), "{extents:?}");
+        }
+    }
+
+    #[test]
+    fn limits_of_lengths_and_cells() {
+        let permitted = |lengths: &[u64]| {
+            space_permitted(&std::array::from_fn(|axis| {
+                *lengths.get(axis).unwrap_or(&1)
+            }))
+        };
+        for lengths in [&[65_536][..], &[256, 256], &[255, 257], &[4; 8]] {
+            assert!(permitted(lengths), "{lengths:?}");
+        }
+        for lengths in [
+            &[65_537][..],
+            &[0],
+            &[2, 32_769],
+            &[65_536, 65_536],
+            &[65_536; 4],
+            &[244, 1_321, 13_325],
+            &[8_192, 2_763, 2_857, 6_529, 43_691],
+        ] {
+            assert!(!permitted(lengths), "{lengths:?}");
+        }
+    }
+
+    #[test]
+    fn copies_keep_their_limit() {
+        for (extent, wanted) in [
+            (64, None),
+            (65, Some(5)),
+            (65_536, Some(5)),
+            (65_537, Some(2)),
+        ] {
+            let card = cards::card_of(&[cards::iter(1, 0, 7)], &[cards::iter(extent, 1, 0)]);
+            let card = Card {
+                space: [1; AXES],
+                ..card
+            };
+            assert_eq!(card.refusal().map(|no| no.number), wanted);
+        }
+    }
+
+    #[test]
+    fn the_last_elements_of_large_tiles() {
+        let card = cards::accumulator();
+        assert_eq!(cells(&card, 28_671), Ok(vec![Cell(28_671)]));
+        assert_eq!(cells(&card, 14_336), Ok(vec![Cell(112)]));
+        let mut card = cards::card_of(&[cards::iter(65_536, -1, 7)], &[]);
+        card.offset[M_AXIS] = 65_535;
+        card.space[M_AXIS] = 65_536;
+        assert_eq!(cells(&card, 65_535), Ok(vec![Cell(0)]));
+        assert_eq!(cells(&card, 0), Ok(vec![Cell(65_535)]));
+        card.space[M_AXIS] = 65_535;
+        assert_eq!(cells(&card, 0), Err(Refusal::with(7, 0, 7)));
     }
 
     /// The pair of refusal 17 of copies with these extents, strides and axes.

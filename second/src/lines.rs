@@ -97,12 +97,13 @@ fn question(line: &[u8]) -> Option<(&'static Word, Vec<Number>)> {
     (numbers.len() == word.count).then_some((word, numbers))
 }
 
-/// The answer to one line without its line feed; an empty line gets none.
-pub fn answer_line(line: &[u8]) -> Option<String> {
+/// The answer to one line without its line feed, with so many entries at most
+/// lent to a table; an empty line gets none.
+pub fn answer_line(line: &[u8], most: u64) -> Option<String> {
     if line.is_empty() {
         return None;
     }
-    let answer = question(line).and_then(|(word, numbers)| (word.answer)(&numbers));
+    let answer = question(line).and_then(|(word, numbers)| (word.answer)(&numbers, most));
     Some(match answer {
         Some(answer) => answer.print(),
         None => NO_QUESTION.to_string(),
@@ -110,23 +111,26 @@ pub fn answer_line(line: &[u8]) -> Option<String> {
 }
 
 /// The answers to a whole input, each ending in a line feed.
-pub fn answers(input: &[u8]) -> impl Iterator<Item = String> + '_ {
+pub fn answers(input: &[u8], most: u64) -> impl Iterator<Item = String> + '_ {
     // What follows the last line feed is a line if there is anything in it;
     // if there is nothing it counts as an empty line, which gets no answer.
     input
         .split(|byte| *byte == b'\n')
-        .filter_map(answer_line)
+        .filter_map(move |line| answer_line(line, most))
         .map(|mut text| {
             text.push('\n');
             text
         })
 }
 
+#[cfg(test)]
+use crate::verdict::MOST_ENTRIES;
+
 /// For the tests: a line has this answer.
 #[cfg(test)]
 pub fn says(line: &str, answer: &str) {
     assert_eq!(
-        answer_line(line.as_bytes()).as_deref(),
+        answer_line(line.as_bytes(), MOST_ENTRIES).as_deref(),
         Some(answer),
         "{line}"
     );
@@ -134,10 +138,10 @@ pub fn says(line: &str, answer: &str) {
 
 /// For the tests: how often each number stands in the answers to lines.
 #[cfg(test)]
-pub fn reached(lines: &[u8]) -> std::collections::BTreeMap<u64, u64> {
+pub fn reached(lines: &[u8], most: u64) -> std::collections::BTreeMap<u64, u64> {
     let number = |text: String| text.split(' ').next()?.parse().ok();
     let mut reached = std::collections::BTreeMap::new();
-    for number in answers(lines).filter_map(number) {
+    for number in answers(lines, most).filter_map(number) {
         *reached.entry(number).or_default() += 1;
     }
     reached
@@ -149,7 +153,7 @@ mod tests {
     use crate::loads::random::Random;
 
     fn all(input: &[u8]) -> String {
-        answers(input).collect()
+        answers(input, MOST_ENTRIES).collect()
     }
 
     #[test]
@@ -223,7 +227,8 @@ mod tests {
             b"Swizzle 3 3 3 64",
         ];
         for line in lines {
-            assert_eq!(answer_line(line).as_deref(), Some("?"), "{line:?}");
+            let said = answer_line(line, MOST_ENTRIES);
+            assert_eq!(said.as_deref(), Some("?"), "{line:?}");
         }
     }
 
@@ -253,7 +258,7 @@ mod tests {
         for word in WORDS {
             for _ in 0..2_000 {
                 let numbers: Vec<Number> = (0..word.count).map(|_| random.any_sign()).collect();
-                (word.answer)(&numbers);
+                (word.answer)(&numbers, MOST_ENTRIES);
             }
         }
     }

@@ -6,6 +6,7 @@ pub mod cards;
 mod copies;
 pub mod every;
 mod full;
+mod larger;
 mod limits;
 mod malformed;
 mod minus;
@@ -46,6 +47,9 @@ const MAKERS: &[Maker] = &[
     ("place", |random| asked::place(random, copied_card)),
     ("verdict", |random| asked::verdict(random, copied_card)),
     ("owner", |random| asked::owner(random, copied_card)),
+    ("place", |random| asked::place(random, larger::card)),
+    ("verdict", |random| asked::verdict(random, larger::card)),
+    ("owner", |random| asked::owner(random, larger::card)),
 ];
 
 /// Questions of full size, which would slow the others down.
@@ -101,10 +105,20 @@ pub fn large_block(seed: &[u8], count: u64) -> impl Iterator<Item = Vec<u8>> {
     (0..count).map(move |_| ended(question(&mut random, LARGE).bytes()))
 }
 
+/// Lines by hand and then so many random ones, about more cells than the
+/// programs lend.
+pub fn larger_lines(seed: &[u8], count: u64) -> impl Iterator<Item = Vec<u8>> {
+    let mut random = Random::new(seed_of(seed));
+    let drawn = (0..count).map(move |_| larger::question(&mut random));
+    let all = larger::by_hand().into_iter().chain(drawn);
+    all.map(|question| ended(question.bytes()))
+}
+
 #[cfg(test)]
 mod tests {
     use super::*;
     use crate::lines::{answers, reached};
+    use crate::verdict::MOST_ENTRIES;
     use crate::words::{NUMBERS, WORDS};
 
     fn lines(seed: &str, count: u64) -> Vec<Vec<u8>> {
@@ -123,7 +137,7 @@ mod tests {
     #[test]
     fn random_lines_are_answered() {
         let input = lines("answered", 5_000).concat();
-        assert!(answers(&input).count() > 4_000);
+        assert!(answers(&input, MOST_ENTRIES).count() > 4_000);
     }
 
     #[test]
@@ -133,7 +147,7 @@ mod tests {
             let lines: Vec<Vec<u8>> = block(word.as_bytes(), b"block", 2_000).unwrap().collect();
             assert!(lines.iter().all(|line| line.ends_with(b"\n")));
             assert_eq!(lines.len(), 2_000);
-            let reached = reached(&lines.concat());
+            let reached = reached(&lines.concat(), MOST_ENTRIES);
             assert_eq!(Vec::from_iter(reached.into_keys()), *numbers, "{word}");
         }
         assert!(block(b"hello", b"block", 1).is_none());
@@ -142,8 +156,18 @@ mod tests {
     #[test]
     fn large_blocks_are_approved_and_refused() {
         let lines: Vec<Vec<u8>> = large_block(b"large", 60).collect();
-        let reached = reached(&lines.concat());
+        let reached = reached(&lines.concat(), MOST_ENTRIES);
         let often = |number| reached.get(number).copied().unwrap_or(0) > 1;
         assert!([0, 7, 8].iter().all(often), "{reached:?}");
+    }
+
+    #[test]
+    fn larger_lines_reach_every_number() {
+        let lines: Vec<Vec<u8>> = larger_lines(b"larger", 300).collect();
+        let reached = reached(&lines.concat(), 65_536);
+        assert_eq!(
+            Vec::from_iter(reached.into_keys()),
+            [0, 2, 3, 4, 5, 7, 8, 11, 12, 17]
+        );
     }
 }

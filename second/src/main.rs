@@ -17,8 +17,9 @@ use loads::every;
 use std::env;
 use std::io::{self, BufWriter, Read, Write};
 use std::process::ExitCode;
+use verdict::MOST_ENTRIES;
 
-const USAGE: &str = "usage: second answer
+const USAGE: &str = "usage: second answer [MOST]
        second blocks
        second large
        second exhaustive
@@ -26,13 +27,18 @@ const USAGE: &str = "usage: second answer
        second random SEED COUNT
        second block WORD SEED COUNT
        second block large SEED COUNT
+       second larger SEED COUNT
 ";
 
-/// Answers standard input to its end.
-fn answer(out: &mut impl Write) -> io::Result<()> {
+/// More than this may not be asked for: a line could ask for all of it.
+const MOST_ASKED: u64 = 1 << 20;
+
+/// Answers standard input to its end, with so many entries at most lent to a
+/// table.
+fn answer(out: &mut impl Write, most: u64) -> io::Result<()> {
     let mut input = Vec::new();
     io::stdin().lock().read_to_end(&mut input)?;
-    for text in lines::answers(&input) {
+    for text in lines::answers(&input, most) {
         out.write_all(text.as_bytes())?;
     }
     Ok(())
@@ -48,13 +54,15 @@ fn print(out: &mut impl Write, lines: impl Iterator<Item = Vec<u8>>) -> io::Resu
 /// Does what the arguments ask; none when they ask nothing known.
 fn run(arguments: &[&[u8]], out: &mut impl Write) -> Option<io::Result<()>> {
     Some(match *arguments {
-        [b"answer"] => answer(out),
+        [b"answer"] => answer(out, MOST_ENTRIES),
+        [b"answer", most] => answer(out, number(most).filter(|most| *most <= MOST_ASKED)?),
         [b"blocks"] => out.write_all(&frozen::blocks()),
         [b"large"] => out.write_all(&frozen::large()),
         [b"exhaustive"] => out.write_all(&every::fragments()),
         [b"masks", seed] => out.write_all(&every::masks(seed)),
         [b"random", seed, count] => print(out, loads::random_lines(seed, number(count)?)),
         [b"block", b"large", seed, count] => print(out, loads::large_block(seed, number(count)?)),
+        [b"larger", seed, count] => print(out, loads::larger_lines(seed, number(count)?)),
         [b"block", word, seed, count] => print(out, loads::block(word, seed, number(count)?)?),
         _ => return None,
     })

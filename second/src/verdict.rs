@@ -3,24 +3,25 @@
 //! in the words of document 01.
 
 use crate::layout::{
-    lent_entries, space_permitted, whole_product, Card, Cell, Coordinates, Flat, Refusal, AXES,
+    lent_entries, space_permitted, whole_product, Card, Coordinates, Flat, Refusal, AXES,
     TOO_SHORT, WRONG_AXIS, WRONG_SPACE,
 };
 use crate::lines::{plain, Answer, Number};
-use std::collections::{BTreeMap, BTreeSet};
+use std::collections::BTreeSet;
 
 /// Refusals: two elements share a cell, an asked cell outside the space.
 const CELL_SHARED: u64 = 8;
 const ASKED_OUTSIDE: u64 = 12;
 
-/// The program lends at most so many entries to a table.
-const MOST_ENTRIES: u64 = 16_384;
+/// The programs lend at most so many entries to a table, unless told
+/// otherwise.
+pub const MOST_ENTRIES: u64 = 16_384;
 
 /// The sum of (i + 1) times entry i is printed modulo this.
 const DIGEST_MODULUS: u128 = 4_294_967_291;
 
-/// All elements that have a copy in a cell, for each cell that is anyone's.
-type Holders = BTreeMap<Cell, BTreeSet<Flat>>;
+/// All elements that have a copy in a cell, for each cell.
+type Holders = Vec<BTreeSet<Flat>>;
 
 fn digest(entries: &[u64]) -> u64 {
     let weighed = |(i, entry): (usize, &u64)| (i as u128 + 1) * u128::from(*entry);
@@ -30,10 +31,10 @@ fn digest(entries: &[u64]) -> u64 {
 
 /// Who lies where, or refusal 7 for the smallest flat that lies outside.
 fn holders(card: &Card) -> Result<Holders, Refusal> {
-    let mut holders = Holders::new();
+    let mut holders = vec![BTreeSet::new(); card.cells() as usize];
     for flat in (0..card.elements() as u64).map(Flat) {
         for cell in card.cells_of(flat)? {
-            holders.entry(cell).or_default().insert(flat);
+            holders[cell.0 as usize].insert(flat);
         }
     }
     Ok(holders)
@@ -42,16 +43,16 @@ fn holders(card: &Card) -> Result<Holders, Refusal> {
 /// Refusal 8, if two elements share a cell: y is the smallest flat sharing a
 /// cell with a smaller one, x the smallest it shares with, and the cell the
 /// smallest they share.
-fn clash(holders: &Holders) -> Option<Refusal> {
+fn clash(holders: &[BTreeSet<Flat>]) -> Option<Refusal> {
     let second = |flats: &BTreeSet<Flat>| flats.iter().nth(1).copied();
-    let y = holders.values().filter_map(second).min()?;
-    let with_y = || holders.iter().filter(|(_, flats)| flats.contains(&y));
-    let others = with_y().flat_map(|(_, flats)| flats).filter(|x| **x != y);
-    let x = *others.min()?;
-    let (cell, _) = with_y().find(|(_, flats)| flats.contains(&x))?;
+    let y = holders.iter().filter_map(second).min()?;
+    let with_y = holders.iter().filter(|flats| flats.contains(&y));
+    let x = *with_y.flatten().filter(|x| **x != y).min()?;
+    let both = |flats: &BTreeSet<Flat>| flats.contains(&x) && flats.contains(&y);
+    let cell = holders.iter().position(both)?;
     Some(Refusal {
         number: CELL_SHARED,
-        details: [x.0, y.0, cell.0],
+        details: [x.0, y.0, cell as u64],
     })
 }
 
@@ -67,10 +68,11 @@ fn fill(card: &Card, table: &mut [u64]) -> Result<[u64; 3], Refusal> {
     if let Some(refusal) = clash(&holders) {
         return Err(refusal);
     }
-    for (cell, flats) in &holders {
-        own[cell.0 as usize] = flats.first().map_or(0, |flat| flat.0 + 1);
+    for (entry, flats) in own.iter_mut().zip(&holders) {
+        *entry = flats.first().map_or(0, |flat| flat.0 + 1);
     }
-    Ok([card.elements() as u64, holders.len() as u64, cells])
+    let occupied = holders.iter().filter(|flats| !flats.is_empty()).count();
+    Ok([card.elements() as u64, occupied as u64, cells])
 }
 
 fn verdict(card: &Card, table: &mut [u64]) -> Result<[u64; 3], Refusal> {
@@ -128,27 +130,27 @@ fn printed(result: Result<[u64; 3], Refusal>, digested: &[u64]) -> Answer {
     }
 }
 
-/// A lent table of the last number's length; none beyond the program's limit.
-fn lent_table(numbers: &[u64]) -> Option<Vec<u64>> {
+/// A lent table of the last number's length; none beyond what may be lent.
+fn lent_table(numbers: &[u64], most: u64) -> Option<Vec<u64>> {
     let length = *numbers.last()?;
-    (length <= MOST_ENTRIES).then(|| lent_entries(length))
+    (length <= most).then(|| lent_entries(length))
 }
 
-pub fn answer_verdict(numbers: &[Number]) -> Option<Answer> {
-    let mut table = lent_table(&plain(numbers.get(Card::NUMBERS..)?)?)?;
+pub fn answer_verdict(numbers: &[Number], most: u64) -> Option<Answer> {
+    let mut table = lent_table(&plain(numbers.get(Card::NUMBERS..)?)?, most)?;
     let result = verdict(&Card::of(numbers)?, &mut table);
     Some(printed(result, &table))
 }
 
-pub fn answer_owner(numbers: &[Number]) -> Option<Answer> {
+pub fn answer_owner(numbers: &[Number], most: u64) -> Option<Answer> {
     let rest = plain(numbers.get(Card::NUMBERS..)?)?;
-    let mut table = lent_table(&rest)?;
+    let mut table = lent_table(&rest, most)?;
     let result = owner(&Card::of(numbers)?, rest.first_chunk()?, &mut table);
     Some(printed(result, &table))
 }
 
-pub fn answer_stretch(numbers: &[u64]) -> Option<Answer> {
-    let table = lent_table(numbers)?;
+pub fn answer_stretch(numbers: &[u64], most: u64) -> Option<Answer> {
+    let table = lent_table(numbers, most)?;
     let (space, rest) = numbers.split_first_chunk()?;
     let (axis, rest) = rest.split_first()?;
     let result = stretch(space, *axis, rest.first_chunk()?, table.len() as u64);
@@ -165,7 +167,7 @@ pub fn answer_stretch(numbers: &[u64]) -> Option<Answer> {
 #[cfg(test)]
 mod tests {
     use super::*;
-    use crate::layout::M_AXIS;
+    use crate::layout::{Cell, M_AXIS};
     use crate::lines::answer_line;
     use crate::loads::cards::{self, random_card};
     use crate::loads::random::Random;
@@ -212,8 +214,34 @@ mod tests {
         card.space[M_AXIS] = 73;
         says(&card, "0 65 65 73");
         says(&cards::figure_189(), "8 8 16 8");
-        let refused = verdict(&cards::accumulator(), &mut []);
-        assert_eq!(refused, Err(Refusal::plain(4)));
+    }
+
+    #[test]
+    fn the_accumulator_needs_more_than_the_programs_lend() {
+        let card = cards::accumulator();
+        says(&card, "0 28672 28672 28672");
+        let short = Err(Refusal::with(11, 28_672, 0));
+        for length in [0, 16_384, 28_671] {
+            let mut table = lent_entries(length);
+            assert_eq!(verdict(&card, &mut table), short);
+            assert_eq!(table, lent_entries(length));
+        }
+        let asked = [0, 0, 0, 0, 0, 127, 223, 0];
+        let mut table = lent_entries(28_672);
+        assert_eq!(owner(&card, &asked, &mut table), Ok([28_672, 0, 0]));
+        assert_eq!(owner(&card, &asked, &mut table[1..]), short);
+    }
+
+    #[test]
+    fn what_may_be_lent_is_told() {
+        let line = |length: u64| format!("stretch 1 1 1 1 1 1 1 1 0 0 0 0 0 0 0 0 0 {length}");
+        for most in [0, 1, MOST_ENTRIES, 65_536] {
+            for length in [0, 1, most, most + 1] {
+                let said = answer_line(line(length).as_bytes(), most);
+                let unknown = said.as_deref() == Some("?");
+                assert_eq!(unknown, length > most, "{length} {most}");
+            }
+        }
     }
 
     #[test]
@@ -270,14 +298,16 @@ mod tests {
     #[test]
     fn x_is_the_smallest_shared_with_not_the_one_in_the_smallest_cell() {
         let flats = |flats: &[u64]| flats.iter().copied().map(Flat).collect();
-        let holders = Holders::from([
-            (Cell(4), flats(&[1, 2])),
-            (Cell(5), flats(&[0, 2])),
-            (Cell(6), flats(&[0, 2, 7])),
-        ]);
+        let holders = [
+            flats(&[3]),
+            flats(&[]),
+            flats(&[1, 2]),
+            flats(&[0, 2]),
+            flats(&[0, 2, 7]),
+        ];
         let wanted = Refusal {
             number: 8,
-            details: [0, 2, 5],
+            details: [0, 2, 3],
         };
         assert_eq!(clash(&holders), Some(wanted));
     }
@@ -285,7 +315,8 @@ mod tests {
     #[test]
     fn the_stretch_of_the_page() {
         let says = |line: &str, wanted: &str| {
-            assert_eq!(answer_line(line.as_bytes()).as_deref(), Some(wanted));
+            let said = answer_line(line.as_bytes(), MOST_ENTRIES);
+            assert_eq!(said.as_deref(), Some(wanted));
         };
         says(
             "stretch 1 11 32 1 1 1 1 2 1 0 6 99 0 0 0 0 0 704",

@@ -11,51 +11,52 @@ pub struct Word {
     pub name: &'static str,
     /// How many numbers follow the word.
     pub count: usize,
-    /// The answer to so many numbers; none where one breaks the program's
-    /// own limit or is below zero where it may not be.
-    pub answer: fn(&[Number]) -> Option<Answer>,
+    /// The answer to so many numbers, with so many entries at most lent to a
+    /// table; none where a number breaks the program's own limit or is below
+    /// zero where it may not be.
+    pub answer: fn(&[Number], u64) -> Option<Answer>,
 }
 
 pub const WORDS: &[Word] = &[
     Word {
         name: "swizzle",
         count: 4,
-        answer: |numbers| swizzle::answer_swizzle(&plain(numbers)?),
+        answer: |numbers, _| swizzle::answer_swizzle(&plain(numbers)?),
     },
     Word {
         name: "mode",
         count: 2,
-        answer: |numbers| swizzle::answer_mode(&plain(numbers)?),
+        answer: |numbers, _| swizzle::answer_mode(&plain(numbers)?),
     },
     Word {
         name: "fragment",
         count: 3,
-        answer: |numbers| fragment::answer_fragment(&plain(numbers)?),
+        answer: |numbers, _| fragment::answer_fragment(&plain(numbers)?),
     },
     Word {
         name: "holder",
         count: 4,
-        answer: |numbers| fragment::answer_holder(&plain(numbers)?),
+        answer: |numbers, _| fragment::answer_holder(&plain(numbers)?),
     },
     Word {
         name: "fields",
         count: 1,
-        answer: |numbers| mask::answer_fields(&plain(numbers)?),
+        answer: |numbers, _| mask::answer_fields(&plain(numbers)?),
     },
     Word {
         name: "descriptor",
         count: 13,
-        answer: |numbers| mask::answer_descriptor(&plain(numbers)?),
+        answer: |numbers, _| mask::answer_descriptor(&plain(numbers)?),
     },
     Word {
         name: "mask",
         count: 4,
-        answer: |numbers| mask::answer_mask(&plain(numbers)?),
+        answer: |numbers, _| mask::answer_mask(&plain(numbers)?),
     },
     Word {
         name: "place",
         count: 76,
-        answer: layout::answer_place,
+        answer: |numbers, _| layout::answer_place(numbers),
     },
     Word {
         name: "verdict",
@@ -70,7 +71,7 @@ pub const WORDS: &[Word] = &[
     Word {
         name: "stretch",
         count: 18,
-        answer: |numbers| verdict::answer_stretch(&plain(numbers)?),
+        answer: |numbers, most| verdict::answer_stretch(&plain(numbers)?, most),
     },
 ];
 

@@ -21,16 +21,16 @@ const MOST_SHARD: u64 = 8;
 const MOST_REPLICA: u64 = 4;
 
 // The largest extent, and the least and the largest stride and offset.
-const MOST_EXTENT: u64 = 16384;
+const MOST_EXTENT: u64 = 65536;
 
 const LEAST_STRIDE: i64 = -65536;
 
 const MOST_STRIDE: i64 = 65535;
 
 // The most cells and elements.
-const MOST_CELLS: u64 = 16384;
+const MOST_CELLS: u64 = 65536;
 
-const MOST_ELEMENTS: u64 = 16384;
+const MOST_ELEMENTS: u64 = 65536;
 
 // Whether the numbers from one place up to another all lie within the limits.
 fn all_within(numbers: &[u64], from: usize, end: usize, least: u64, most: u64) -> bool

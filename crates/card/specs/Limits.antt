@@ -1,4 +1,4 @@
--- Document 01's limits of a layout card, each named once.
+-- The limits of a layout card, each named once: those of document 01, moved by requests 4 and 6 of document 02.
 use Prim.Native.Nat.{ℕ}
 use lib.IntN.{ℤ, pos, negℤ}
 
@@ -9,9 +9,9 @@ mostShard = 8
 abbrev pub mostReplica : ℕ
 mostReplica = 4
 
--- extents 1 to 16,384
+-- extents 1 to 65,536
 abbrev pub mostExtent : ℕ
-mostExtent = 16384
+mostExtent = 65536
 
 -- strides and offsets -65,536 to 65,535
 abbrev pub leastStride : ℤ
@@ -24,16 +24,16 @@ mostStride = pos 65535
 abbrev pub lastAxis : ℕ
 lastAxis = 7
 
--- one length per axis, 1 to 16,384; the product (the cells) at most 16,384
+-- one length per axis, 1 to 65,536; the product (the cells) at most 65,536
 abbrev pub mostLength : ℕ
-mostLength = 16384
+mostLength = 65536
 
 abbrev pub mostCells : ℕ
-mostCells = 16384
+mostCells = 65536
 
--- the product of shard extents at most 16,384, of replica extents at most 64
+-- the product of shard extents at most 65,536, of replica extents at most 64
 abbrev pub mostElements : ℕ
-mostElements = 16384
+mostElements = 65536
 
 abbrev pub mostCopies : ℕ
 mostCopies = 64

@@ -6,7 +6,7 @@ use swizzle::Swizzle;
 pub const LAST_AXIS: u64 = 7;
 
 // The largest length of an axis, and the most copies.
-pub const MOST_LENGTH: u64 = 16384;
+pub const MOST_LENGTH: u64 = 65536;
 
 pub const MOST_COPIES: u64 = 64;
 

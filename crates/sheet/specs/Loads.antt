@@ -2,14 +2,14 @@
 -- does, as for a written descriptor's number, a placement of 004's formula and the stretches, it follows from their rules by hand.
 use Prim.Native.Nat.{ℕ}
 use mathlib.Core.Bool.{Bool, true, false}
-use mathlib.Core.List.{List, [], _∷_}
+use mathlib.Core.List.{List, [], _∷_, _++_}
 use lib.IntN.{pos, negℤ}
 use lib.ListN.{replicate}
 use Rattle.answers.specs.Refusals.{answer}
 use Rattle.descriptor.specs.Descriptor.{descriptorOf}
 use Rattle.descriptor.specs.declared.Fields.{Fields}
 use Rattle.sheet.specs.Questions.{Question, swizzle, mode, fragment, descriptor, mask, place, verdict, owner, stretch, Reply, reply}
-use Rattle.sheet.specs.Cards.{tuple, tile, tileX, unswizzled, onM, atM, backwards, lastRowFirst, copiesBack, _by_on_, _back_on_, m, wideTile, doubled, copied, bothSides, scaleFactors, sixtyFive, figure189}
+use Rattle.sheet.specs.Cards.{tuple, tile, tileX, unswizzled, onM, atM, backwards, lastRowFirst, copiesBack, _by_on_, _back_on_, m, TLane, inTensorMemory, wideTile, doubled, copied, bothSides, scaleFactors, sixtyFive, figure189}
 use Rattle.sheet.specs.Cards.{swizzle as swizzleBy}
 
 pub record Load : Type 0 where
@@ -118,8 +118,10 @@ loads =
     ∷ (element128 1 0 is reply (answer 0 1 0 0) (72 ∷ []))
     ∷ (element128 7 0 is reply (answer 0 1 0 0) (504 ∷ []))
     ∷ (element128 3 21 is reply (answer 0 1 0 0) (205 ∷ []))
-    -- source document 004's accumulator of 224 columns has too many cells
-    ∷ (place wideTile (tuple (2 ∷ 128 ∷ 112 ∷ [])) (tuple (1 ∷ 127 ∷ 111 ∷ [])) (1000000 ∷ []) is reply (answer 4 0 0 0) (1000000 ∷ []))
+    -- source document 004's accumulator of 224 columns: its last element
+    ∷ (place wideTile (tuple (2 ∷ 128 ∷ 112 ∷ [])) (tuple (1 ∷ 127 ∷ 111 ∷ [])) (1000000 ∷ []) is reply (answer 0 1 0 0) (28671 ∷ []))
+    -- the last of 65,536
+    ∷ (place (onM (65536 by 1 on m ∷ []) 65536 unswizzled) (tuple (65536 ∷ [])) (tuple (65535 ∷ [])) (1000000 ∷ []) is reply (answer 0 1 0 0) (65535 ∷ []))
     -- verdicts: tile X, with warpid 10, with replica stride 1
     ∷ (verdict tileX (table 704) is reply (answer 0 128 256 704) [])
     ∷ (verdict (tile 10 4) (table 704) is reply (answer 7 8 1 0) [])
@@ -171,18 +173,30 @@ loads =
     ∷ (verdict (atM (pos 65536) 65 unswizzled) (table 65) is reply (answer 2 0 0 0) [])
     -- Figure 189's layout
     ∷ (verdict figure189 (table 256) is reply (answer 8 8 16 8) [])
-    -- the accumulator of 224 columns: 28,672 cells
-    ∷ (verdict wideTile [] is reply (answer 4 0 0 0) [])
-    -- the stretch of tile X's table under warpid 6; a table one entry too short; warpid 11, judged before the table; too many cells
+    -- the accumulator of 224 columns: 28,672 cells, more than are lent
+    ∷ (verdict wideTile (table 704) is reply (answer 11 28672 0 0) [])
+    -- limits of document 02, at each and past it: an extent, a length, the cells, the elements; a product of 2^32
+    ∷ (verdict (onM (65536 by 0 on m ∷ []) 1 unswizzled) [] is reply (answer 11 1 0 0) [])
+    ∷ (verdict (onM (65537 by 0 on m ∷ []) 1 unswizzled) [] is reply (answer 2 0 0 0) [])
+    ∷ (verdict (onM (1 by 0 on m ∷ []) 65536 unswizzled) [] is reply (answer 11 65536 0 0) [])
+    ∷ (verdict (onM (1 by 0 on m ∷ []) 65537 unswizzled) [] is reply (answer 4 0 0 0) [])
+    ∷ (verdict (inTensorMemory (1 by 0 on TLane ∷ []) [] 256 256) [] is reply (answer 11 65536 0 0) [])
+    ∷ (verdict (inTensorMemory (1 by 0 on TLane ∷ []) [] 256 257) [] is reply (answer 4 0 0 0) [])
+    ∷ (verdict (inTensorMemory (1 by 0 on TLane ∷ []) [] 65536 65536) [] is reply (answer 4 0 0 0) [])
+    ∷ (verdict (onM (32768 by 0 on m ∷ 2 by 0 on m ∷ []) 1 unswizzled) [] is reply (answer 11 1 0 0) [])
+    ∷ (verdict (onM (32769 by 0 on m ∷ 2 by 0 on m ∷ []) 1 unswizzled) [] is reply (answer 5 0 0 0) [])
+    ∷ (verdict (onM (65536 by 0 on m ∷ 65536 by 0 on m ∷ []) 1 unswizzled) [] is reply (answer 5 0 0 0) [])
+    -- the stretch of tile X's table under warpid 6; a table one entry too short; warpid 11, judged before the table; 28,672 and 65,536 cells
+    -- that are not lent, too many cells
     ∷ (stretch (tileX .lengths) 1 (0 ∷ 6 ∷ 99 ∷ 0 ∷ 0 ∷ 0 ∷ 0 ∷ 0 ∷ []) (table 704) is reply (answer 0 384 64 0) (replicate 64 1000000))
     ∷ (stretch (tileX .lengths) 1 (0 ∷ 6 ∷ 99 ∷ 0 ∷ 0 ∷ 0 ∷ 0 ∷ 0 ∷ []) (table 703) is reply (answer 11 704 0 0) [])
     ∷ (stretch (tileX .lengths) 1 (0 ∷ 11 ∷ 99 ∷ 0 ∷ 0 ∷ 0 ∷ 0 ∷ 0 ∷ []) [] is reply (answer 12 1 0 0) [])
-    ∷ (stretch (wideTile .lengths) 0 (replicate 8 0) [] is reply (answer 4 0 0 0) [])
-    -- the rows of document 01's refusal table that no load above meets: no iter, an extent above its limit, an axis above 7, too many elements
+    ∷ (stretch (wideTile .lengths) 0 (replicate 8 0) [] is reply (answer 11 28672 0 0) [])
+    ∷ (stretch (replicate 7 1 ++ 65536 ∷ []) 0 (replicate 8 0) [] is reply (answer 11 65536 0 0) [])
+    ∷ (stretch (replicate 7 1 ++ 65537 ∷ []) 0 (replicate 8 0) [] is reply (answer 4 0 0 0) [])
+    -- the rows of document 01's refusal table that no load above meets: no iter, an axis above 7
     ∷ (verdict (onM [] 1 unswizzled) [] is reply (answer 1 0 0 0) [])
-    ∷ (verdict (onM (16385 by 0 on m ∷ []) 1 unswizzled) [] is reply (answer 2 0 0 0) [])
     ∷ (verdict (onM (1 by 0 on 8 ∷ []) 1 unswizzled) [] is reply (answer 3 0 0 0) [])
-    ∷ (verdict (onM (16384 by 0 on m ∷ 2 by 0 on m ∷ []) 1 unswizzled) [] is reply (answer 5 0 0 0) [])
     -- a shape of other than the elements, a coordinate that equals its dimension
     ∷ (place tileX (tuple (8 ∷ 15 ∷ [])) (tuple (0 ∷ 0 ∷ [])) [] is reply (answer 9 0 0 0) [])
     ∷ (place tileX (tuple (8 ∷ 16 ∷ [])) (tuple (8 ∷ 0 ∷ [])) [] is reply (answer 10 0 0 0) [])

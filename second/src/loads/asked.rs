@@ -130,7 +130,7 @@ fn table_length(random: &mut Random, cells: u128) -> u64 {
 }
 
 /// Coordinates in a space, mostly inside it.
-fn random_asked(random: &mut Random, space: &[u64; AXES]) -> Coordinates {
+pub fn random_asked(random: &mut Random, space: &[u64; AXES]) -> Coordinates {
     let mut asked = space.map(|length| random.below(length));
     let at = random.index(AXES);
     match random.below(12) {
@@ -158,7 +158,7 @@ pub fn owner(random: &mut Random, make: MakeCard) -> Vec<Number> {
 /// Lengths of a space: a few axes of some length, sometimes too many cells.
 fn random_space(random: &mut Random) -> [u64; AXES] {
     let mut space = [1; AXES];
-    let mut room = 1u64 << random.between(0, 14);
+    let mut room = 1u64 << random.between(0, 16);
     for _ in 0..random.between(1, 8) {
         let length = random.between(1, room.min(40));
         space[random.index(AXES)] = length;

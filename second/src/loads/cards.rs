@@ -281,7 +281,7 @@ pub fn figure_189() -> Card {
     card
 }
 
-/// The 224-column accumulator, which has too many cells.
+/// The 224-column accumulator, which has more cells than the programs lend.
 pub fn accumulator() -> Card {
     card_of(&[iter(2, 112, 6), iter(128, 1, 5), iter(112, 1, 6)], &[])
 }
@@ -362,8 +362,8 @@ fn nudge(random: &mut Random, card: &mut Card) {
     }
 }
 
-/// Factors of 16,384 and of 65,536, of a little more, and of numbers that
-/// would wrap to something small in 32 or in 64 bits.
+/// Factors of 16,384 and of 65,536, of a little less or more, and of numbers
+/// that would wrap to something small in 32 or in 64 bits.
 fn large_factors(random: &mut Random) -> Vec<u64> {
     let factors = random.pick(&[
         &[16_384, 1][..],
@@ -374,6 +374,10 @@ fn large_factors(random: &mut Random) -> Vec<u64> {
         &[2, 16_384],
         &[65_536],
         &[256, 256],
+        &[4, 16_384],
+        &[2, 32_768],
+        &[255, 257],
+        &[2, 32_769],
         &[18, 3_641],
         &[6, 10_923],
         &[2, 65_536],
@@ -381,6 +385,8 @@ fn large_factors(random: &mut Random) -> Vec<u64> {
         &[16_384, 16_384, 16],
         &[16_384, 16_384, 17],
         &[65_536; 2],
+        &[244, 1_321, 13_325],
+        &[8_192, 2_763, 2_857, 6_529, 43_691],
         &[16_384, 16_384, 16_384, 16_384, 256],
         &[65_536; 4],
         &[16_384, 16_384, 16_384, 16_384, 16_384, 4],
@@ -497,6 +503,16 @@ mod tests {
         assert_eq!(scale_factors().space, [1, 1, 1, 1, 1, 128, 4, 1]);
         assert_eq!(accumulator().cells(), 28_672);
         assert_eq!(figure_189().elements(), 256);
+    }
+
+    #[test]
+    fn these_factors_wrap_to_something_permitted() {
+        assert_eq!(244u32.wrapping_mul(1_321).wrapping_mul(13_325), 4);
+        let factors = [8_192u64, 2_763, 2_857, 6_529, 43_691];
+        assert_eq!(
+            factors.iter().fold(1, |p: u64, n| p.wrapping_mul(*n)),
+            8_192
+        );
     }
 
     #[test]

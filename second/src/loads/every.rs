@@ -88,6 +88,7 @@ pub fn masks(seed: &[u8]) -> Vec<u8> {
 mod tests {
     use super::*;
     use crate::lines::answers;
+    use crate::verdict::MOST_ENTRIES;
 
     /// How many of the answers begin so.
     fn said(answers: &[String], beginning: &str) -> usize {
@@ -98,7 +99,7 @@ mod tests {
     #[test]
     fn every_fragment_is_asked_for_both_ways() {
         let lines = fragments();
-        let all: Vec<String> = answers(&lines).collect();
+        let all: Vec<String> = answers(&lines, MOST_ENTRIES).collect();
         assert_eq!(all.len(), 10 * 33 * 9 + 10 * 5 * 9 * 9);
         let held = 4 * 128 + 2 * 256 + 2 * 32 + 64;
         let (forth, back) = all.split_at(10 * 33 * 9);
@@ -109,7 +110,7 @@ mod tests {
     #[test]
     fn every_mask_is_asked_for() {
         let lines = masks(b"masks");
-        let all: Vec<String> = answers(&lines).collect();
+        let all: Vec<String> = answers(&lines, MOST_ENTRIES).collect();
         let (every, rest) = all.split_at(3 * 32 * 65);
         let (shifts, further) = rest.split_at(3 * 64 * 3);
         let short: usize = (1..=32).map(|bytes| 3 * bytes).sum();

@@ -21,36 +21,45 @@ fn dealt(random: &mut Random, bits: u64, iters: usize) -> Vec<u64> {
     widths
 }
 
-/// The bits of a table's index go to the iters of shard and replica in any
-/// order, some of them turned round.
-fn bit_tile(random: &mut Random) -> Card {
-    let bits = u64::from(LENT_TABLE.ilog2());
-    let copies = random.below(7);
-    let shard = dealt(random, bits - copies, SHARD_SLOTS);
-    let replica = dealt(random, copies, REPLICA_SLOTS);
-    let shard = shard.into_iter().map(|width| (width, false));
-    let replica = replica.into_iter().map(|width| (width, true));
-    let mut widths: Vec<(u64, bool)> = shard.chain(replica).collect();
-    shuffle(random, &mut widths);
+/// A tile without gaps: the iters of shard and replica, in any order, count
+/// through some axes, some of them turned round.
+pub fn tile(random: &mut Random, shard: &[u64], replica: &[u64]) -> Card {
+    let shard = shard.iter().map(|extent| (*extent, false));
+    let replica = replica.iter().map(|extent| (*extent, true));
+    let mut extents: Vec<(u64, bool)> = shard.chain(replica).collect();
+    shuffle(random, &mut extents);
 
     let axes = random_axes(random);
     let mut reached = [1; AXES];
     let (mut shard, mut replica) = (Vec::new(), Vec::new());
-    for (width, copied) in widths {
+    for (extent, copied) in extents {
         let axis = random.pick(&axes);
         let stride: u64 = reached[axis as usize];
-        reached[axis as usize] <<= width;
+        reached[axis as usize] *= extent;
         let iters = if copied { &mut replica } else { &mut shard };
-        iters.push(iter(1 << width, stride, axis));
+        iters.push(iter(extent, stride, axis));
     }
     let mut card = card_of(&shard, &replica);
     turn_some(random, &mut card, 2);
     card
 }
 
-/// A tile under a swizzle that keeps its memory; one in three is wrong.
-fn full_card(random: &mut Random) -> Card {
-    let mut card = bit_tile(random);
+/// The bits of the index of so large a table go to the iters of shard and
+/// replica.
+pub fn bit_tile(random: &mut Random, cells: u64) -> Card {
+    let copies = random.below(7);
+    let bits = u64::from(cells.ilog2()) - copies;
+    let mut extents = |bits: u64, slots: usize| -> Vec<u64> {
+        let widths = dealt(random, bits, slots);
+        widths.into_iter().map(|width| 1 << width).collect()
+    };
+    let (shard, replica) = (extents(bits, SHARD_SLOTS), extents(copies, REPLICA_SLOTS));
+    tile(random, &shard, &replica)
+}
+
+/// The tile under a swizzle, which keeps its memory if that is a power of
+/// two; one in three is wrong.
+pub fn finished(random: &mut Random, mut card: Card) -> Card {
     let bits = u64::from(card.space[M_AXIS].ilog2());
     let b = random.between(0, MOST_B.min(bits));
     card.swizzle = Swizzle {
@@ -64,6 +73,11 @@ fn full_card(random: &mut Random) -> Card {
         _ => {}
     }
     card
+}
+
+fn full_card(random: &mut Random) -> Card {
+    let card = bit_tile(random, LENT_TABLE);
+    finished(random, card)
 }
 
 pub fn verdict(random: &mut Random) -> Vec<Number> {
@@ -85,9 +99,10 @@ mod tests {
     fn tiles_are_full() {
         let mut random = Random::new(16);
         for _ in 0..200 {
-            let card = bit_tile(&mut random);
-            assert_eq!(card.elements() * card.copies(), LENT_TABLE.into());
-            assert_eq!(card.cells(), LENT_TABLE.into());
+            let cells = random.pick(&[LENT_TABLE, 65_536]);
+            let card = bit_tile(&mut random, cells);
+            assert_eq!(card.elements() * card.copies(), cells.into());
+            assert_eq!(card.cells(), cells.into());
             assert_eq!(card.admitted(), Ok(()));
         }
     }

@@ -31,6 +31,9 @@ pub const SHIFTS: &[u64] = &[16, 32];
 pub const LENT_CELLS: u64 = 64;
 pub const LENT_TABLE: u64 = 16_384;
 
+/// What a caller of the library may have to lend.
+pub const LARGEST_TABLE: u64 = 65_536;
+
 /// The bytes of a line.
 pub const LINE: usize = 4_096;
 

@@ -80,6 +80,7 @@ mod tests {
     use crate::lines::{answer_line, NO_QUESTION};
     use crate::loads::cards::tile_x;
     use crate::loads::signed::turn_some;
+    use crate::verdict::MOST_ENTRIES;
 
     /// A question of each word that has neither strides nor offsets.
     const PLAIN: &[&str] = &[
@@ -117,7 +118,7 @@ mod tests {
     }
 
     fn unknown(line: &[u8]) -> bool {
-        answer_line(line).as_deref() == Some(NO_QUESTION)
+        answer_line(line, MOST_ENTRIES).as_deref() == Some(NO_QUESTION)
     }
 
     #[test]

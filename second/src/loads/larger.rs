@@ -1,0 +1,375 @@
+//! Questions about more cells than the programs lend, up to the largest table:
+//! those on both sides of each limit by hand, then random ones.
+
+use super::asked::random_asked;
+use super::cards::{accumulator, card_of, iter};
+use super::full::{bit_tile, finished, tile};
+use super::limits::{LARGEST_TABLE, LENT_TABLE};
+use super::malformed::Question;
+use super::random::Random;
+use crate::layout::{whole_product, Card, Coordinates, Iter, AXES, M_AXIS, SHARD_SLOTS};
+use crate::lines::whole;
+use crate::swizzle::Swizzle;
+
+type Asked = Question<'static>;
+
+/// All the cells that a space can have.
+const ALL: u64 = LARGEST_TABLE;
+
+fn verdict(card: &Card, length: u64) -> Asked {
+    let numbers = [card.numbers(), whole(&[length])].concat();
+    Question::new("verdict", &numbers)
+}
+
+fn owner(card: &Card, asked: &Coordinates, length: u64) -> Asked {
+    let numbers = [card.numbers(), whole(asked), whole(&[length])].concat();
+    Question::new("owner", &numbers)
+}
+
+fn stretch(space: &[u64; AXES], axis: u64, asked: &Coordinates, length: u64) -> Asked {
+    let numbers = [&space[..], &[axis], asked, &[length]].concat();
+    Question::new("stretch", &numbers)
+}
+
+/// The last cell of a space.
+fn last(space: &[u64; AXES]) -> Coordinates {
+    space.map(|length| length - 1)
+}
+
+/// The card on m alone, in so many cells.
+fn on_m(shard: &[Iter], replica: &[Iter], offset: i32, cells: u64) -> Card {
+    let mut card = card_of(shard, replica);
+    card.offset[M_AXIS] = offset.into();
+    card.space = [1; AXES];
+    card.space[M_AXIS] = cells;
+    card
+}
+
+fn accumulators() -> Vec<Asked> {
+    let card = accumulator();
+    vec![
+        verdict(&card, 28_672),
+        verdict(&card, ALL),
+        verdict(&card, 28_671),
+        owner(&card, &last(&card.space), 28_672),
+        owner(&card, &last(&card.space), 28_671),
+    ]
+}
+
+/// As many elements and cells as there may be, on one axis or several.
+fn full_tiles() -> Vec<Card> {
+    let mut swizzled = card_of(&[iter(2, 32_768, 7), iter(32_768, 1, 7)], &[]);
+    swizzled.swizzle = Swizzle { m: 4, b: 3, s: 3 };
+    vec![
+        card_of(&[iter(65_536, 1, 7)], &[]),
+        card_of(&[iter(65_536, 1, 0)], &[]),
+        on_m(&[iter(65_536, -1, 7)], &[], 65_535, ALL),
+        card_of(&[iter(256, 256, 7), iter(256, 1, 7)], &[]),
+        card_of(&[iter(256, 1, 5), iter(256, 1, 6)], &[]),
+        card_of(
+            &std::array::from_fn::<_, 8, _>(|axis| iter(4, 1, axis as u64)),
+            &[],
+        ),
+        swizzled,
+    ]
+}
+
+/// Cards that are refused by 2, 4 or 5, each beside a limit.
+fn beyond_a_limit() -> Vec<Card> {
+    let one = || on_m(&[iter(1, 0, 7)], &[], 0, ALL);
+    let of = |extents: &[u64]| {
+        let shard: Vec<Iter> = extents.iter().map(|extent| iter(*extent, 0, 7)).collect();
+        on_m(&shard, &[], 0, ALL)
+    };
+    let within = |lengths: &[u64]| {
+        let mut card = one();
+        card.space = std::array::from_fn(|axis| lengths.get(axis).copied().unwrap_or(1));
+        card
+    };
+    vec![
+        of(&[65_537]),
+        on_m(&[iter(1, 0, 7)], &[iter(65_537, 0, 7)], 0, ALL),
+        on_m(&[iter(65_536, 1, 7)], &[], 0, 65_537),
+        within(&[2, 32_769]),
+        within(&[65_536, 65_536]),
+        within(&[65_536; 4]),
+        within(&[244, 1_321, 13_325]),
+        within(&[8_192, 2_763, 2_857, 6_529, 43_691]),
+        of(&[2, 32_769]),
+        of(&[65_536, 65_536]),
+        of(&[65_536; 4]),
+        of(&[244, 1_321, 13_325]),
+        of(&[8_192, 2_763, 2_857, 6_529, 43_691]),
+        on_m(&[iter(1, 0, 7)], &[iter(65, 1, 7)], 0, ALL),
+        on_m(&[iter(1, 0, 7)], &[iter(65_536, 1, 7)], 0, ALL),
+    ]
+}
+
+/// Cards with many copies, and cards whose first fault comes late.
+fn copies_and_faults() -> Vec<Card> {
+    let sixty_four = [iter(4, 16_384, 7), iter(4, 1_024, 7), iter(4, 4_096, 7)];
+    vec![
+        on_m(&[iter(1_024, 1, 7)], &[iter(64, 1_024, 7)], 0, ALL),
+        on_m(&[iter(1_024, -1, 7)], &sixty_four, 1_023, ALL),
+        on_m(&[iter(1_024, 64, 7)], &[iter(64, -1, 7)], 63, ALL),
+        on_m(&[iter(1_024, 1, 7)], &[iter(64, 1_023, 7)], 0, ALL),
+        on_m(&[iter(255, 257, 7), iter(257, 1, 7)], &[], 0, 65_535),
+        on_m(&[iter(2, 65_535, 7)], &[], 0, ALL),
+        on_m(&[iter(65_536, 1, 7)], &[], 0, 65_535),
+        on_m(&[iter(65_536, -1, 7)], &[], 65_534, ALL),
+        met_late(32_768, 7),
+        crossing(181, 7),
+        on_m(
+            &[iter(1_024, 1, 7), iter(64, 0, 7)],
+            &[iter(64, 1_024, 7)],
+            0,
+            ALL,
+        ),
+    ]
+}
+
+/// The second copy of the first element lies where the last element does.
+fn met_late(extent: u64, axis: u64) -> Card {
+    card_of(
+        &[iter(extent, 1, axis)],
+        &[iter(2, extent as i64 - 1, axis)],
+    )
+}
+
+/// One way back and one way forth, of lengths that meet nowhere but at the
+/// end of both.
+fn crossing(extent: u64, axis: u64) -> Card {
+    let back = extent as i64 - 2;
+    let mut card = card_of(
+        &[iter(extent, -back, axis), iter(extent, back + 1, axis)],
+        &[],
+    );
+    card.offset[axis as usize] = (back * (back + 1)).into();
+    card.space[axis as usize] = ((back + 1) * (2 * back + 1) + 1) as u64;
+    card
+}
+
+fn stretches() -> Vec<Asked> {
+    let of = |lengths: [u64; 3]| {
+        let [pid, lane, m] = lengths;
+        [pid, 1, 1, 1, 1, lane, 1, m]
+    };
+    let (all, square) = (of([1, 1, 65_536]), of([1, 256, 256]));
+    let first = [0; AXES];
+    vec![
+        stretch(&all, 0, &first, ALL),
+        stretch(&all, 7, &last(&all), ALL),
+        stretch(&all, 0, &first, ALL - 1),
+        stretch(&all, 7, &all, ALL),
+        stretch(&square, 4, &first, ALL),
+        stretch(&square, 5, &last(&square), ALL),
+        stretch(&of([65_536, 1, 1]), 0, &last(&of([65_536, 1, 1])), ALL),
+        stretch(&of([1, 128, 224]), 5, &last(&of([1, 128, 224])), 28_672),
+        stretch(&of([1, 1, 65_537]), 0, &first, ALL),
+        stretch(&of([2, 1, 32_769]), 0, &first, ALL),
+        stretch(&of([1, 65_536, 65_536]), 0, &first, ALL),
+        stretch(&of([244, 1_321, 13_325]), 0, &first, ALL),
+    ]
+}
+
+pub fn by_hand() -> Vec<Asked> {
+    let full = full_tiles();
+    let enough = full.iter().map(|card| verdict(card, ALL));
+    let short = full.iter().map(|card| verdict(card, ALL - 1));
+    let owners = full.iter().map(|card| owner(card, &last(&card.space), ALL));
+    let beyond = beyond_a_limit().into_iter().map(|card| verdict(&card, ALL));
+    let others = copies_and_faults();
+    let others = others.iter().map(|card| verdict(card, ALL));
+    let questions = accumulators().into_iter().chain(enough).chain(short);
+    let questions = questions.chain(owners).chain(beyond).chain(others);
+    questions.chain(stretches()).collect()
+}
+
+/// So many sizes whose product with a number lies above what the programs
+/// lend and not above the largest table.
+fn sizes(random: &mut Random, count: usize, times: u64) -> Vec<u64> {
+    let mut sizes = vec![1; count];
+    let mut product = times;
+    while product <= LENT_TABLE {
+        let factor = random.pick(&[2, 2, 2, 3, 5, 7, 11]);
+        if product * factor <= ALL {
+            product *= factor;
+            sizes[random.index(count)] *= factor;
+        }
+    }
+    sizes
+}
+
+/// A tile of some extents with some copies.
+fn mixed_tile(random: &mut Random) -> Card {
+    let replica = random.pick(&[
+        &[][..],
+        &[2],
+        &[3],
+        &[64],
+        &[3, 2],
+        &[7, 9],
+        &[4, 4, 4],
+        &[2, 8, 2, 2],
+    ]);
+    let count = random.index(SHARD_SLOTS) + 1;
+    let shard = sizes(random, count, replica.iter().product());
+    tile(random, &shard, replica)
+}
+
+/// A card with more cells than the programs lend, mostly.
+pub fn card(random: &mut Random) -> Card {
+    let axis = random.below(AXES as u64);
+    match random.below(12) {
+        0..=3 => {
+            let cells = random.pick(&[32_768, 65_536]);
+            let card = bit_tile(random, cells);
+            finished(random, card)
+        }
+        4..=7 => {
+            let card = mixed_tile(random);
+            finished(random, card)
+        }
+        8 => met_late(random.between(8_193, 32_768), axis),
+        9 => crossing(random.between(92, 181), axis),
+        _ => {
+            // The last elements lie outside.
+            let mut card = mixed_tile(random);
+            let longest = card.space.iter_mut().max();
+            longest.into_iter().for_each(|length| *length -= 1);
+            card
+        }
+    }
+}
+
+/// A length for so many cells: enough, mostly.
+fn lent(random: &mut Random, cells: u128) -> u64 {
+    let cells = cells.min(ALL.into()) as u64;
+    let length = match random.below(12) {
+        0..=6 => cells,
+        7 | 8 => cells + random.below(4),
+        9 => ALL,
+        10 => random.around(cells),
+        _ => random.pick(&[0, LENT_TABLE, LENT_TABLE + 1, cells / 2, ALL - 1]),
+    };
+    length.min(ALL)
+}
+
+fn random_stretch(random: &mut Random) -> Asked {
+    let mut space: [u64; AXES] = [1; AXES];
+    space.copy_from_slice(&sizes(random, AXES, 1));
+    let axis = random.index(AXES);
+    match random.below(16) {
+        0 => space[axis] = random.around(ALL),
+        1 => space[axis] *= 2,
+        _ => {}
+    }
+    let asked = random_asked(random, &space);
+    let length = lent(random, whole_product(&space));
+    // Now and then the axis may be one too many.
+    let axes = AXES as u64 + u64::from(random.once_in(4));
+    let axis = random.below(axes);
+    stretch(&space, axis, &asked, length)
+}
+
+/// A random question; all of them may be answered.
+pub fn question(random: &mut Random) -> Asked {
+    if random.once_in(4) {
+        return random_stretch(random);
+    }
+    let card = card(random);
+    let length = lent(random, card.cells());
+    if random.once_in(3) {
+        let asked = random_asked(random, &card.space);
+        return owner(&card, &asked, length);
+    }
+    verdict(&card, length)
+}
+
+#[cfg(test)]
+mod tests {
+    use super::*;
+    use crate::lines::answer_line;
+
+    fn said(question: &Asked) -> String {
+        let text = answer_line(&question.bytes(), ALL).unwrap_or_default();
+        text.split(" |").next().unwrap_or("").to_string()
+    }
+
+    fn all_say(cards: &[Card], length: u64, wanted: &str) {
+        for card in cards {
+            assert_eq!(said(&verdict(card, length)), wanted, "{card:?}");
+        }
+    }
+
+    #[test]
+    fn what_is_said_by_hand() {
+        let accumulators: Vec<String> = accumulators().iter().map(said).collect();
+        let (approved, short) = ("0 28672 28672 28672", "11 28672 0 0");
+        let owner = "0 28672 0 0";
+        assert_eq!(accumulators, [approved, approved, short, owner, short]);
+        all_say(&full_tiles(), ALL, "0 65536 65536 65536");
+        all_say(&full_tiles(), ALL - 1, "11 65536 0 0");
+        let beyond = beyond_a_limit();
+        all_say(&beyond[..2], ALL, "2 0 0 0");
+        all_say(&beyond[2..8], ALL, "4 0 0 0");
+        all_say(&beyond[8..], ALL, "5 0 0 0");
+        let others = copies_and_faults();
+        all_say(&others[..3], ALL, "0 1024 65536 65536");
+        all_say(&others[3..4], ALL, "8 0 1023 1023");
+        all_say(&others[4..5], ALL, "0 65535 65535 65535");
+        all_say(&others[5..6], ALL, "0 2 2 65536");
+        all_say(&others[6..8], ALL, "7 65535 7 0");
+        all_say(&others[8..9], ALL, "8 0 32767 32767");
+        all_say(&others[9..10], ALL, "8 0 32759 32220");
+        all_say(&others[10..], ALL, "8 0 1 0");
+    }
+
+    #[test]
+    fn what_is_said_to_stretches() {
+        let said: Vec<String> = stretches().iter().map(said).collect();
+        let wanted = [
+            "0 0 65536 0",
+            "0 65535 1 0",
+            "11 65536 0 0",
+            "12 0 0 0",
+            "0 0 65536 0",
+            "0 65280 256 0",
+            "0 65535 1 0",
+            "0 28448 224 0",
+            "4 0 0 0",
+            "4 0 0 0",
+            "4 0 0 0",
+            "4 0 0 0",
+        ];
+        assert_eq!(said, wanted);
+    }
+
+    #[test]
+    fn faults_come_late() {
+        let refused = |card: Card| said(&verdict(&card, ALL));
+        for (extent, axis) in [(8_193, 0), (20_000, 5), (32_768, 7)] {
+            let last = extent - 1;
+            assert_eq!(
+                refused(met_late(extent, axis)),
+                format!("8 0 {last} {last}")
+            );
+        }
+        for extent in [92, 100, 181] {
+            let (y, cell) = (extent * extent - 2, (extent - 1) * (extent - 2));
+            assert_eq!(refused(crossing(extent, 3)), format!("8 0 {y} {cell}"));
+        }
+    }
+
+    #[test]
+    fn tiles_are_larger_than_what_is_lent() {
+        let mut random = Random::new(17);
+        for _ in 0..200 {
+            let card = mixed_tile(&mut random);
+            let permitted = u128::from(LENT_TABLE + 1)..=ALL.into();
+            assert!(permitted.contains(&card.cells()));
+            assert_eq!(card.elements() * card.copies(), card.cells());
+            assert_eq!(card.admitted(), Ok(()));
+        }
+    }
+}
