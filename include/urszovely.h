@@ -7,7 +7,8 @@
  * Limits: extents, lengths, elements and cells 1 to 65,536, copies at most 64, strides and offsets -65,536 to 65,535.
  *
  * A card is 57 numbers: the shard count; eight times extent, stride, axis; the replica count; four times extent, stride, axis;
- * eight offsets and eight lengths, pid to m; M, B, S. Strides and offsets are in two's complement: (uint64_t)(int64_t)-1. */
+ * eight offsets and eight lengths, pid to m; M, B, S. Strides and offsets are in two's complement: (uint64_t)(int64_t)-1. Bit k of `marks`
+ * is the reuse mark of shard iter k, whose stride is then 0; bits past the count are ignored. */
 #ifndef URSZOVELY_H
 #define URSZOVELY_H
 
@@ -66,18 +67,18 @@ void urszovely_descriptor(uint64_t m, const uint8_t fields[11], uint64_t shift, 
 void urszovely_mask(uint64_t m, uint64_t n, uint64_t descriptor, uint8_t *mask, size_t length, uint64_t answer[4]);
 
 /* A card's own checks: 0, or 1 to 6, then 17 with the two combinations. */
-void urszovely_admit(const uint64_t card[57], uint64_t answer[4]);
+void urszovely_admit(const uint64_t card[57], uint64_t marks, uint64_t answer[4]);
 
 /* The cells of the copies of one element: 0 with the copies, entries past them stay; or 1 to 6, 17, 9, 10, 11 with the copies, 7. A shape,
  * like coordinates, is a count and eight numbers. */
-void urszovely_place(const uint64_t card[57], const uint64_t shape[9], const uint64_t coordinates[9], uint32_t *memory, size_t length, uint64_t answer[4]);
+void urszovely_place(const uint64_t card[57], uint64_t marks, const uint64_t shape[9], const uint64_t coordinates[9], uint32_t *memory, size_t length, uint64_t answer[4]);
 
-/* The verdict: 0 with elements, occupied cells, cells, and in the table each cell's owner plus 1, or 0 for nobody, entries past the cells
- * stay; or 1 to 6, 17, 11 with the cells, 7, 8. */
-void urszovely_verdict(const uint64_t card[57], uint32_t *table, size_t length, uint64_t answer[4]);
+/* The verdict: 0 with elements, occupied cells, cells, and in the table each cell's owner plus 1, of elements that are one by
+ * their marks the smallest, or 0 for nobody, entries past the cells stay; or 1 to 6, 17, 11 with the cells, 7, 8. */
+void urszovely_verdict(const uint64_t card[57], uint64_t marks, uint32_t *table, size_t length, uint64_t answer[4]);
 
 /* The owner of the cell that eight coordinates name: 0 with the entry, the table filled alike; or 1 to 6, 17, 12, 11, 7, 8. */
-void urszovely_owner(const uint64_t card[57], const uint64_t coordinates[8], uint32_t *table, size_t length, uint64_t answer[4]);
+void urszovely_owner(const uint64_t card[57], uint64_t marks, const uint64_t coordinates[8], uint32_t *table, size_t length, uint64_t answer[4]);
 
 /* The cells of a table under the coordinates of all axes up to one: 0 with the first cell and how many; or 3, 4, 12, 11. */
 void urszovely_stretch(const uint32_t *table, size_t length, const uint64_t lengths[8], uint64_t axis, const uint64_t coordinates[8], uint64_t answer[4]);

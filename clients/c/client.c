@@ -62,6 +62,7 @@ static size_t line_length;
 static const char *word;
 static size_t word_length;
 static uint64_t numbers[MOST_NUMBERS];
+static uint64_t marks;
 static int signs[MOST_NUMBERS];
 static int count;
 
@@ -105,6 +106,23 @@ static int is(const char *name)
     for (i = 0; i < word_length; i++)
         if (!name[i] || name[i] != word[i]) return 0;
     return !name[i];
+}
+
+/* the marks of a word with a star: the first number, and then the line is as without one */
+static int take_marks(void)
+{
+    int i;
+    marks = 0;
+    if (!word_length || word[word_length - 1] != '*') return 1;
+    word_length--;
+    if (!(is("verdict") || is("owner") || is("place")) || !count || signs[0] || numbers[0] > 255) return 0;
+    marks = numbers[0];
+    count--;
+    for (i = 0; i < count; i++) {
+        numbers[i] = numbers[i + 1];
+        signs[i] = signs[i + 1];
+    }
+    return 1;
 }
 
 /* whether number i of a card is a stride or an offset */
@@ -176,8 +194,8 @@ static int layout(void)
         if (!fits(is("verdict") ? CARD + 1 : CARD + 9, 1) || length > MOST_TABLE) return 0;
         take_card();
         lend(length);
-        if (is("verdict")) urszovely_verdict(card, table, (size_t)length, answer);
-        else urszovely_owner(card, numbers + CARD, table, (size_t)length, answer);
+        if (is("verdict")) urszovely_verdict(card, marks, table, (size_t)length, answer);
+        else urszovely_owner(card, marks, numbers + CARD, table, (size_t)length, answer);
         put_answer();
         put_text(" |");
         put_value(digest(table, length));
@@ -187,7 +205,7 @@ static int layout(void)
         if (!fits(CARD + 19, 1) || length > MOST_LENT) return 0;
         take_card();
         lend(length);
-        urszovely_place(card, numbers + CARD, numbers + CARD + 9, table, (size_t)length, answer);
+        urszovely_place(card, marks, numbers + CARD, numbers + CARD + 9, table, (size_t)length, answer);
         put_answer();
         put_text(" |");
         for (i = 0; i < length; i++) put_value(table[i]);
@@ -252,7 +270,7 @@ static int plain(void)
 
 static int ask(void)
 {
-    if (!parse()) return 0;
+    if (!parse() || !take_marks()) return 0;
     if (is("verdict") || is("owner") || is("place") || is("stretch")) return layout();
     if (is("mask")) return mask();
     if (is("fields")) return fields();

@@ -131,44 +131,44 @@ static void guarded_mask(uint64_t m, uint64_t n, uint64_t descriptor, uint8_t *m
 }
 
 /* the card's own checks come first in each of the three questions below, so they agree with admit */
-static void admitted(const uint64_t *card, const uint64_t *answer)
+static void admitted(const uint64_t *card, uint64_t marks, const uint64_t *answer)
 {
     uint64_t own[4];
     int side, check = (answer[0] >= 1 && answer[0] <= 6) || answer[0] == 17;
-    for (side = 0; side < 2; side++) urszovely_admit(given(FIRST, side, card, 57 * 8), blank(side));
+    for (side = 0; side < 2; side++) urszovely_admit(given(FIRST, side, card, 57 * 8), marks, blank(side));
     settle(ANSWER, own, 32);
     if (check ? memcmp(own, answer, 32) != 0 : own[0] || own[1] || own[2] || own[3]) stop("admit has another answer");
 }
 
-static void guarded_place(const uint64_t *card, const uint64_t *shape, const uint64_t *coordinates, uint32_t *memory, size_t length, uint64_t *answer)
+static void guarded_place(const uint64_t *card, uint64_t marks, const uint64_t *shape, const uint64_t *coordinates, uint32_t *memory, size_t length, uint64_t *answer)
 {
     int side;
     for (side = 0; side < 2; side++)
-        urszovely_place(given(FIRST, side, card, 57 * 8), given(SECOND, side, shape, 72), given(THIRD, side, coordinates, 72),
+        urszovely_place(given(FIRST, side, card, 57 * 8), marks, given(SECOND, side, shape, 72), given(THIRD, side, coordinates, 72),
                         lent(side, memory, 4 * length), length, blank(side));
     settle(LENT, memory, 4 * length);
     settle(ANSWER, answer, 32);
-    admitted(card, answer);
+    admitted(card, marks, answer);
 }
 
-static void guarded_verdict(const uint64_t *card, uint32_t *table, size_t length, uint64_t *answer)
+static void guarded_verdict(const uint64_t *card, uint64_t marks, uint32_t *table, size_t length, uint64_t *answer)
 {
     int side;
     for (side = 0; side < 2; side++)
-        urszovely_verdict(given(FIRST, side, card, 57 * 8), lent(side, table, 4 * length), length, blank(side));
+        urszovely_verdict(given(FIRST, side, card, 57 * 8), marks, lent(side, table, 4 * length), length, blank(side));
     settle(LENT, table, 4 * length);
     settle(ANSWER, answer, 32);
-    admitted(card, answer);
+    admitted(card, marks, answer);
 }
 
-static void guarded_owner(const uint64_t *card, const uint64_t *coordinates, uint32_t *table, size_t length, uint64_t *answer)
+static void guarded_owner(const uint64_t *card, uint64_t marks, const uint64_t *coordinates, uint32_t *table, size_t length, uint64_t *answer)
 {
     int side;
     for (side = 0; side < 2; side++)
-        urszovely_owner(given(FIRST, side, card, 57 * 8), given(SECOND, side, coordinates, 64), lent(side, table, 4 * length), length, blank(side));
+        urszovely_owner(given(FIRST, side, card, 57 * 8), marks, given(SECOND, side, coordinates, 64), lent(side, table, 4 * length), length, blank(side));
     settle(LENT, table, 4 * length);
     settle(ANSWER, answer, 32);
-    admitted(card, answer);
+    admitted(card, marks, answer);
 }
 
 static void guarded_stretch(const uint32_t *table, size_t length, const uint64_t *lengths, uint64_t axis, const uint64_t *coordinates, uint64_t *answer)

@@ -9,6 +9,7 @@ const BLOCKS: &[&[u8]] = &[
     include_bytes!("../loads/blocks/03-ask-08.txt"),
     include_bytes!("../loads/blocks/04-ask-03.txt"),
     include_bytes!("../loads/blocks/05-ask-04.txt"),
+    include_bytes!("../loads/blocks/06-ask-11.txt"),
 ];
 
 /// The lines of full size: 16,384 elements and more, up to 64 copies, tables
@@ -18,6 +19,7 @@ const LARGE: &[&[u8]] = &[
     include_bytes!("../loads/large/02-ask-06.txt"),
     include_bytes!("../loads/large/03-ask-08.txt"),
     include_bytes!("../loads/large/05-ask-04.txt"),
+    include_bytes!("../loads/large/06-ask-11.txt"),
 ];
 
 pub fn blocks() -> Vec<u8> {
@@ -44,12 +46,14 @@ mod tests {
         0x34eb_bf2b_0c8b_dadd,
         0x095b_87f6_f306_1e0a,
         0x50b8_c06c_a5fb_c750,
+        0x9f29_6235_3480_a824,
     ];
     const LARGE_CHECKS: &[u64] = &[
         0xa6f5_5d97_af13_b392,
         0xe96a_db53_c368_7374,
         0x0ff1_3733_25d6_4632,
         0x5b14_d33b_47c5_2648,
+        0x299b_0b55_97ab_889d,
     ];
 
     #[test]
@@ -113,6 +117,10 @@ mod tests {
             "7 65535 7 0",
             "7 65024 7 0",
             "11 28672 0 0",
+            "0 65536 16384 16384",
+            "0 65536 1 16384",
+            "0 32767 0 0",
+            "8 0 32764 8191",
         ];
         for text in wanted {
             assert!(said.iter().any(|said| said == text), "{text}");

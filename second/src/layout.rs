@@ -71,6 +71,11 @@ pub struct Iter {
     pub axis: u64,
 }
 
+/// For each shard slot whether its iter carries a reuse mark.
+pub type Marks = [bool; SHARD_SLOTS];
+
+pub const NO_MARKS: Marks = [false; SHARD_SLOTS];
+
 /// One coordinate per axis, as a cell is asked for.
 pub type Coordinates = [u64; AXES];
 
@@ -81,6 +86,7 @@ pub type Sums = [Number; AXES];
 pub struct Card {
     pub shard_count: u64,
     pub shard_slots: [Iter; SHARD_SLOTS],
+    pub marks: Marks,
     pub replica_count: u64,
     pub replica_slots: [Iter; REPLICA_SLOTS],
     pub offset: Sums,
@@ -146,8 +152,8 @@ impl Card {
         in_iters(1, SHARD_SLOTS) || in_iters(26, REPLICA_SLOTS) || (38..46).contains(&at)
     }
 
-    /// The card of the first numbers; none if there are too few, or if one
-    /// that is no stride and no offset is below zero.
+    /// The card of the first numbers, without marks; none if there are too
+    /// few, or if one that is no stride and no offset is below zero.
     pub fn of(numbers: &[Number]) -> Option<Card> {
         let signed = numbers.get(..Card::NUMBERS)?;
         let other = |at: usize| if Card::signed_at(at) { 0 } else { signed[at] };
@@ -161,6 +167,7 @@ impl Card {
         Some(Card {
             shard_count: numbers[0],
             shard_slots: std::array::from_fn(|k| iter(1 + 3 * k)),
+            marks: NO_MARKS,
             replica_count: numbers[25],
             replica_slots: std::array::from_fn(|k| iter(26 + 3 * k)),
             offset: std::array::from_fn(|axis| signed[38 + axis]),
@@ -173,7 +180,8 @@ impl Card {
         })
     }
 
-    /// The card's numbers as they stand on a line.
+    /// The card's numbers as they stand on a line; its marks are not among
+    /// them.
     pub fn numbers(&self) -> Vec<Number> {
         let of_iters = |iters: &[Iter]| -> Vec<Number> {
             let three = |iter: &Iter| [iter.extent.into(), iter.stride, iter.axis.into()];
@@ -213,6 +221,22 @@ impl Card {
         whole_product(&self.space)
     }
 
+    /// The shard's iters, each with whether it is marked; marks past the
+    /// count are ignored too.
+    fn marked_shard(&self) -> impl Iterator<Item = (&Iter, bool)> {
+        self.shard().iter().zip(self.marks)
+    }
+
+    /// The components of an element that are not marked. Elements that have
+    /// these in common are one. For a card that passes checks 1 to 6.
+    pub fn unmarked(&self, flat: Flat) -> Vec<u64> {
+        let components = split(flat.0, self.shard()).into_iter();
+        let both = components.zip(self.marked_shard());
+        both.filter(|(_, (_, marked))| !marked)
+            .map(|(component, _)| component)
+            .collect()
+    }
+
     /// Checks 1 to 6, each looked at only when those before it hold.
     pub fn refusal(&self) -> Option<Refusal> {
         let iters = [self.shard(), self.replica()].concat();
@@ -222,7 +246,10 @@ impl Card {
         let numbers = iters
             .iter()
             .all(|iter| (1..=MOST_EXTENT).contains(&iter.extent) && signed(&iter.stride))
-            && self.offset.iter().all(signed);
+            && self.offset.iter().all(signed)
+            && self
+                .marked_shard()
+                .all(|(iter, marked)| !marked || iter.stride == 0);
         let axes = iters.iter().all(|iter| iter.axis < AXES as u64);
         let few = self.elements() <= u128::from(MOST_ELEMENTS)
             && self.copies() <= u128::from(MOST_COPIES);
@@ -371,8 +398,11 @@ fn place(card: &Card, spot: &Spot, length: u64) -> Result<Vec<Cell>, Refusal> {
     card.cells_of(flat)
 }
 
-pub fn answer_place(numbers: &[Number]) -> Option<Answer> {
-    let card = Card::of(numbers)?;
+pub fn answer_place(marks: Marks, numbers: &[Number]) -> Option<Answer> {
+    let card = Card {
+        marks,
+        ..Card::of(numbers)?
+    };
     let rest = plain(numbers.get(Card::NUMBERS..)?)?;
     let spot = Spot::of(&rest)?;
     let length = *rest.last()?;
@@ -416,7 +446,7 @@ mod tests {
 
     fn said(card: &Card, spot: &Spot, length: u64) -> String {
         let numbers = [card.numbers(), whole(&spot.numbers()), whole(&[length])].concat();
-        answer_place(&numbers).map_or("?".to_string(), |answer| answer.print())
+        answer_place(card.marks, &numbers).map_or("?".to_string(), |answer| answer.print())
     }
 
     #[test]
@@ -599,6 +629,64 @@ mod tests {
         assert_eq!(refused(&card), Some(2));
         card.replica_count = 5;
         assert_eq!(refused(&card), Some(1));
+    }
+
+    #[test]
+    fn a_marked_iter_has_stride_0() {
+        let refused = |card: &Card| card.refusal().map(|no| no.number);
+        let marked = |extent, stride: i64, at: usize| {
+            let shard = [cards::iter(2, 0, 7), cards::iter(extent, stride, 7)];
+            let mut card = cards::card_of(&shard, &[cards::iter(2, 1, 0)]);
+            card.marks[at] = true;
+            card
+        };
+        for stride in [-65_537, -65_536, -1, 1, 65_535, 65_536] {
+            assert_eq!(refused(&marked(1, stride, 1)), Some(2), "{stride}");
+            let within = (-65_536..=65_535).contains(&stride);
+            assert_eq!(refused(&marked(1, stride, 0)).is_none(), within);
+        }
+        for at in 0..SHARD_SLOTS {
+            assert_eq!(refused(&marked(3, 0, at)), None);
+        }
+        let mut card = marked(1, 1, 1);
+        card.swizzle.m = 9;
+        card.space[0] = 0;
+        card.shard_slots[0].axis = 8;
+        assert_eq!(refused(&card), Some(2));
+        card.shard_count = 1;
+        assert_eq!(refused(&card), Some(3));
+        card.shard_count = 9;
+        assert_eq!(refused(&card), Some(1));
+    }
+
+    #[test]
+    fn a_follower_lies_where_its_leader_does() {
+        let shard = [
+            cards::iter(2, 0, 6),
+            cards::iter(32, 1, 5),
+            cards::iter(4, 1, 6),
+        ];
+        let mut card = cards::card_of(&shard, &[cards::iter(4, 32, 5)]);
+        let unmarked = cells(&card, 150);
+        card.marks[0] = true;
+        assert_eq!(cells(&card, 150), unmarked);
+        assert_eq!(cells(&card, 150), cells(&card, 22));
+        assert_eq!(cells(&card, 22).map(|cells| cells[1]), Ok(Cell(150)));
+        card.marks[1] = true;
+        assert_eq!(cells(&card, 150), Err(Refusal::plain(2)));
+    }
+
+    #[test]
+    fn components_that_are_not_marked() {
+        let shard = [2, 3, 4].map(|extent| cards::iter(extent, 0, 7));
+        let mut card = cards::card_of(&shard, &[]);
+        assert_eq!(card.unmarked(Flat(23)), [1, 2, 3]);
+        card.marks = [false, true, false, true, true, true, true, true];
+        assert_eq!(card.unmarked(Flat(23)), [1, 3]);
+        card.marks[0] = true;
+        assert_eq!(card.unmarked(Flat(14)), [2]);
+        card.marks[2] = true;
+        assert!(card.unmarked(Flat(14)).is_empty());
     }
 
     #[test]

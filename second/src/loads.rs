@@ -11,6 +11,7 @@ mod limits;
 mod malformed;
 mod minus;
 pub mod random;
+pub mod reuse;
 pub mod signed;
 pub mod small;
 
@@ -20,6 +21,7 @@ use copies::copied_card;
 use malformed::{Question, LONG_KINDS, SHORT_KINDS};
 use minus::misspelt;
 use random::{seed_of, Random};
+use reuse::{meeting_card, reused_card};
 use signed::signed_card;
 
 /// One line in so many is spoiled.
@@ -50,10 +52,21 @@ const MAKERS: &[Maker] = &[
     ("place", |random| asked::place(random, larger::card)),
     ("verdict", |random| asked::verdict(random, larger::card)),
     ("owner", |random| asked::owner(random, larger::card)),
+    ("place*", |random| reuse::place(random, reused_card)),
+    ("verdict*", |random| reuse::verdict(random, reused_card)),
+    ("owner*", |random| reuse::owner(random, reused_card)),
+    ("place*", |random| reuse::place(random, meeting_card)),
+    ("verdict*", |random| reuse::verdict(random, meeting_card)),
+    ("owner*", |random| reuse::owner(random, meeting_card)),
 ];
 
 /// Questions of full size, which would slow the others down.
-const LARGE: &[Maker] = &[("verdict", full::verdict), ("owner", full::owner)];
+const LARGE: &[Maker] = &[
+    ("verdict", full::verdict),
+    ("owner", full::owner),
+    ("verdict*", full::starred_verdict),
+    ("owner*", full::starred_owner),
+];
 
 fn question(random: &mut Random, makers: &[Maker]) -> Question<'static> {
     let (word, numbers) = random.pick(makers);

@@ -3,13 +3,14 @@
 //! in the words of document 01.
 
 use crate::layout::{
-    lent_entries, space_permitted, whole_product, Card, Coordinates, Flat, Refusal, AXES,
+    lent_entries, space_permitted, whole_product, Card, Coordinates, Flat, Marks, Refusal, AXES,
     TOO_SHORT, WRONG_AXIS, WRONG_SPACE,
 };
 use crate::lines::{plain, Answer, Number};
-use std::collections::BTreeSet;
+use std::collections::{BTreeMap, BTreeSet};
 
-/// Refusals: two elements share a cell, an asked cell outside the space.
+/// Refusals: two elements that are not one share a cell, an asked cell outside
+/// the space.
 const CELL_SHARED: u64 = 8;
 const ASKED_OUTSIDE: u64 = 12;
 
@@ -29,10 +30,44 @@ fn digest(entries: &[u64]) -> u64 {
     (sum % DIGEST_MODULUS) as u64
 }
 
+fn flats(card: &Card) -> impl Iterator<Item = Flat> {
+    (0..card.elements() as u64).map(Flat)
+}
+
+/// Which elements are one: the sets of those that are, and for each element
+/// the number of its set.
+struct Classes {
+    sets: Vec<BTreeSet<Flat>>,
+    set_of: BTreeMap<Flat, usize>,
+}
+
+impl Classes {
+    fn new(sets: Vec<BTreeSet<Flat>>) -> Classes {
+        let numbered = sets.iter().enumerate();
+        let pairs = numbered.flat_map(|(at, set)| set.iter().map(move |flat| (*flat, at)));
+        let set_of = pairs.collect();
+        Classes { sets, set_of }
+    }
+
+    /// Elements that differ only in marked components are one.
+    fn of(card: &Card) -> Classes {
+        let mut alike: BTreeMap<Vec<u64>, BTreeSet<Flat>> = BTreeMap::new();
+        for flat in flats(card) {
+            alike.entry(card.unmarked(flat)).or_default().insert(flat);
+        }
+        Classes::new(alike.into_values().collect())
+    }
+
+    /// All elements that are one with this one, itself among them.
+    fn with(&self, flat: Flat) -> &BTreeSet<Flat> {
+        &self.sets[self.set_of[&flat]]
+    }
+}
+
 /// Who lies where, or refusal 7 for the smallest flat that lies outside.
 fn holders(card: &Card) -> Result<Holders, Refusal> {
     let mut holders = vec![BTreeSet::new(); card.cells() as usize];
-    for flat in (0..card.elements() as u64).map(Flat) {
+    for flat in flats(card) {
         for cell in card.cells_of(flat)? {
             holders[cell.0 as usize].insert(flat);
         }
@@ -40,14 +75,21 @@ fn holders(card: &Card) -> Result<Holders, Refusal> {
     Ok(holders)
 }
 
-/// Refusal 8, if two elements share a cell: y is the smallest flat sharing a
-/// cell with a smaller one, x the smallest it shares with, and the cell the
+/// Refusal 8, if two elements that are not one share a cell: y is the
+/// smallest flat sharing a cell with a smaller one that is not one with it, x
+/// the smallest that shares with y and is not one with it, and the cell the
 /// smallest they share.
-fn clash(holders: &[BTreeSet<Flat>]) -> Option<Refusal> {
-    let second = |flats: &BTreeSet<Flat>| flats.iter().nth(1).copied();
+fn clash(holders: &[BTreeSet<Flat>], classes: &Classes) -> Option<Refusal> {
+    // All that come before it in the cell are one with the first of the cell,
+    // so no smaller flat there shares it with a smaller one it is not one with.
+    let second = |flats: &BTreeSet<Flat>| {
+        let first = classes.with(*flats.first()?);
+        flats.difference(first).next().copied()
+    };
     let y = holders.iter().filter_map(second).min()?;
+    let one = classes.with(y);
     let with_y = holders.iter().filter(|flats| flats.contains(&y));
-    let x = *with_y.flatten().filter(|x| **x != y).min()?;
+    let x = *with_y.flatten().filter(|x| !one.contains(x)).min()?;
     let both = |flats: &BTreeSet<Flat>| flats.contains(&x) && flats.contains(&y);
     let cell = holders.iter().position(both)?;
     Some(Refusal {
@@ -57,7 +99,8 @@ fn clash(holders: &[BTreeSet<Flat>]) -> Option<Refusal> {
 }
 
 /// Fills the table for an admitted card: refusals 11, 7, 8.
-/// The cells are all 0 at 7 and 8, the owners otherwise.
+/// The cells are all 0 at 7 and 8, the owners otherwise, each the smallest of
+/// those that are one with it.
 fn fill(card: &Card, table: &mut [u64]) -> Result<[u64; 3], Refusal> {
     let cells = card.cells() as u64;
     let Some(own) = table.get_mut(..cells as usize) else {
@@ -65,11 +108,13 @@ fn fill(card: &Card, table: &mut [u64]) -> Result<[u64; 3], Refusal> {
     };
     own.fill(0);
     let holders = holders(card)?;
-    if let Some(refusal) = clash(&holders) {
+    let classes = Classes::of(card);
+    if let Some(refusal) = clash(&holders, &classes) {
         return Err(refusal);
     }
+    let shown = |flats: &BTreeSet<Flat>| classes.with(*flats.first()?).first().copied();
     for (entry, flats) in own.iter_mut().zip(&holders) {
-        *entry = flats.first().map_or(0, |flat| flat.0 + 1);
+        *entry = shown(flats).map_or(0, |flat| flat.0 + 1);
     }
     let occupied = holders.iter().filter(|flats| !flats.is_empty()).count();
     Ok([card.elements() as u64, occupied as u64, cells])
@@ -136,16 +181,24 @@ fn lent_table(numbers: &[u64], most: u64) -> Option<Vec<u64>> {
     (length <= most).then(|| lent_entries(length))
 }
 
-pub fn answer_verdict(numbers: &[Number], most: u64) -> Option<Answer> {
+pub fn answer_verdict(marks: Marks, numbers: &[Number], most: u64) -> Option<Answer> {
     let mut table = lent_table(&plain(numbers.get(Card::NUMBERS..)?)?, most)?;
-    let result = verdict(&Card::of(numbers)?, &mut table);
+    let card = Card {
+        marks,
+        ..Card::of(numbers)?
+    };
+    let result = verdict(&card, &mut table);
     Some(printed(result, &table))
 }
 
-pub fn answer_owner(numbers: &[Number], most: u64) -> Option<Answer> {
+pub fn answer_owner(marks: Marks, numbers: &[Number], most: u64) -> Option<Answer> {
     let rest = plain(numbers.get(Card::NUMBERS..)?)?;
     let mut table = lent_table(&rest, most)?;
-    let result = owner(&Card::of(numbers)?, rest.first_chunk()?, &mut table);
+    let card = Card {
+        marks,
+        ..Card::of(numbers)?
+    };
+    let result = owner(&card, rest.first_chunk()?, &mut table);
     Some(printed(result, &table))
 }
 
@@ -167,10 +220,11 @@ pub fn answer_stretch(numbers: &[u64], most: u64) -> Option<Answer> {
 #[cfg(test)]
 mod tests {
     use super::*;
-    use crate::layout::{Cell, M_AXIS};
+    use crate::layout::{Cell, M_AXIS, NO_MARKS};
     use crate::lines::answer_line;
     use crate::loads::cards::{self, random_card};
     use crate::loads::random::Random;
+    use crate::loads::reuse::{meeting_card, reused_card};
     use crate::loads::signed::signed_card;
 
     /// The verdict's number and details on a card with a table to spare, the
@@ -295,21 +349,135 @@ mod tests {
         assert_eq!(table, lent_entries(703));
     }
 
+    fn sets(sets: &[&[u64]]) -> Vec<BTreeSet<Flat>> {
+        let set = |flats: &&[u64]| flats.iter().copied().map(Flat).collect();
+        sets.iter().map(set).collect()
+    }
+
+    /// What refusal 8 names for these holders of cells, if these are one.
+    fn named(holders: &[&[u64]], classes: &[&[u64]]) -> Option<[u64; 3]> {
+        let refusal = clash(&sets(holders), &Classes::new(sets(classes)))?;
+        assert_eq!(refusal.number, 8);
+        Some(refusal.details)
+    }
+
+    const ALONE: &[&[u64]] = &[&[0], &[1], &[2], &[3], &[4], &[5], &[6], &[7]];
+
     #[test]
     fn x_is_the_smallest_shared_with_not_the_one_in_the_smallest_cell() {
-        let flats = |flats: &[u64]| flats.iter().copied().map(Flat).collect();
-        let holders = [
-            flats(&[3]),
-            flats(&[]),
-            flats(&[1, 2]),
-            flats(&[0, 2]),
-            flats(&[0, 2, 7]),
+        let holders: &[&[u64]] = &[&[3], &[], &[1, 2], &[0, 2], &[0, 2, 7]];
+        assert_eq!(named(holders, ALONE), Some([0, 2, 3]));
+    }
+
+    #[test]
+    fn elements_that_are_one_do_not_clash() {
+        let holders: &[&[u64]] = &[&[0, 4], &[1, 5], &[], &[2, 6], &[3, 7]];
+        let pairs: &[&[u64]] = &[&[0, 4], &[1, 5], &[2, 6], &[3, 7]];
+        assert_eq!(named(holders, pairs), None);
+        assert_eq!(named(holders, ALONE), Some([0, 4, 0]));
+        let others: &[&[u64]] = &[&[0, 5], &[1, 4], &[2, 6], &[3, 7]];
+        assert_eq!(named(holders, others), Some([0, 4, 0]));
+        let but_one: &[&[u64]] = &[&[0, 4], &[1, 5], &[2, 6], &[3], &[7]];
+        assert_eq!(named(holders, but_one), Some([3, 7, 4]));
+    }
+
+    #[test]
+    fn y_and_x_are_not_one() {
+        let pairs: &[&[u64]] = &[&[0, 1, 2], &[3, 4], &[5, 6, 7]];
+        let holders: &[&[u64]] = &[&[5, 6, 7], &[0, 1, 2, 3, 4], &[3, 4], &[2]];
+        assert_eq!(named(holders, pairs), Some([0, 3, 1]));
+        // 3 shares cell 0 with 4, but they are one.
+        let holders: &[&[u64]] = &[&[3, 4], &[4, 6], &[1, 3], &[0, 4]];
+        assert_eq!(named(holders, pairs), Some([1, 3, 2]));
+        // y of the largest cell, and a smaller cell where only others meet.
+        let holders: &[&[u64]] = &[&[4, 5], &[0, 1], &[2, 4, 7], &[2, 3]];
+        assert_eq!(named(holders, pairs), Some([2, 3, 3]));
+    }
+
+    /// The scale factors for two MMAs: the first iter reuses them.
+    fn reused_scale_factors() -> Card {
+        let shard = [
+            cards::iter(2, 0, 6),
+            cards::iter(32, 1, 5),
+            cards::iter(4, 1, 6),
         ];
-        let wanted = Refusal {
-            number: 8,
-            details: [0, 2, 3],
+        let mut card = cards::card_of(&shard, &[cards::iter(4, 32, 5)]);
+        card.marks[0] = true;
+        card
+    }
+
+    #[test]
+    fn scale_factors_are_reused() {
+        let card = reused_scale_factors();
+        says(&card, "0 256 512 512");
+        let (_, table, _) = judged(&card);
+        assert_eq!((table[150], table[511], table[0]), (23, 128, 1));
+        let plain = Card {
+            marks: NO_MARKS,
+            ..card
         };
-        assert_eq!(clash(&holders), Some(wanted));
+        says(&plain, "8 0 128 0");
+        let past = Card {
+            marks: [false, false, false, true, true, true, true, true],
+            ..card
+        };
+        says(&past, "8 0 128 0");
+        let both = Card {
+            marks: [true, false, false, true, true, true, true, true],
+            ..card
+        };
+        assert_eq!(judged(&both), judged(&card));
+    }
+
+    #[test]
+    fn the_owner_shown_is_the_smallest_that_is_one() {
+        // The marked iter is the fastest: 0 to 2 are one, 3 to 5, 6 to 8.
+        let shard = [cards::iter(3, -2, 7), cards::iter(3, 0, 2)];
+        let mut card = cards::card_of(&shard, &[]);
+        (card.offset[M_AXIS], card.space[M_AXIS]) = (4, 6);
+        card.marks[1] = true;
+        says(&card, "0 9 3 6");
+        assert_eq!(judged(&card).1[..6], [7, 0, 4, 0, 1, 0]);
+        let asked = [0, 0, 0, 0, 0, 0, 0, 2];
+        assert_eq!(owner(&card, &asked, &mut [0; 6]), Ok([4, 0, 0]));
+        card.marks[1] = false;
+        says(&card, "8 0 1 4");
+    }
+
+    #[test]
+    fn classes_that_meet_are_refused() {
+        let shard = [
+            cards::iter(2, 0, 0),
+            cards::iter(3, 1, 7),
+            cards::iter(2, 0, 0),
+        ];
+        let mut card = cards::card_of(&shard, &[cards::iter(2, 2, 7)]);
+        card.marks = [true, false, true, false, false, false, false, true];
+        says(&card, "8 0 4 2");
+        card.replica_slots[0].stride = 3;
+        card.space[M_AXIS] = 6;
+        says(&card, "0 12 6 6");
+        card.space[M_AXIS] = 5;
+        says(&card, "7 4 7 0");
+        card.marks[0] = false;
+        card.space[M_AXIS] = 6;
+        says(&card, "8 0 6 0");
+        card.shard_slots[1].stride = 0;
+        says(&card, "8 0 2 0");
+    }
+
+    #[test]
+    fn a_marked_stride_is_judged_as_check_2() {
+        let mut card = reused_scale_factors();
+        card.shard_slots[0].stride = 1;
+        card.shard_slots[1].axis = 8;
+        let mut table = lent_entries(4);
+        let refused = Err(Refusal::plain(2));
+        assert_eq!(verdict(&card, &mut table), refused);
+        assert_eq!(owner(&card, &[99; AXES], &mut table), refused);
+        assert_eq!(table, lent_entries(4));
+        card.shard_count = 9;
+        assert_eq!(verdict(&card, &mut table), Err(Refusal::plain(1)));
     }
 
     #[test]
@@ -380,5 +548,52 @@ mod tests {
                 assert!(flats().all(held));
             }
         }
+    }
+
+    /// The same words with marks: whether two elements are one is asked of
+    /// each pair, and refusal 8 is searched for from the smallest flats on.
+    #[test]
+    fn approved_exactly_when_only_those_share_that_are_one() {
+        let mut random = Random::new(26);
+        for at in 0..400 {
+            let make = [reused_card, meeting_card][at % 2];
+            let card = make(&mut random);
+            if card.admitted().is_err() || card.elements() > 128 {
+                continue;
+            }
+            let own = |flat| card.cells_of(flat).map(BTreeSet::from_iter);
+            let cells: Result<Vec<BTreeSet<Cell>>, Refusal> = flats(&card).map(own).collect();
+            let Ok(cells) = cells else {
+                assert!(judged(&card).0.starts_with("7 "));
+                continue;
+            };
+            let one = |x: usize, y: usize| differ_only_marked(&card, x as u64, y as u64);
+            let shared = |x: usize, y: usize| cells[x].intersection(&cells[y]).next();
+            let meet = |x: usize, y: usize| shared(x, y).filter(|_| !one(x, y));
+            let pairs = (0..cells.len()).flat_map(|y| (0..y).map(move |x| (x, y)));
+            let first = pairs.clone().find_map(|(x, y)| Some((x, y, meet(x, y)?.0)));
+            let (said, table, _) = judged(&card);
+            if let Some((x, y, cell)) = first {
+                assert_eq!(said, format!("8 {x} {y} {cell}"));
+                continue;
+            }
+            assert!(said.starts_with("0 "));
+            for (y, cells) in cells.iter().enumerate() {
+                let smallest = (0..=y).find(|x| one(*x, y)).unwrap() as u64;
+                let entry = |cell: &Cell| table[cell.0 as usize];
+                assert!(cells.iter().all(|cell| entry(cell) == smallest + 1));
+            }
+        }
+    }
+
+    /// Whether components that differ are all marked.
+    fn differ_only_marked(card: &Card, x: u64, y: u64) -> bool {
+        let mut rest = (x, y);
+        let mut one = true;
+        for (k, iter) in card.shard().iter().enumerate().rev() {
+            one &= card.marks[k] || rest.0 % iter.extent == rest.1 % iter.extent;
+            rest = (rest.0 / iter.extent, rest.1 / iter.extent);
+        }
+        one
     }
 }

@@ -1,11 +1,22 @@
 //! The words of the protocol, in the order in which they arrived.
 
 use crate::fragment;
-use crate::layout;
+use crate::layout::{self, Marks, NO_MARKS};
 use crate::lines::{plain, Answer, Number};
 use crate::mask;
 use crate::swizzle;
 use crate::verdict;
+
+/// Above this, MARKS is past what the programs take.
+const MOST_MARKS: Number = 255;
+
+/// The marks of which bit k marks shard iter k, and the numbers after MARKS.
+fn marked(numbers: &[Number]) -> Option<(Marks, &[Number])> {
+    let (marks, rest) = numbers.split_first()?;
+    let bit = |k: usize| marks >> k & 1 == 1;
+    let permitted = (0..=MOST_MARKS).contains(marks);
+    permitted.then(|| (std::array::from_fn(bit), rest))
+}
 
 pub struct Word {
     pub name: &'static str,
@@ -56,22 +67,46 @@ pub const WORDS: &[Word] = &[
     Word {
         name: "place",
         count: 76,
-        answer: |numbers, _| layout::answer_place(numbers),
+        answer: |numbers, _| layout::answer_place(NO_MARKS, numbers),
     },
     Word {
         name: "verdict",
         count: 58,
-        answer: verdict::answer_verdict,
+        answer: |numbers, most| verdict::answer_verdict(NO_MARKS, numbers, most),
     },
     Word {
         name: "owner",
         count: 66,
-        answer: verdict::answer_owner,
+        answer: |numbers, most| verdict::answer_owner(NO_MARKS, numbers, most),
     },
     Word {
         name: "stretch",
         count: 18,
         answer: |numbers, most| verdict::answer_stretch(&plain(numbers)?, most),
+    },
+    Word {
+        name: "verdict*",
+        count: 59,
+        answer: |numbers, most| {
+            let (marks, numbers) = marked(numbers)?;
+            verdict::answer_verdict(marks, numbers, most)
+        },
+    },
+    Word {
+        name: "owner*",
+        count: 67,
+        answer: |numbers, most| {
+            let (marks, numbers) = marked(numbers)?;
+            verdict::answer_owner(marks, numbers, most)
+        },
+    },
+    Word {
+        name: "place*",
+        count: 77,
+        answer: |numbers, _| {
+            let (marks, numbers) = marked(numbers)?;
+            layout::answer_place(marks, numbers)
+        },
     },
 ];
 
@@ -89,4 +124,74 @@ pub const NUMBERS: &[(&str, &[u64])] = &[
     ("verdict", &[0, 1, 2, 3, 4, 5, 6, 7, 8, 11, 17]),
     ("owner", &[0, 1, 2, 3, 4, 5, 6, 7, 8, 11, 12, 17]),
     ("stretch", &[0, 3, 4, 11, 12]),
+    ("verdict*", &[0, 1, 2, 3, 4, 5, 6, 7, 8, 11, 17]),
+    ("owner*", &[0, 1, 2, 3, 4, 5, 6, 7, 8, 11, 12, 17]),
+    ("place*", &[0, 1, 2, 3, 4, 5, 6, 7, 9, 10, 11, 17]),
 ];
+
+#[cfg(test)]
+mod tests {
+    use crate::lines::says;
+
+    /// A card of three iters of which the second stands still.
+    const CARD: &str = "3 2 2 7 2 0 7 2 1 7 0 0 0 0 0 0 0 0 0 0 0 0 0 0 0 \
+                        0 0 0 0 0 0 0 0 0 0 0 0 0 0 0 0 0 0 0 0 0 1 1 1 1 1 1 1 4 0 0 3";
+
+    #[test]
+    fn bits_of_marks() {
+        let line = |marks: &str| format!("verdict* {marks} {CARD} 4");
+        for (marks, wanted) in [
+            ("0", "8 0 2 0 | 0"),
+            ("1", "2 0 0 0 | 10000020"),
+            ("2", "0 8 4 4 | 44"),
+            ("3", "2 0 0 0 | 10000020"),
+            ("4", "2 0 0 0 | 10000020"),
+            ("248", "8 0 2 0 | 0"),
+            ("250", "0 8 4 4 | 44"),
+            ("255", "2 0 0 0 | 10000020"),
+        ] {
+            says(&line(marks), wanted);
+        }
+        for marks in [
+            "256",
+            "258",
+            "4294967298",
+            "18446744073709551615",
+            "-2",
+            "02",
+            "+2",
+        ] {
+            says(&line(marks), "?");
+        }
+    }
+
+    #[test]
+    fn words_with_a_star() {
+        says(&format!("verdict {CARD} 4"), "8 0 2 0 | 0");
+        says(
+            &format!("owner* 2 {CARD} 0 0 0 0 0 0 0 2 4"),
+            "0 5 0 0 | 44",
+        );
+        says(
+            &format!("place* 2 {CARD} 1 8 0 0 0 0 0 0 0 1 7 0 0 0 0 0 0 0 1"),
+            "0 1 0 0 | 3",
+        );
+        says(
+            &format!("place* 3 {CARD} 1 8 0 0 0 0 0 0 0 1 7 0 0 0 0 0 0 0 1"),
+            "2 0 0 0 | 1000000",
+        );
+        for word in [
+            "verdict",
+            "verdict**",
+            "*verdict",
+            "verdict *",
+            "VERDICT*",
+            "write*",
+            "*",
+        ] {
+            says(&format!("{word} 2 {CARD} 4"), "?");
+        }
+        says(&format!("verdict* {CARD} 4"), "?");
+        says(&format!("stretch* 2 {CARD} 4"), "?");
+    }
+}

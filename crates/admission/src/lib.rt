@@ -11,8 +11,8 @@ ghost use lib.IntN.{ℤ};
 ghost use lib.ListN.{length};
 ghost use lib.Seq.{slice};
 ghost use Rattle.card.specs.Lists.{all, within, withinZ};
-ghost use Rattle.card.specs.Admission.{countsFit, itersFit, numbersFit, itersOnAxes, spaceFits, fewEnough, fieldChecks, admission, admissionNumbers};
-ghost use Rattle.card.specs.Packed.{itersOf, cardOf, Whole, ListOf};
+ghost use Rattle.card.specs.Admission.{countsFit, itersFit, marksFit, numbersFit, itersOnAxes, spaceFits, fewEnough, fieldChecks, admission, admissionNumbers};
+ghost use Rattle.card.specs.Packed.{itersOf, marksThere, stridesThere, cardOf, Whole, ListOf};
 ghost use Rattle.card.specs.declared.Admission.the-variants.{Admitted};
 
 // The most iters of a shard and of a replica.
@@ -26,6 +26,11 @@ const MOST_EXTENT: u64 = 65536;
 const LEAST_STRIDE: i64 = -65536;
 
 const MOST_STRIDE: i64 = 65535;
+
+// And of a marked iter.
+const LEAST_MARKED: i64 = 0;
+
+const MOST_MARKED: i64 = 0;
 
 // The most cells and elements.
 const MOST_CELLS: u64 = 65536;
@@ -64,7 +69,7 @@ fn all_between(numbers: &[i64], from: usize, end: usize, least: i64, most: i64) 
 
 // Check 1: the iter counts of shard and replica. Checks 2, 3 and 5 read as many iters as it allows,
 // and require it.
-fn counts_fit(numbers: &[u64; 48]) -> bool
+fn counts_fit(numbers: &[u64; 56]) -> bool
     ensures { λ r. ⌜ ((strides : List ℤ) → r ≡ countsFit (cardOf (now (numbers .entry)) strides)) ⌝ }
 {
     let shard = numbers[card::COUNTS + card::SHARD];
@@ -73,7 +78,7 @@ fn counts_fit(numbers: &[u64; 48]) -> bool
 }
 
 // Whether the extents and the strides of a list of iters lie within the limits.
-fn iters_fit(numbers: &[u64; 48], strides: &[i64; 24], list: usize) -> bool
+fn iters_fit(numbers: &[u64; 56], strides: &[i64; 24], list: usize) -> bool
     requires { ⌜ ListOf (now numbers) list ⌝ }
     ensures { λ r. ⌜ r ≡ itersFit (itersOf (now (numbers .entry)) (now (strides .entry)) list) ⌝ }
 {
@@ -88,12 +93,31 @@ fn iters_fit(numbers: &[u64; 48], strides: &[i64; 24], list: usize) -> bool
         )
 }
 
+// Whether the strides of the marked iters lie within theirs.
+fn marks_fit(numbers: &[u64; 56], strides: &[i64]) -> bool
+    requires { ⌜ ListOf (now numbers) 0 × (length (now strides) ≡ 24) ⌝ }
+    ensures { λ r. ⌜ r ≡ marksFit (marksThere (now (numbers .entry)) (now (strides .entry))) (stridesThere (now (numbers .entry)) (now (strides .entry))) ⌝ }
+{
+    let count = numbers[card::COUNTS + card::SHARD] as usize;
+    let mut fit = true;
+    let mut k: usize = 0;
+    while k < count {
+        let stride = strides[k];
+        fit = fit
+            & ((numbers[card::MARKS + k] == 0)
+                | ((LEAST_MARKED <= stride) & (stride <= MOST_MARKED)));
+        k += 1;
+    }
+    fit
+}
+
 // Check 2: every extent, stride and offset.
-fn numbers_fit(numbers: &[u64; 48], strides: &[i64; 24]) -> bool
+fn numbers_fit(numbers: &[u64; 56], strides: &[i64; 24]) -> bool
     requires { ⌜ countsFit (cardOf (now numbers) (now strides)) ≡ true ⌝ }
     ensures { λ r. ⌜ r ≡ numbersFit (cardOf (now (numbers .entry)) (now (strides .entry))) ⌝ }
 {
     iters_fit(numbers, strides, card::SHARD)
+        & marks_fit(numbers, strides)
         & iters_fit(numbers, strides, card::REPLICA)
         & all_between(
             strides,
@@ -105,7 +129,7 @@ fn numbers_fit(numbers: &[u64; 48], strides: &[i64; 24]) -> bool
 }
 
 // Whether every axis of a list of iters is one.
-fn iters_on_axes(numbers: &[u64; 48], list: usize) -> bool
+fn iters_on_axes(numbers: &[u64; 56], list: usize) -> bool
     requires { ⌜ ListOf (now numbers) list ⌝ }
     ensures { λ r. ⌜ ((strides : List ℤ) → r ≡ itersOnAxes (itersOf (now (numbers .entry)) strides list)) ⌝ }
 {
@@ -120,7 +144,7 @@ fn iters_on_axes(numbers: &[u64; 48], list: usize) -> bool
 }
 
 // Checks 1 to 3. Public for the crates above.
-pub fn check_fields(numbers: &[u64; 48], strides: &[i64; 24]) -> Admission
+pub fn check_fields(numbers: &[u64; 56], strides: &[i64; 24]) -> Admission
     ensures { λ r. ⌜ r ≡ fieldChecks (cardOf (now (numbers .entry)) (now (strides .entry))) Admitted ⌝ }
 {
     if !counts_fit(numbers) {
@@ -143,7 +167,7 @@ pub fn space_fits(lengths: [u64; 8]) -> bool
 }
 
 // Check 4 of a packed card.
-fn lengths_fit(numbers: &[u64; 48]) -> bool
+fn lengths_fit(numbers: &[u64; 56]) -> bool
     ensures { λ r. ⌜ ((strides : List ℤ) → Whole (now (numbers .entry)) strides → r ≡ spaceFits (cardOf (now (numbers .entry)) strides .lengths)) ⌝ }
 {
     all_within(
@@ -157,7 +181,7 @@ fn lengths_fit(numbers: &[u64; 48]) -> bool
 }
 
 // Check 5: the elements and the copies.
-fn few_enough(numbers: &[u64; 48]) -> bool
+fn few_enough(numbers: &[u64; 56]) -> bool
     ensures { λ r. ⌜ ((strides : List ℤ) → Whole (now (numbers .entry)) strides → r ≡ fewEnough (cardOf (now (numbers .entry)) strides)) ⌝ }
 {
     (numbers[card::ELEMENTS] <= MOST_ELEMENTS) & (numbers[card::COPIES] <= card::MOST_COPIES)
@@ -165,7 +189,7 @@ fn few_enough(numbers: &[u64; 48]) -> bool
 
 // The admission of a packed card: the first check that it fails refuses it. Public, with a requires, for
 // the crates above, which pack a card first.
-pub fn admit_packed(numbers: &[u64; 48], strides: &[i64; 24]) -> Admission
+pub fn admit_packed(numbers: &[u64; 56], strides: &[i64; 24]) -> Admission
     requires { ⌜ Whole (now numbers) (now strides) ⌝ }
     ensures { λ r. ⌜ r ≡ admission (cardOf (now (numbers .entry)) (now (strides .entry))) ⌝ }
 {

@@ -13,6 +13,7 @@ use Rattle.card.specs.Card.{elements, copies, cells}
 use Rattle.card.specs.declared.Card.{Card}
 use Rattle.rules.specs.Rules.{axes, spot}
 use Rattle.rules.specs.Copies.{cellOf, pastAxis, outsideAxis}
+use Rattle.rules.specs.Reuse.{leader}
 use Rattle.rules.specs.declared.Spot.{Spot}
 use Rattle.rules.specs.declared.Spot.the-variants.{Inside, Outside}
 use Rattle.rules.proofs.Filling.{outside-found}
@@ -25,7 +26,7 @@ use Rattle.placement.proofs.Theorems.{flatten-below, placement-copies}
 use Rattle.judgement.specs.Judgement.{LiesInside, Judged}
 use Rattle.judgement.specs.Verdict.{VerdictPromise}
 use Rattle.judgement.specs.declared.Verdict.{Verdict}
-use Rattle.judgement.proofs.Theorems.{IsApproval, Demand3, demand-3, approved-passed}
+use Rattle.judgement.proofs.Theorems.{IsApproval, Demand3, demand-3, owner-leads, approved-passed}
 
 -- cell c is one of the first n entries of the lent memory
 pub record AmongFirst (n : ℕ) (memory : List ℕ) (c : ℕ) : Type 0 where
@@ -46,29 +47,27 @@ module _ (card : Card) (table owners : List ℕ) (verdict : Verdict) (promise : 
   demand =
       let free = admitted-exactly card .0 (judged .admitted) in demand-3 card table owners verdict (free .0) (free .1) (judged .enough) promise
 
-  -- a cell's entry is f + 1 exactly when the cell is among those that the placement of f has written
+  -- a cell's entry is the leader of f plus 1 exactly when the cell is among those that the placement of f has written
   pub owner-and-placing : (shape coordinates : Tuple) (before after : List ℕ) (n : ℕ) → length (card .lengths) ≡ 8
       → Placing card shape coordinates before after (Copies n) → (c : ℕ) → c < cells card
-      → (getD owners c 0 ≡ flatten shape coordinates + 1) ↔ AmongFirst n after c
+      → (getD owners c 0 ≡ leader card (flatten shape coordinates) + 1) ↔ AmongFirst n after c
   owner-and-placing shape coordinates before after n eight placing c small =
       let flat = flatten shape coordinates in
       let copied = placement-copies card shape coordinates before after n eight placing in
-      let owner = demand .owner approved c flat small in (
+      let free = admitted-exactly card .0 (judged .admitted) in
+      let owner = owner-leads card table owners verdict (free .0) (free .1) (judged .enough) promise approved c flat small (copied .element) in (
         λ e.
-            let has = owner .0 e .1 in
+            let has = owner .0 e in
             let r = has .combination in
             let below : r < n = omega (arith, copied .one-each, has .below) in
             let same : Inside (record { 0 = getD after r 0 }) ≡ Inside (record { 0 = c }) = sym (copied .cell-there r below) ∙ has .there in
             record { place = r; below = below; there = ap cellOf same },
         λ among.
-            owner .1 (
-              copied .element,
-              record {
-                combination = among .place;
-                below = omega (arith, copied .one-each, among .below);
-                there = copied .cell-there (among .place) (among .below) ∙ ap (λ (k : ℕ). Inside (record { 0 = k })) (among .there);
-              },
-            ),
+            owner .1 (record {
+              combination = among .place;
+              below = omega (arith, copied .one-each, among .below);
+              there = copied .cell-there (among .place) (among .below) ∙ ap (λ (k : ℕ). Inside (record { 0 = k })) (among .there);
+            }),
       )
 
   -- and placement answers for each of its elements

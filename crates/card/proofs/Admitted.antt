@@ -5,6 +5,7 @@ use mathlib.Core.List.{List, map}
 use Prim.Native.Nat.{ℕ, _≤_}
 use native.Mathlib.Omega.{arith}
 use borrow.Author.Tests.{leb-true}
+use Rattle.laws.proofs.Tests.{four-of}
 use lib.Dec.{leb}
 use lib.IntN.{ℤ}
 use lib.ListN.{getD}
@@ -13,8 +14,8 @@ use Rattle.answers.specs.declared.Refusal.{Refusal}
 use Rattle.answers.specs.declared.Refusal.the-variants.{Counts, Limits, Axis, Space, TooMany, Swizzle}
 use Rattle.card.specs.Lists.{all, within, withinZ}
 use Rattle.card.specs.Limits.{mostExtent, leastStride, mostStride, mostLength, mostCells, mostElements, mostCopies}
-use Rattle.card.specs.Card.{listed, extentOf, strideOf, elements, copies, cells}
-use Rattle.card.specs.Admission.{countsFit, itersFit, numbersFit, axesFit, spaceFits, fewEnough, swizzleFits, fieldChecks, admission}
+use Rattle.card.specs.Card.{listed, marksOf, extentOf, strideOf, elements, copies, cells}
+use Rattle.card.specs.Admission.{countsFit, itersFit, marksFit, numbersFit, axesFit, spaceFits, fewEnough, swizzleFits, fieldChecks, admission}
 use Rattle.card.specs.Packed.{cardOf, Admits}
 use Rattle.card.specs.declared.Iters.{Iters}
 use Rattle.card.specs.declared.Card.{Card}
@@ -77,14 +78,14 @@ fitting iters t =
 
 pub record Numbered (card : Card) : Type 0 where
   pub shard : itersFit (card .shard) ≡ true
+  pub marks : marksFit (marksOf card) (map strideOf (listed (card .shard))) ≡ true
   pub replica : itersFit (card .replica) ≡ true
   pub offset : all (withinZ leastStride mostStride) (card .offset) ≡ true
 
 pub numbered : (card : Card) → numbersFit card ≡ true → Numbered card
 numbered card t =
-    let both = and-eq-true-iff (itersFit (card .shard) && itersFit (card .replica)) (all (withinZ leastStride mostStride) (card .offset)) .0 t in
-    let iters = and-eq-true-iff (itersFit (card .shard)) (itersFit (card .replica)) .0 (both .0) in
-    record { shard = iters .0; replica = iters .1; offset = both .1 }
+    let parts = four-of (itersFit (card .shard)) _ _ _ t in
+    record { shard = parts .0; marks = parts .1; replica = parts .2; offset = parts .3 }
 
 -- the products of an admitted card
 pub record Sized (card : Card) : Type 0 where

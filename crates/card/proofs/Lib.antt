@@ -1,5 +1,6 @@
 pub mod Lists
 pub mod Listed
 pub mod ReadBack
+pub mod Marks
 pub mod Admitted
 pub mod Theorems

@@ -1,15 +1,17 @@
 -- A packed card read back: each column of the two arrays is one of the card's lists, and up to its count that of the listed iters.
 use mathlib.Core.Path.{_≡_, refl, sym, ap, _∙_}
+use mathlib.Core.Bool.{Bool, true, false, not}
 use mathlib.Core.List.{List, map}
 use Prim.Native.Nat.{ℕ, zero, suc, _+_, _*_, _≤_, _<_, min}
 use native.Mathlib.Omega.{arith}
+use lib.Dec.{eqb}
 use lib.IntN.{ℤ, pos}
 use lib.ListN.{length, getD, take, length-take, length-map}
 use lib.Seq.{slice, length-slice, ext-getD, getD-take, getD-drop}
 use Rattle.laws.proofs.Lists.{map-take}
 use Rattle.laws.proofs.Columns.{Filled}
 use Rattle.card.specs.Card.{listed, extentOf, strideOf, axisOf, elements, copies, cells}
-use Rattle.card.specs.Packed.{beyond, slots, none, iterAt, itersOf, cardOf, Whole, Packs, lastColumn, ListOf}
+use Rattle.card.specs.Packed.{beyond, slots, none, iterAt, itersOf, markNumber, markAt, cardOf, Whole, Packs, lastColumn, ListOf}
 use Rattle.card.specs.declared.Iter.{Iter}
 use Rattle.card.specs.declared.Card.{Card}
 
@@ -56,10 +58,10 @@ module _ (numbers : List ℕ) (strides : List ℤ) (list : ℕ) (of : ListOf num
       ∙ ap (take count) same
       ∙ column-part l other from count (of .few) (omega (arith, of .few))
 
-  pub extents-part : length numbers ≡ 48 → map extentOf (listed (itersOf numbers strides list)) ≡ slice (16 * list) (16 * list + count) numbers
+  pub extents-part : length numbers ≡ 56 → map extentOf (listed (itersOf numbers strides list)) ≡ slice (16 * list) (16 * list + count) numbers
   extents-part all = part extentOf numbers 0 (16 * list) refl (omega (arith, of .one-of-two))
 
-  pub axes-part : length numbers ≡ 48 → map axisOf (listed (itersOf numbers strides list)) ≡ slice (16 * list + 8) (16 * list + 8 + count) numbers
+  pub axes-part : length numbers ≡ 56 → map axisOf (listed (itersOf numbers strides list)) ≡ slice (16 * list + 8) (16 * list + 8 + count) numbers
   axes-part all = part axisOf numbers 0 (16 * list + 8) refl (omega (arith, of .one-of-two))
 
   pub strides-part : length strides ≡ 24 → map strideOf (listed (itersOf numbers strides list)) ≡ slice (8 * list) (8 * list + count) strides
@@ -70,13 +72,14 @@ pub eight-lengths : {numbers : List ℕ} {strides : List ℤ} → Whole numbers 
 eight-lengths {numbers} w = length-slice 32 40 numbers (omega (arith, w .all-numbers))
 
 -- what a card's columns hold
-abbrev pub numberAt : List Iter → List Iter → List ℕ → List ℕ → ℕ → ℕ → ℕ
-numberAt shard replica lengths last zero j = getD shard j none .extent
-numberAt shard replica lengths last (suc zero) j = getD shard j none .axis
-numberAt shard replica lengths last (suc (suc zero)) j = getD replica j none .extent
-numberAt shard replica lengths last (suc (suc (suc zero))) j = getD replica j none .axis
-numberAt shard replica lengths last (suc (suc (suc (suc zero)))) j = getD lengths j 0
-numberAt shard replica lengths last (suc (suc (suc (suc (suc c))))) j = getD last j 0
+abbrev pub numberAt : List Iter → List Iter → List ℕ → List ℕ → List Bool → ℕ → ℕ → ℕ
+numberAt shard replica lengths last marks zero j = getD shard j none .extent
+numberAt shard replica lengths last marks (suc zero) j = getD shard j none .axis
+numberAt shard replica lengths last marks (suc (suc zero)) j = getD replica j none .extent
+numberAt shard replica lengths last marks (suc (suc (suc zero))) j = getD replica j none .axis
+numberAt shard replica lengths last marks (suc (suc (suc (suc zero)))) j = getD lengths j 0
+numberAt shard replica lengths last marks (suc (suc (suc (suc (suc zero))))) j = getD last j 0
+numberAt shard replica lengths last marks (suc (suc (suc (suc (suc (suc c)))))) j = markNumber (getD marks j false)
 
 abbrev pub strideAt : List Iter → List Iter → List ℤ → ℕ → ℕ → ℤ
 strideAt shard replica offset zero j = getD shard j none .stride
@@ -86,13 +89,14 @@ strideAt shard replica offset (suc (suc c)) j = getD offset j (pos 0)
 -- a card's lists are of eight, as its arrays are
 pub record OfEight (card : Card) : Type 0 where
   pub shard : length (card .shard .at) ≡ 8
+  pub marks : length (card .marks) ≡ 8
   pub replica : length (card .replica .at) ≡ 8
   pub offset : length (card .offset) ≡ 8
   pub lengths : length (card .lengths) ≡ 8
 
 -- all columns filled, the card is packed
 module _ (card : Card) (eight : OfEight card) {numbers : List ℕ} {strides : List ℤ}
-    (f : Filled 0 (numberAt (card .shard .at) (card .replica .at) (card .lengths) (lastColumn card)) 6 8 numbers)
+    (f : Filled 0 (numberAt (card .shard .at) (card .replica .at) (card .lengths) (lastColumn card) (card .marks)) 7 8 numbers)
     (g : Filled (pos 0) (strideAt (card .shard .at) (card .replica .at) (card .offset)) 3 8 strides) where
   shard-back : map (iterAt numbers strides 0) slots ≡ card .shard .at
   shard-back =
@@ -110,10 +114,20 @@ module _ (card : Card) (eight : OfEight card) {numbers : List ℕ} {strides : Li
       ext-getD other (slice from (from + 8) l) column (omega (arith, length-slice from (from + 8) l long))
       (λ k h. let small : k < 8 = omega (arith, length-slice from (from + 8) l long) in slice-at l from (from + 8) other k (omega arith) ∙ at k small)
 
+  mark-back : (mark : Bool) → not (eqb (markNumber mark) 0) ≡ mark
+  mark-back true = refl
+  mark-back false = refl
+
+  marks-back : map (markAt numbers) slots ≡ card .marks
+  marks-back =
+      sym (eight-slots (markAt numbers) false (card .marks) (eight .marks)
+      (λ k h. rw (f .so-far 6 k (omega arith) h) (sym (mark-back (getD (card .marks) k false)))))
+
   card-back : cardOf numbers strides ≡ card
   card-back =
       rw (
         shard-back,
+        marks-back,
         replica-back,
         column-back 0 32 numbers (card .lengths) (omega (arith, f .whole)) (eight .lengths) (λ k h. f .so-far 4 k (omega arith) h),
         column-back (pos 0) 16 strides (card .offset) (omega (arith, g .whole)) (eight .offset) (λ k h. g .so-far 2 k (omega arith) h),

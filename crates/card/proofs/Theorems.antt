@@ -9,7 +9,7 @@ use Rattle.answers.specs.declared.Numbers.{Numbers}
 use Rattle.answers.specs.declared.Refusal.{Refusal}
 use Rattle.answers.specs.declared.Refusal.the-variants.{Counts, Limits, Axis, Space, TooMany, Swizzle}
 use Rattle.answers.proofs.OneToOne.{readBack, refused-back, pinned, rung, either}
-use Rattle.card.specs.Card.{listed}
+use Rattle.card.specs.Card.{listed, marksOf}
 use Rattle.card.specs.Admission.{countsFit, numbersFit, axesFit, spaceFits, fewEnough, swizzleFits, admission, admissionNumbers}
 use Rattle.card.specs.declared.Card.{Card}
 use Rattle.card.specs.declared.Iters.{Iters}
@@ -97,6 +97,7 @@ pub record Alike (a b : Iters) : Type 0 where
 -- two cards that differ past the counts of their iters alone
 pub record AlikeCards (a b : Card) : Type 0 where
   pub shard : Alike (a .shard) (b .shard)
+  pub marks : marksOf a ≡ marksOf b
   pub replica : Alike (a .replica) (b .replica)
   pub offset : a .offset ≡ b .offset
   pub lengths : a .lengths ≡ b .lengths
@@ -106,4 +107,4 @@ pub record AlikeCards (a b : Card) : Type 0 where
 pub past-the-count : (a b : Card) → AlikeCards a b → admission a ≡ admission b
 unfolding admission
 past-the-count a b k =
-    rw (k .shard .iters, k .replica .iters, k .shard .count, k .replica .count, k .offset, k .lengths, k .swizzle)
+    rw (k .shard .iters, k .marks, k .replica .iters, k .shard .count, k .replica .count, k .offset, k .lengths, k .swizzle)

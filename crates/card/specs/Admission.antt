@@ -1,15 +1,16 @@
 -- The admission of a card: document 01's checks 1 to 6, in this order.
 use Prim.Native.Nat.{ℕ}
-use mathlib.Core.Bool.{Bool, cond, not, _&&_}
-use mathlib.Core.List.{List, map}
+use mathlib.Core.Bool.{Bool, true, cond, not, _&&_, _||_}
+use mathlib.Core.List.{List, [], _∷_, map}
 use lib.Dec.{leb}
+use lib.IntN.{ℤ, pos}
 use Rattle.answers.specs.Refusals.{answer, refusalNumbers}
 use Rattle.answers.specs.declared.Numbers.{Numbers}
 use Rattle.answers.specs.declared.Refusal.the-variants.{Counts, Limits, Axis, Space, TooMany, Swizzle}
 use Rattle.swizzle.specs.Swizzle.{permitted}
 use Rattle.card.specs.Lists.{all, within, withinZ, product}
 use Rattle.card.specs.Limits.{mostShard, mostReplica, mostExtent, leastStride, mostStride, lastAxis, mostLength, mostCells, mostElements, mostCopies}
-use Rattle.card.specs.Card.{listed, extentOf, strideOf, axisOf, elements, copies}
+use Rattle.card.specs.Card.{listed, marksOf, extentOf, strideOf, axisOf, elements, copies}
 use Rattle.card.specs.declared.Iters.{Iters}
 use Rattle.card.specs.declared.Card.{Card}
 use Rattle.card.specs.declared.Admission.{Admission}
@@ -23,8 +24,18 @@ countsFit card = within 1 mostShard (card .shard .count) && leb (card .replica .
 abbrev pub itersFit : Iters → Bool
 itersFit iters = all (within 1 mostExtent) (map extentOf (listed iters)) && all (withinZ leastStride mostStride) (map strideOf (listed iters))
 
+-- for a marked iter the only stride within the limits is 0
+abbrev pub marksFit : List Bool → List ℤ → Bool
+marksFit [] strides = true
+marksFit (mark ∷ marks) [] = true
+marksFit (mark ∷ marks) (stride ∷ strides) = (not mark || withinZ (pos 0) (pos 0) stride) && marksFit marks strides
+
 abbrev pub numbersFit : Card → Bool
-numbersFit card = itersFit (card .shard) && itersFit (card .replica) && all (withinZ leastStride mostStride) (card .offset)
+numbersFit card =
+    itersFit (card .shard)
+    && marksFit (marksOf card) (map strideOf (listed (card .shard)))
+    && itersFit (card .replica)
+    && all (withinZ leastStride mostStride) (card .offset)
 
 -- check 3: no axis above 7
 abbrev pub itersOnAxes : Iters → Bool

@@ -1,6 +1,7 @@
 -- What a layout card holds: its iters are the first count of each list, and their products are the elements, the copies and the cells.
 use Prim.Native.Nat.{ℕ}
 use lib.IntN.{ℤ}
+use mathlib.Core.Bool.{Bool}
 use mathlib.Core.List.{List, map}
 use lib.ListN.{take}
 use Rattle.card.specs.Lists.{product}
@@ -11,6 +12,10 @@ use Rattle.card.specs.declared.Card.{Card}
 -- iters past the count are ignored
 abbrev pub listed : Iters → List Iter
 listed iters = take (iters .count) (iters .at)
+
+-- the reuse marks of the shard's iters, and marks past the count are ignored too
+abbrev pub marksOf : Card → List Bool
+marksOf card = take (card .shard .count) (card .marks)
 
 abbrev pub extentOf : Iter → ℕ
 extentOf iter = iter .extent

@@ -2,13 +2,15 @@
 -- inside promise each other.
 use Prim.Native.Nat.{ℕ, _+_, _*_, _^_, _≤_, min}
 use mathlib.Core.Path.{_≡_}
+use mathlib.Core.Bool.{Bool, cond, not}
 use mathlib.Core.List.{List, [], _∷_, map}
+use lib.Dec.{eqb}
 use lib.IntN.{ℤ, pos, natAbs}
 use lib.ListN.{length, getD}
 use lib.Seq.{slice}
 use Rattle.swizzle.specs.declared.Swizzle.{Swizzle}
 use Rattle.card.specs.Limits.{leastStride}
-use Rattle.card.specs.Card.{elements, copies, cells}
+use Rattle.card.specs.Card.{listed, marksOf, strideOf, elements, copies, cells}
 use Rattle.card.specs.Admission.{admission}
 use Rattle.card.specs.declared.Admission.the-variants.{Admitted}
 use Rattle.card.specs.declared.Iter.{Iter}
@@ -30,8 +32,8 @@ slots = 0 ∷ 1 ∷ 2 ∷ 3 ∷ 4 ∷ 5 ∷ 6 ∷ 7 ∷ []
 abbrev pub none : Iter
 none = record { extent = 0; stride = pos 0; axis = 0 }
 
--- the unsigned numbers are six columns of eight: extents and axes of the shard (list 0), those of the replica (list 1), the lengths, and last the
--- two counts, M, B, S, the elements, the copies and the cells; the signed ones are three: the strides of each list, and the offset
+-- the unsigned numbers are seven columns of eight: extents and axes of the shard (list 0), those of the replica (list 1), the lengths, then the
+-- two counts, M, B, S, the elements, the copies and the cells, and last the marks; the signed ones are three: the strides of each list, and the offset
 abbrev pub iterAt : List ℕ → List ℤ → ℕ → ℕ → Iter
 iterAt numbers strides list k =
     record { extent = getD numbers (16 * list + k) 0; stride = getD strides (8 * list + k) (pos 0); axis = getD numbers (16 * list + 8 + k) 0 }
@@ -42,19 +44,34 @@ itersOf numbers strides list = record { at = map (iterAt numbers strides list) s
 abbrev pub swizzleOf : List ℕ → Swizzle
 swizzleOf numbers = record { m = getD numbers 42 0; b = getD numbers 43 0; s = getD numbers 44 0 }
 
+-- a mark is 1 or 0
+abbrev pub markNumber : Bool → ℕ
+markNumber mark = cond mark 1 0
+
+abbrev pub markAt : List ℕ → ℕ → Bool
+markAt numbers k = not (eqb (getD numbers (48 + k) 0) 0)
+
 -- the card that has these numbers
 abbrev pub cardOf : List ℕ → List ℤ → Card
 cardOf numbers strides = record {
   shard = itersOf numbers strides 0;
+  marks = map (markAt numbers) slots;
   replica = itersOf numbers strides 1;
   offset = slice 16 24 strides;
   lengths = slice 32 40 numbers;
   swizzle = swizzleOf numbers;
 }
 
+-- the marks and the strides of the listed shard iters
+abbrev pub marksThere : List ℕ → List ℤ → List Bool
+marksThere numbers strides = marksOf (cardOf numbers strides)
+
+abbrev pub stridesThere : List ℕ → List ℤ → List ℤ
+stridesThere numbers strides = map strideOf (listed (itersOf numbers strides 0))
+
 -- both arrays are whole, and the sizes are those of the card, told apart below beyond
 pub record Whole (numbers : List ℕ) (strides : List ℤ) : Type 0 where
-  pub all-numbers : length numbers ≡ 48
+  pub all-numbers : length numbers ≡ 56
   pub all-strides : length strides ≡ 24
   pub elements-there : getD numbers 45 0 ≡ min (elements (cardOf numbers strides)) beyond
   pub copies-there : getD numbers 46 0 ≡ min (copies (cardOf numbers strides)) beyond

@@ -26,9 +26,11 @@ pub struct Iters {
     pub count: u64,
 }
 
-// A layout card. The offset has one number per axis, and so have the lengths of the space.
+// A layout card. Each shard iter may carry a reuse mark; those past the count are ignored. The offset has
+// one number per axis, and so have the lengths of the space.
 pub struct Card {
     pub shard: Iters,
+    pub marks: [bool; 8],
     pub replica: Iters,
     pub offset: [i64; 8],
     pub lengths: [u64; 8],
@@ -41,9 +43,9 @@ pub enum Admission {
     Refused(Refusal),
 }
 
-// Packed, a card's numbers are two arrays. The unsigned ones are six columns of eight: the extents and the
-// axes of the shard, which is list 0, those of the replica, which is list 1, the lengths, and last the two
-// counts, M, B, S and the sizes. The signed ones are three: the strides of each list, and the offset.
+// Packed, a card's numbers are two arrays. The unsigned ones are seven columns of eight: the extents and the
+// axes of the shard, which is list 0, those of the replica, which is list 1, the lengths, then the two
+// counts, M, B, S and the sizes, and last the marks, 1 or 0. The signed ones are three: the strides of each list, and the offset.
 pub const SHARD: usize = 0;
 
 pub const REPLICA: usize = 1;
@@ -63,5 +65,7 @@ pub const ELEMENTS: usize = 45;
 pub const COPIES: usize = 46;
 
 pub const CELLS: usize = 47;
+
+pub const MARKS: usize = 48;
 
 pub const OFFSET: usize = 16;

@@ -1,6 +1,6 @@
--- Where the copies of an element have a cell each, elements times copies cells are occupied: all copies in one row have as many different
--- cells, and a table that is emptied there one by one had that many.
-use mathlib.Core.Path.{_≡_, refl, sym, ap, _∙_, subst}
+-- Where the copies of an element have a cell each, classes times copies cells are occupied: all copies of all leaders in one row have as many
+-- different cells, and a table that is emptied there one by one had that many.
+use mathlib.Core.Path.{_≡_, refl, sym, ap, ap₂, _∙_, subst}
 use mathlib.Core.List.{List, [], _∷_}
 use Prim.Native.Nat.{ℕ, zero, suc, _+_, _*_, _/_, _%_, _<_}
 use native.Mathlib.Nat.{mod-lt, div-add-mod', div-lt-iff-lt-mul, not-suc-le-zero}
@@ -59,53 +59,71 @@ places-counted (suc n) place table p =
 
 -- the copies of an element have a cell each
 abbrev pub CopiesApart : Layout → ℕ → Type 0
-CopiesApart p n = (f r s : ℕ) → f < n → r < p .copies → s < p .copies → p .at f r ≡ p .at f s → r ≡ s
+CopiesApart p n = (f r s : ℕ) → f < n → r < p .copies f → s < p .copies f → p .at f r ≡ p .at f s → r ≡ s
 
-module _ (p : Layout) (n : ℕ) (table : List ℕ) (some : 0 < p .copies) (owners : Owners p n table) (apart : CopiesApart p n) where
-  -- all copies of all elements in one row, and the cell of each
+-- the elements that have copies are so many leaders, each with as many copies
+pub record Led (p : Layout) (n classes copies : ℕ) (leader : ℕ → ℕ) : Type 0 where
+  pub element : (k : ℕ) → k < classes → leader k < n
+  pub own : (k : ℕ) → k < classes → p .copies (leader k) ≡ copies
+  pub found : (f : ℕ) → f < n → 0 < p .copies f → (k : ℕ) × (k < classes) × (leader k ≡ f)
+  pub once : (j k : ℕ) → j < classes → k < classes → leader j ≡ leader k → j ≡ k
+
+module _ (p : Layout) (n : ℕ) (table : List ℕ) (owners : Owners p n table) (apart : CopiesApart p n) (classes copies : ℕ) (leader : ℕ → ℕ)
+    (some : 0 < copies) (led : Led p n classes copies leader) where
+  -- all copies of all leaders in one row, and the cell of each
   place : ℕ → ℕ
-  place k = p .at (k / p .copies) (k % p .copies)
+  place k = p .at (leader (k / copies)) (k % copies)
 
-  claims : (k : ℕ) → Claims p (k / p .copies) (place k)
+  class : (k : ℕ) → k < classes * copies → k / copies < classes
+  class k h = div-lt-iff-lt-mul {k = copies} some .1 h
+
+  element : (k : ℕ) → k < classes * copies → leader (k / copies) < n
+  element k h = led .element (k / copies) (class k h)
+
+  claims : (k : ℕ) → k < classes * copies → Claims p (leader (k / copies)) (place k)
   unfolding place
-  claims k = record { copy = k % p .copies; below = mod-lt k some; there = refl }
+  claims k h = record { copy = k % copies; below = rw (led .own (k / copies) (class k h)) (mod-lt k some); there = refl }
 
-  element : (k : ℕ) → k < n * p .copies → k / p .copies < n
-  element k h = div-lt-iff-lt-mul {k = p .copies} some .1 h
-
-  only-there : (c : ℕ) → 0 < getD table c 0 → (k : ℕ) × (k < n * p .copies) × (place k ≡ c)
+  only-there : (c : ℕ) → 0 < getD table c 0 → (k : ℕ) × (k < classes * copies) × (place k ≡ c)
   unfolding place
   only-there c h = split (getD table c 0) refl h
     where
-      found : (f : ℕ) (o : (f < n) × Claims p f c) → (k : ℕ) × (k < n * p .copies) × (place k ≡ c)
+      found : (f : ℕ) (o : (f < n) × Claims p f c) → (k : ℕ) × (k < classes * copies) × (place k ≡ c)
       found f o =
-          let k = f * p .copies + o .1 .copy in (
+          let led-by = led .found f (o .0) (omega (arith, o .1 .below)) in
+          let j = led-by .0 in
+          let many : p .copies f ≡ copies = ap (p .copies) (sym (led-by .2)) ∙ led .own j (led-by .1) in
+          let below : o .1 .copy < copies = omega (arith, o .1 .below) in
+          let k = j * copies + o .1 .copy in (
             k,
-            digits-lt (o .0) (o .1 .below),
-            ap (λ (g : ℕ). p .at g (k % p .copies)) (digits-div f (o .1 .below)) ∙ ap (p .at f) (digits-mod f (o .1 .below)) ∙ o .1 .there,
+            digits-lt (led-by .1) below,
+            ap (λ (g : ℕ). p .at (leader g) (k % copies)) (digits-div j below)
+                ∙ ap₂ (λ (g r : ℕ). p .at g r) (led-by .2) (digits-mod j below)
+                ∙ o .1 .there,
           )
 
-      split : (entry : ℕ) → getD table c 0 ≡ entry → 0 < entry → (k : ℕ) × (k < n * p .copies) × (place k ≡ c)
+      split : (entry : ℕ) → getD table c 0 ≡ entry → 0 < entry → (k : ℕ) × (k < classes * copies) × (place k ≡ c)
       split zero e less = absurd (not-suc-le-zero less)
       split (suc f) e less = found f (owners f c .0 (e ∙ omega arith))
 
-  different : (j k : ℕ) → j < n * p .copies → k < n * p .copies → place j ≡ place k → j ≡ k
+  different : (j k : ℕ) → j < classes * copies → k < classes * copies → place j ≡ place k → j ≡ k
   unfolding place
   different j k hj hk e =
-      let d = p .copies in
-      let same : j / d ≡ k / d =
-      owners-none-share p n table owners (j / d) (k / d) (place k) (element j hj) (element k hk)
-      (record { one = subst (Claims p (j / d)) e (claims j); other = claims k }) in
+      let d = copies in
+      let same-leader : leader (j / d) ≡ leader (k / d) =
+      owners-none-share p n table owners (leader (j / d)) (leader (k / d)) (place k) (element j hj) (element k hk)
+      (record { one = subst (Claims p (leader (j / d))) e (claims j hj); other = claims k hk }) in
+      let same : j / d ≡ k / d = led .once (j / d) (k / d) (class j hj) (class k hk) same-leader in
       let copy : j % d ≡ k % d =
-      apart (j / d) (j % d) (k % d) (element j hj) (mod-lt j some) (mod-lt k some)
-      (e ∙ ap (λ (f : ℕ). p .at f (k % d)) (sym same)) in
+      apart (leader (j / d)) (j % d) (k % d) (element j hj) (rw (led .own (j / d) (class j hj)) (mod-lt j some))
+      (rw (led .own (j / d) (class j hj)) (mod-lt k some)) (e ∙ ap (λ (f : ℕ). p .at f (k % d)) (sym same-leader)) in
       sym (div-add-mod' j d) ∙ ap (λ (q : ℕ). q * d + j % d) same ∙ ap (λ (r : ℕ). k / d * d + r) copy ∙ div-add-mod' k d
 
-  -- as many cells are occupied as there are copies of all elements
-  pub all-occupied : occupied table ≡ n * p .copies
+  -- as many cells are occupied as there are copies of all leaders
+  pub all-occupied : occupied table ≡ classes * copies
   all-occupied =
-      places-counted (n * p .copies) place table (record {
-        there = λ k h. omega (arith, owners (k / p .copies) (place k) .1 (element k h, claims k));
+      places-counted (classes * copies) place table (record {
+        there = λ k h. omega (arith, owners (leader (k / copies)) (place k) .1 (element k h, claims k h));
         only = only-there;
         different = different;
       })

@@ -42,7 +42,7 @@ nowhere c a = not-suc-le-zero (a .below)
 module _ (p : Layout) (f : ℕ) (row : List ℕ) (is : RowOf p f row) (c : ℕ) where
   pub among-claims : Among row c → Claims p f c
   among-claims a =
-      let below : a .place < p .copies = omega (arith, is .size) in
+      let below : a .place < p .copies f = omega (arith, is .size) in
       record { copy = a .place; below = below; there = sym (is .cells (a .place) below) ∙ a .there }
 
   pub claims-among : Claims p f c → Among row c

@@ -22,24 +22,24 @@ module _ (at : ℕ → ℕ) where
   row-at (suc k) r zero h = ap at (omega arith)
   row-at (suc k) r (suc i) h = row-at k (r + 1) i (omega arith) ∙ ap at (omega arith)
 
-row-is : (p : Layout) (f : ℕ) → RowOf p f (rowFrom (p .at f) (p .copies) 0)
+row-is : (p : Layout) (f : ℕ) → RowOf p f (rowFrom (p .at f) (p .copies f) 0)
 row-is p f =
     record {
-      size = row-length (p .at f) (p .copies) 0;
-      cells = λ r h. row-at (p .at f) (p .copies) 0 r h ∙ ap (p .at f) (zero-add r);
+      size = row-length (p .at f) (p .copies f) 0;
+      cells = λ r h. row-at (p .at f) (p .copies f) 0 r h ∙ ap (p .at f) (zero-add r);
     }
 
 module _ (p : Layout) (n cells : ℕ) (inside : Inside p n cells) where
   -- claiming element y and then what is left comes to an outcome where what is left does, and where y's row meets somebody
   step : (left y : ℕ) (table : List ℕ) → y < n → length table ≡ cells → Owners p y table
       → ((after : List ℕ) → length after ≡ cells → Owners p (y + 1) after → ClaimsComeTo p n cells (claimFrom p left (y + 1) after))
-      → (entry : ℕ) → entryMet table (rowFrom (p .at y) (p .copies) 0) ≡ entry → ClaimsComeTo p n cells (claimFrom p (suc left) y table)
+      → (entry : ℕ) → entryMet table (rowFrom (p .at y) (p .copies y) 0) ≡ entry → ClaimsComeTo p n cells (claimFrom p (suc left) y table)
   step left y table h l o next zero q =
-      let row = rowFrom (p .at y) (p .copies) 0 in
+      let row = rowFrom (p .at y) (p .copies y) 0 in
       let w = row-within p n table (rw l inside) y row h (row-is p y) in
       rw (q, claimFrom) (next (rowWritten (y + 1) row table) (written-length (y + 1) row table ∙ l) (owners-more p y table o row (row-is p y) w q))
   step left y table h l o next (suc x) q =
-      let row = rowFrom (p .at y) (p .copies) 0 in
+      let row = rowFrom (p .at y) (p .copies y) 0 in
       rw (q, claimFrom) (clash-first p y table o row (row-is p y) n h (omega arith))
 
   claim-comes : (left y : ℕ) (table : List ℕ) → y + left ≡ n → length table ≡ cells → Owners p y table → ClaimsComeTo p n cells (claimFrom p left y table)

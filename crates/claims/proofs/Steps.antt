@@ -25,7 +25,7 @@ owners-none p cells = λ f c. (λ e. absurd (omega (arith, nobody cells c)), λ 
 -- where every copy lies in the cells, each element's row lies in the table of the cells
 pub row-within : (p : Layout) (n : ℕ) (table : List ℕ) → Inside p n (length table) → (y : ℕ) (row : List ℕ) → y < n → RowOf p y row → Within row table
 row-within p n table inside y row h is = λ r k.
-    let below : r < p .copies = omega (arith, is .size) in omega (arith, is .cells r below, inside y r h below)
+    let below : r < p .copies y = omega (arith, is .size) in omega (arith, is .cells r below, inside y r h below)
 
 -- a row that meets somebody is not claimed, and one that meets nobody is
 pub claim-none : (row : List ℕ) (f : ℕ) (table : List ℕ) → 0 < entryMet table row → RowClaim row f 0 table table
@@ -98,3 +98,13 @@ module _ (p : Layout) (y : ℕ) (before : List ℕ) (owners : Owners p y before)
 
   pub met-clash : (n : ℕ) → y < n → newly ≡ 0 → FirstClash p n (entryMet before row - 1) y (cellMet before (entryMet before row) row - 1)
   met-clash n h e = clash-first p y before owners row is n h (claim .met e .0)
+
+-- an element without copies claims nothing: the table has the owners of one element more as it is
+pub owners-follow : (p : Layout) (y : ℕ) (table : List ℕ) → p .copies y ≡ 0 → Owners p y table → Owners p (y + 1) table
+owners-follow p y table none owners f c = (
+  λ e. let o = owners f c .0 e in (omega (arith, o .0), o .1),
+  λ h.
+      ⊎-elim (λ (same : f ≡ y). absurd (omega (arith, subst (λ (n : ℕ). h .1 .copy < p .copies n) same (h .1 .below))))
+      (λ (less : f < y). owners f c .1 (less, h .1))
+      (eq-or-lt-of-le (omega (arith, h .0))),
+)

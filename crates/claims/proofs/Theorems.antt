@@ -106,5 +106,5 @@ pub copies-no-clash : (p : Layout) (x y cell : ℕ) → FirstClash p 1 x y cell 
 copies-no-clash p x y cell k = omega (arith, k .ordered, k .element)
 
 -- two copies of element 0 in cell 1, and element 1 in cell 0: two occupied cells
-both-in-one : run (record { copies = 2; at = λ f r. 1 - f }) 2 3 ≡ Owned (2 ∷ 1 ∷ 0 ∷ []) 2
+both-in-one : run (record { copies = λ f. 2; at = λ f r. 1 - f }) 2 3 ≡ Owned (2 ∷ 1 ∷ 0 ∷ []) 2
 both-in-one = refl

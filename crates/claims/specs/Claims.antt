@@ -5,15 +5,16 @@ use mathlib.Core.List.{List, [], _∷_}
 use Prim.Native.Nat.{ℕ, zero, suc, _+_, _≤_, _<_}
 use lib.ListN.{length, getD}
 
--- a layout: copy r of element f goes to cell `at f r`, for each r below the copies
+-- a layout: copy r of element f goes to cell `at f r`, for each r below the element's copies; an element that is one with a smaller one has no
+-- copies of its own
 pub record Layout : Type 0 where
-  pub copies : ℕ
+  pub copies : ℕ → ℕ
   pub at : ℕ → ℕ → ℕ
 
 -- element f claims cell c: one of its copies goes there
 pub record Claims (p : Layout) (f c : ℕ) : Type 0 where
   pub copy : ℕ
-  pub below : copy < p .copies
+  pub below : copy < p .copies f
   pub there : p .at f copy ≡ c
 
 -- elements x and y share cell c

@@ -6,7 +6,7 @@ use Rattle.claims.specs.Claims.{Layout, Share, OwnedTable, FirstClash}
 
 -- every copy of the n elements lies in the cells
 abbrev pub Inside : Layout → ℕ → ℕ → Type 0
-Inside p n cells = (f r : ℕ) → f < n → r < p .copies → p .at f r < cells
+Inside p n cells = (f r : ℕ) → f < n → r < p .copies f → p .at f r < cells
 
 -- no two different elements share a cell
 abbrev pub NoneShare : Layout → ℕ → Type 0

@@ -10,8 +10,8 @@ use Rattle.claims.specs.Claims.{Layout, occupied}
 
 -- a row of element f: where its copies go
 pub record RowOf (p : Layout) (f : ℕ) (row : List ℕ) : Type 0 where
-  pub size : length row ≡ p .copies
-  pub cells : (r : ℕ) → r < p .copies → getD row r 0 ≡ p .at f r
+  pub size : length row ≡ p .copies f
+  pub cells : (r : ℕ) → r < p .copies f → getD row r 0 ≡ p .at f r
 
 -- each cell of a row is one of the table's
 abbrev pub Within : List ℕ → List ℕ → Type 0

@@ -16,7 +16,7 @@ rowFrom at (suc left) r = at r ∷ rowFrom at left (r + 1)
 abbrev pub claimFrom : Layout → ℕ → ℕ → List ℕ → Outcome
 claimFrom p zero y table = Owned table (occupied table)
 claimFrom p (suc left) y table =
-    let row = rowFrom (p .at y) (p .copies) 0 in
+    let row = rowFrom (p .at y) (p .copies y) 0 in
     elim (entryMet table row) [
       | zero ↦ claimFrom p left (y + 1) (rowWritten (y + 1) row table)
       | suc x ↦ Clash (entryMet table row - 1) y (cellMet table (entryMet table row) row - 1)

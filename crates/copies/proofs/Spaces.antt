@@ -26,7 +26,7 @@ roomed lengths t =
     let both = and-eq-true-iff (all (within 1 mostLength) lengths) (leb (product lengths) mostCells) .0 t in
     record { some = product-positive mostLength lengths (both .0); few = leb-true (product lengths) mostCells (both .1) }
 
-pub space-numerable : (numbers : List ℕ) → length numbers ≡ 48 → spaceFits (slice 32 40 numbers) ≡ true → Numerable numbers 32 8
+pub space-numerable : (numbers : List ℕ) → length numbers ≡ 56 → spaceFits (slice 32 40 numbers) ≡ true → Numerable numbers 32 8
 space-numerable numbers all t =
     let n = roomed (slice 32 40 numbers) t in
     record { there = omega arith; few = le-refl 8; some = n .some; small = omega (arith, n .few) }

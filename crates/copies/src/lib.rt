@@ -68,7 +68,7 @@ pub fn locate(sizes: &[u64; 8], coordinates: &[u64; 8], count: u64) -> Position
 
 // The spot of coordinates in a packed card's space. Public, with a requires, for the crates above, which
 // ask for a cell by its coordinates.
-pub fn spot_at(numbers: &[u64; 48], coordinates: &[u64; 8]) -> Spot
+pub fn spot_at(numbers: &[u64; 56], coordinates: &[u64; 8]) -> Spot
     requires { ⌜ (spaceFits (slice 32 40 (now numbers)) ≡ true) × (length (now coordinates) ≡ 8) ⌝ }
     ensures { λ r. ⌜ r ≡ spotAt (position (slice 32 40 (now (numbers .entry))) (now (coordinates .entry))) ⌝ }
 {
@@ -86,7 +86,7 @@ fn on_axis(sum: i64) -> u64
 }
 
 // The finished sum of m as a coordinate: swizzled, unless it is below zero.
-fn swizzled_on_axis(numbers: &[u64; 48], sum: i64) -> u64
+fn swizzled_on_axis(numbers: &[u64; 56], sum: i64) -> u64
     requires { ⌜ Permits (now numbers) ⌝ }
     ensures { λ r. ⌜ r ≡ onAxis (swizzledZ (swizzleOf (now (numbers .entry))) sum) ⌝ }
 {
@@ -116,7 +116,7 @@ fn finish(sums: &[i64; 8], coordinates: &mut [u64; 8])
 
 // Where one copy goes, as one word: the base of its element, then the replica, then the swizzle of m,
 // and only then the space is asked.
-fn copy_number(base: &[i64; 8], numbers: &[u64; 48], strides: &[i64; 24], combination: u64) -> u64
+fn copy_number(base: &[i64; 8], numbers: &[u64; 56], strides: &[i64; 24], combination: u64) -> u64
     requires { ⌜ Ready (now base) (now numbers) (now strides) ⌝ }
     ensures { λ r. ⌜ r ≡ numberOf (positionFrom (slice 32 40 (now (numbers .entry))) (swizzleOf (now (numbers .entry))) (itersOf (now (numbers .entry)) (now (strides .entry)) 1) (now (base .entry)) combination) ⌝ }
 {
@@ -159,7 +159,7 @@ fn smaller(a: u64, b: u64) -> u64
 
 // Writes the cells of all copies of an element whose base is known, and gives the smallest axis on
 // which one lies outside, or AXES.
-fn place_copies(base: &[i64; 8], numbers: &[u64; 48], strides: &[i64; 24], row: &mut [u32]) -> u64
+fn place_copies(base: &[i64; 8], numbers: &[u64; 56], strides: &[i64; 24], row: &mut [u32]) -> u64
     requires { ⌜ Ready (now base) (now numbers) (now strides) ⌝ }
     ensures { λ r. ⌜ PlacedRow (spotFrom (slice 32 40 (now (numbers .entry))) (swizzleOf (now (numbers .entry))) (itersOf (now (numbers .entry)) (now (strides .entry)) 1) (now (base .entry))) (now (row .entry)) (now (row .exit)) r ⌝ }
 {
@@ -194,7 +194,7 @@ fn offset(strides: &[i64; 24]) -> [i64; 8]
 // Writes the cells of all copies of an element, as many combinations as the row is long, and gives
 // the smallest axis on which one lies outside, or AXES. Public, with a requires, for the crates
 // above, which pack and admit a card first.
-pub fn place_row(numbers: &[u64; 48], strides: &[i64; 24], flat: Flat, row: &mut [u32]) -> u64
+pub fn place_row(numbers: &[u64; 56], strides: &[i64; 24], flat: Flat, row: &mut [u32]) -> u64
     requires { ⌜ Admits (now numbers) (now strides) ⌝ }
     ensures { λ r. ⌜ PlacedRow (spot (cardOf (now (numbers .entry)) (now (strides .entry))) (flat .0)) (now (row .entry)) (now (row .exit)) r ⌝ }
 {

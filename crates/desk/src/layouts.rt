@@ -71,10 +71,11 @@ fn replica(numbers: &[u64; 80], below: &[bool; 80]) -> Iters {
     }
 }
 
-// The card of a line: its first numbers.
+// The card of a line: its first numbers, and the marks.
 pub fn card(numbers: &[u64; 80], below: &[bool; 80]) -> Card {
     Card {
         shard: shard(numbers, below),
+        marks: plain::marks(numbers[places::MARKS]),
         replica: replica(numbers, below),
         offset: eight_signed(numbers, below, places::OFFSETS),
         lengths: eight(numbers, places::LENGTHS),

@@ -35,7 +35,7 @@ fn are_equal(one: &[i64; 8], other: &[i64; 8]) -> bool
 }
 
 // Whether a replica combination gives these sums.
-fn gives(numbers: &[u64; 48], strides: &[i64; 24], combination: u64, sums: &[i64; 8]) -> bool
+fn gives(numbers: &[u64; 56], strides: &[i64; 24], combination: u64, sums: &[i64; 8]) -> bool
     requires { ⌜ Walkable (now numbers) (now strides) 1 × (length (now sums) ≡ 8) ⌝ }
     ensures { λ r. ⌜ Says (walked (itersOf (now (numbers .entry)) (now (strides .entry)) 1) combination zeros ≡ now (sums .entry)) r ⌝ }
 {
@@ -45,7 +45,7 @@ fn gives(numbers: &[u64; 48], strides: &[i64; 24], combination: u64, sums: &[i64
 }
 
 // The smallest combination below b that gives the sums of b, or b.
-fn find_twin(numbers: &[u64; 48], strides: &[i64; 24], b: u64) -> u64
+fn find_twin(numbers: &[u64; 56], strides: &[i64; 24], b: u64) -> u64
     requires { ⌜ Walkable (now numbers) (now strides) 1 ⌝ }
     ensures { λ r. ⌜ Twin (itersOf (now (numbers .entry)) (now (strides .entry)) 1) b r ⌝ }
 {
@@ -63,7 +63,7 @@ fn find_twin(numbers: &[u64; 48], strides: &[i64; 24], b: u64) -> u64
 
 // The pair of a packed card that passes checks 1 to 6. The first combination is the second of none, so
 // a card without replica is not searched.
-fn find_pair(numbers: &[u64; 48], strides: &[i64; 24]) -> Finding
+fn find_pair(numbers: &[u64; 56], strides: &[i64; 24]) -> Finding
     requires { ⌜ Admits (now numbers) (now strides) ⌝ }
     ensures { λ r. ⌜ Finds (itersOf (now (numbers .entry)) (now (strides .entry)) 1) r ⌝ }
 {
@@ -81,7 +81,7 @@ fn find_pair(numbers: &[u64; 48], strides: &[i64; 24]) -> Finding
 
 // The admission of a packed card to verdict, owner and placement: checks 1 to 6, then 17. Public, with a
 // requires, for the crates above, which pack a card first.
-pub fn admit_packed(numbers: &[u64; 48], strides: &[i64; 24]) -> Admission
+pub fn admit_packed(numbers: &[u64; 56], strides: &[i64; 24]) -> Admission
     requires { ⌜ Whole (now numbers) (now strides) ⌝ }
     ensures { λ r. ⌜ r ≡ fullAdmission (cardOf (now (numbers .entry)) (now (strides .entry))) ⌝ }
 {

@@ -13,7 +13,7 @@ use Rattle.card.specs.declared.Card.{Card}
 use Rattle.card.specs.declared.Admission.the-variants.{Admitted}
 use Rattle.rules.specs.declared.Spot.the-variants.{Inside, Outside}
 use Rattle.idle.specs.Admission.{fullAdmission}
-use Rattle.idle.proofs.Theorems.{admitted-exactly, AfterAdmission, after-admission}
+use Rattle.idle.proofs.Theorems.{admitted-exactly, AfterAdmission, after-admission, checks-passed}
 use Rattle.claims.specs.Claims.{occupied, FirstClash}
 use Rattle.claims.proofs.Theorems.{owners-none-share}
 use Rattle.judgement.specs.Judgement.{placed, AllInside, FirstOutside, Judgement, NotAdmitted, NoRoom, OutsideAt, Clashing, Passed, ComesTo}
@@ -24,7 +24,7 @@ use Rattle.judgement.specs.declared.Verdict.the-variants.{Approved, Refu
 use Rattle.judgement.specs.declared.Owner.{Owner}
 use Rattle.judgement.proofs.Unique.{not-both, judgement-unique, owner-judgement-unique}
 use Rattle.judgement.proofs.Run.{judge-comes}
-use Rattle.judgement.proofs.Theorems.{OneElementACell, one-element-exactly, demand-3, owner-by-verdict}
+use Rattle.judgement.proofs.Theorems.{OneClassACell, one-class-exactly, demand-3, owner-by-verdict}
 
 -- the numbers of a question that judges a card in a table of so many entries, after 1 to 6 and 17
 pub record InNumbers (card : Card) (room : ℕ) (n approved : Numbers) : Type 0 where
@@ -36,7 +36,7 @@ pub record InNumbers (card : Card) (room : ℕ) (n approved : Numbers) : Type 0 
   pub shared : cells card ≤ room → AllInside card → (x y cell : ℕ) → FirstClash (placed card) (elements card) x y cell
       → AfterAdmission card n (answer 8 x y cell)
   -- and 0
-  pub passed : cells card ≤ room → AllInside card → OneElementACell card → AfterAdmission card n approved
+  pub passed : cells card ≤ room → AllInside card → OneClassACell card → AfterAdmission card n approved
 
 -- these are all the ways in which an admitted card stands
 abbrev pub Stands : Card → ℕ → Type 0
@@ -44,7 +44,7 @@ Stands card room =
     (room < cells card)
     ⊎ ((cells card ≤ room)
     × (((flat : ℕ) × (axis : ℕ) × FirstOutside card flat axis)
-    ⊎ (AllInside card × (((x : ℕ) × (y : ℕ) × (cell : ℕ) × FirstClash (placed card) (elements card) x y cell) ⊎ OneElementACell card))))
+    ⊎ (AllInside card × (((x : ℕ) × (y : ℕ) × (cell : ℕ) × FirstClash (placed card) (elements card) x y cell) ⊎ OneClassACell card))))
 
 pub one-is-so : (card : Card) (room : ℕ) → fullAdmission card ≡ Admitted → Stands card room
 one-is-so card room e = go (judge card room) (judge-comes card room)
@@ -55,7 +55,7 @@ one-is-so card room e = go (judge card room) (judge-comes card room)
     go (OutsideAt flat axis) h = inr (h .0 .enough, inl (flat, axis, h .1))
     go (Clashing x y cell) h = inr (h .0 .enough, inr (h .1, inl (x, y, cell, h .2)))
     go (Passed owners n) h =
-        inr (h .0 .enough, inr (h .1, inr (one-element-exactly card (h .1) .1 (owners-none-share (placed card) (elements card) owners (h .2 .owners)))))
+        inr (h .0 .enough, inr (h .1, inr (one-class-exactly card (checks-passed card e) (h .1) .1 (owners-none-share (placed card) (elements card) owners (h .2 .owners)))))
 
 module _ (card : Card) (before after : List ℕ) (v : Verdict) (p : VerdictPromise card before after v) (numbers : Verdict → Numbers)
     (refused : (r : Refusal) → numbers (Refused r) ≡ refusalNumbers r) where

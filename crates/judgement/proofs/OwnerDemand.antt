@@ -23,16 +23,17 @@ use Rattle.judgement.specs.declared.Verdict.{Verdict}
 use Rattle.judgement.specs.declared.Verdict.the-variants.{Approved, Refused}
 use Rattle.judgement.specs.declared.Owner.{Owner}
 use Rattle.judgement.specs.declared.Owner.the-variants.{Entry, Refused as NoOwner}
-use Rattle.judgement.proofs.Theorems.{IsApproval, OneElementACell, HasCopyIn, Demand3, demand-3, owner-by-verdict}
+use Rattle.judgement.proofs.Theorems.{IsApproval, OneClassACell, HasCopyIn, SmallestIn, Demand3, demand-3, owner-by-verdict}
 
 -- demand 3 of an answer to who owns a cell
 pub record OwnerDemand3 (card : Card) (cell : ℕ) (owner : Owner) : Type 0 where
-  -- an entry is answered exactly when every copy of every element lies in the stated space and no two different elements share a cell
-  pub answered : ((entry : ℕ) × (owner ≡ Entry entry)) ↔ (AllInside card × OneElementACell card)
-  -- it is f + 1 exactly when f is the element placed in the cell
-  pub placed : AllInside card → OneElementACell card → (f : ℕ) → (owner ≡ Entry (f + 1)) ↔ ((f < elements card) × HasCopyIn card f cell)
+  -- an entry is answered exactly when every copy of every element lies in the stated space and no two elements that are not one share
+  -- a cell
+  pub answered : ((entry : ℕ) × (owner ≡ Entry entry)) ↔ (AllInside card × OneClassACell card)
+  -- it is f + 1 exactly when f is the smallest of the one class placed in the cell
+  pub placed : AllInside card → OneClassACell card → (f : ℕ) → (owner ≡ Entry (f + 1)) ↔ SmallestIn card f cell
   -- and 0 exactly when none is
-  pub nobody : AllInside card → OneElementACell card → (owner ≡ Entry 0) ↔ ((f : ℕ) → f < elements card → HasCopyIn card f cell → ⊥)
+  pub nobody : AllInside card → OneClassACell card → (owner ≡ Entry 0) ↔ ((f : ℕ) → f < elements card → HasCopyIn card f cell → ⊥)
 
 module _ (card : Card) (after : List ℕ) (cell : ℕ) (below : cell < cells card) where
   by-verdict : (v : Verdict) → Demand3 card after v → OwnerDemand3 card cell (readEntry v (getD after cell 0))

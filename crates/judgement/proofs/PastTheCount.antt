@@ -9,7 +9,7 @@ use Rattle.card.specs.declared.Card.{Card}
 use Rattle.card.proofs.Theorems.{AlikeCards}
 use Rattle.rules.specs.RowMajor.{position}
 use Rattle.rules.specs.Rules.{spotAt}
-use Rattle.rules.proofs.Theorems.{same-spot}
+use Rattle.rules.proofs.Theorems.{same-spot, same-led}
 use Rattle.idle.proofs.Theorems.{past-the-count-idle}
 use Rattle.judgement.specs.Judgement.{placed, LiesInside, AllInside, FirstOutside, Judgement, NotAdmitted, NoRoom, OutsideAt, Clashing, Passed, Judged, ComesTo}
 use Rattle.judgement.specs.Verdict.{verdictOf, tableAfter, VerdictPromise, askedSpot, OwnerJudgement, NoCell, ByVerdict, OwnerComesTo, ownerTableAfter, ownerOf, OwnerPromise}
@@ -27,7 +27,7 @@ module _ (a b : Card) (alike : AlikeCards a b) where
   same-cells = ap product (alike .lengths)
 
   same-layout : placed a ≡ placed b
-  same-layout = rw (same-copies, same-spot a b alike)
+  same-layout = rw (same-copies, same-led a b alike, same-spot a b alike)
 
   judged : {room : ℕ} → Judged a room → Judged b room
   judged h = record { admitted = sym (past-the-count-idle a b alike) ∙ h .admitted; enough = rw same-cells at (h .enough) }

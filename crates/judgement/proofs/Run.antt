@@ -4,17 +4,19 @@ use mathlib.Core.Bool.{Bool, true, false}
 use mathlib.Core.Logic.{_⊎_, ⊎-elim}
 use mathlib.Core.List.{List}
 use Prim.Native.Nat.{ℕ, zero, suc, _+_, _≤_, _<_}
-use native.Mathlib.Nat.{eq-or-lt-of-le, zero-add}
+use native.Mathlib.Nat.{eq-or-lt-of-le, le-refl, zero-add}
+use native.Mathlib.Decide.{ℕ-discrete}
 use native.Mathlib.Omega.{arith}
 use lib.Dec.{leb}
 use lib.ListN.{length}
-use borrow.Author.Tests.{leb-true, leb-false}
+use borrow.Author.Tests.{leb-true, leb-false, eq-eqb, ne-eqb}
 use Rattle.laws.proofs.Order.{le-or-lt}
 use Rattle.card.specs.Card.{elements, copies, cells}
 use Rattle.card.specs.declared.Card.{Card}
 use Rattle.card.specs.declared.Admission.{Admission}
 use Rattle.card.specs.declared.Admission.the-variants.{Admitted, Refused}
 use Rattle.rules.specs.Rules.{spot}
+use Rattle.rules.specs.Reuse.{leader}
 use Rattle.rules.specs.Copies.{cellOf}
 use Rattle.rules.specs.declared.Spot.{Spot}
 use Rattle.rules.specs.declared.Spot.the-variants.{Inside, Outside}
@@ -41,9 +43,18 @@ entry-inside : (s : Spot) → (0 < axisEntry s → ⊥) → LiesInside s
 entry-inside (Inside cell) h = tt
 entry-inside (Outside axis) h = absurd (h (omega arith))
 
+-- no element has more copies of its own than there are combinations
+pub few-copies : (card : Card) (f : ℕ) → placed card .copies f ≤ copies card
+few-copies card f =
+    elim (ℕ-discrete (leader card f) f) [
+      | yes e ↦ rw (eq-eqb (leader card f) f e) (le-refl (copies card))
+      | no n ↦ rw (ne-eqb (leader card f) f n) (omega arith)
+    ]
+
 -- where every copy lies inside, the cells of all copies are cells of the space
 pub all-within : (card : Card) → AllInside card → Within (placed card) (elements card) (cells card)
-all-within card inside f r h k = cell-below card f r (record { 0 = cellOf (spot card f r) }) (lies-inside (spot card f r) (inside f r h k))
+all-within card inside f r h k =
+    cell-below card f r (record { 0 = cellOf (spot card f r) }) (lies-inside (spot card f r) (inside f r h (omega (arith, few-copies card f))))
 
 -- the smallest axis met is some copy's, and none of a copy is smaller
 record Met (at : ℕ → Spot) (n m : ℕ) : Type 0 where

@@ -1,9 +1,12 @@
 -- What the definitions of the verdict and of the owner mean, in plain for-alls: demand 3, and the numbers.
 use mathlib.Core.Path.{_≡_, refl, sym, ap, _∙_, subst}
-use mathlib.Core.Logic.{_↔_}
+use mathlib.Core.Logic.{_↔_, ⊎-elim}
 use mathlib.Core.List.{List, _++_}
 use Prim.Native.Nat.{ℕ, _+_, _≤_, _<_}
+use native.Mathlib.Nat.{le-antisymm}
+use native.Mathlib.Decide.{ℕ-discrete}
 use native.Mathlib.Omega.{arith}
+use borrow.Author.Tests.{eq-eqb, ne-eqb}
 use lib.ListN.{length, getD, take, drop, List·getD-append}
 use lib.Seq.{take-at}
 use Rattle.answers.specs.declared.Cell.{Cell}
@@ -18,10 +21,13 @@ use Rattle.card.specs.declared.Card.{Card}
 use Rattle.card.specs.declared.Admission.the-variants.{Admitted}
 use Rattle.rules.specs.Rules.{spot}
 use Rattle.rules.specs.Copies.{cellOf}
+use Rattle.rules.specs.Reuse.{ownComponents, AreOne, leader, Unmarked}
 use Rattle.rules.specs.declared.Spot.the-variants.{Inside}
+use Rattle.rules.proofs.Reuse.{one-spot, leader-element, leader-one, leader-least, leader-smallest, leader-leads, same-leader, led-one, one-is-same}
+use Rattle.laws.proofs.Order.{le-or-lt}
 use Rattle.idle.specs.Idle.{NoIdlePair}
 use Rattle.idle.proofs.Theorems.{admitted-exactly}
-use Rattle.claims.specs.Claims.{Claims, occupied, OwnedTable as Owned}
+use Rattle.claims.specs.Claims.{Claims, Share, occupied, OwnedTable as Owned, FirstClash}
 use Rattle.claims.specs.Outcome.{NoneShare}
 use Rattle.claims.proofs.Theorems.{owners-none-share, clash-shares, nobody-exactly}
 use Rattle.judgement.specs.Judgement.{placed, LiesInside, AllInside, Judgement, NotAdmitted, NoRoom, OutsideAt, Clashing, Passed, ComesTo}
@@ -56,10 +62,10 @@ abbrev pub IsApproval : Verdict → Type 0
 IsApproval (Approved elements occupied cells) = Unit
 IsApproval (Refused refusal) = ⊥
 
--- no two different elements share a cell: where a copy of x and a copy of y lie in one cell, x is y
-abbrev pub OneElementACell : Card → Type 0
-OneElementACell card = (x y r s : ℕ) (c : Cell) → x < elements card → y < elements card → r < copies card → s < copies card
-    → spot card x r ≡ Inside c → spot card y s ≡ Inside c → x ≡ y
+-- no two elements that are not one share a cell: where a copy of x and a copy of y lie in one cell, x and y are one
+abbrev pub OneClassACell : Card → Type 0
+OneClassACell card = (x y r s : ℕ) (c : Cell) → x < elements card → y < elements card → r < copies card → s < copies card
+    → spot card x r ≡ Inside c → spot card y s ≡ Inside c → AreOne card x y
 
 -- element f has a copy in cell c
 pub record HasCopyIn (card : Card) (f c : ℕ) : Type 0 where
@@ -67,46 +73,80 @@ pub record HasCopyIn (card : Card) (f c : ℕ) : Type 0 where
   pub below : combination < copies card
   pub there : spot card f combination ≡ Inside (record { 0 = c })
 
+-- f is the smallest of the elements placed in cell c, which are all one with it
+pub record SmallestIn (card : Card) (f c : ℕ) : Type 0 where
+  pub element : f < elements card
+  pub has : HasCopyIn card f c
+  pub smallest : (g : ℕ) → g < elements card → HasCopyIn card g c → AreOne card f g × (f ≤ g)
+
 -- demand 3 of an outcome of the verdict
 pub record Demand3 (card : Card) (after : List ℕ) (verdict : Verdict) : Type 0 where
-  -- approved exactly when every copy of every element lies in the stated space and no two different elements share a cell
-  pub approved : IsApproval verdict ↔ (AllInside card × OneElementACell card)
-  -- once approved, each cell's owner is the one element placed there
-  pub owner : IsApproval verdict → (c f : ℕ) → c < cells card → (getD after c 0 ≡ f + 1) ↔ ((f < elements card) × HasCopyIn card f c)
+  -- approved exactly when every copy of every element lies in the stated space and no two elements that are not one share a cell
+  pub approved : IsApproval verdict ↔ (AllInside card × OneClassACell card)
+  -- once approved, each cell's owner is the smallest of the one class placed there
+  pub owner : IsApproval verdict → (c f : ℕ) → c < cells card → (getD after c 0 ≡ f + 1) ↔ SmallestIn card f c
   -- or nobody exactly when none is
   pub nobody : IsApproval verdict → (c : ℕ) → c < cells card → (getD after c 0 ≡ 0) ↔ ((f : ℕ) → f < elements card → HasCopyIn card f c → ⊥)
   -- and the answer has elements, occupied cells, cells
   pub counts : IsApproval verdict → verdict ≡ Approved (elements card) (occupied (take (cells card) after)) (cells card)
 
-module _ (card : Card) where
-  -- an element with a copy in a cell claims it, and where its copies lie inside it has a copy in each cell that it claims
-  copy-claims : (f c : ℕ) → HasCopyIn card f c → Claims (placed card) f c
-  copy-claims f c h = record { copy = h .combination; below = h .below; there = ap cellOf (h .there) }
+-- an element that leads has its copies, one that follows has none
+module _ (card : Card) (f : ℕ) where
+  pub own-copies : leader card f ≡ f → placed card .copies f ≡ copies card
+  own-copies e = rw (eq-eqb (leader card f) f e)
 
-  claims-copy : AllInside card → (f c : ℕ) → f < elements card → Claims (placed card) f c → HasCopyIn card f c
-  claims-copy inside f c h k =
-      record {
-        combination = k .copy;
-        below = k .below;
-        there = rw (sym (k .there)) (lies-inside (spot card f (k .copy)) (inside f (k .copy) h (k .below)));
-      }
+  pub claims-leads : (c : ℕ) → Claims (placed card) f c → leader card f ≡ f
+  claims-leads c k =
+      elim (ℕ-discrete (leader card f) f) [
+        | yes e ↦ e
+        | no n ↦ absurd (omega (arith, rw (ne-eqb (leader card f) f n) at (k .below)))
+      ]
+
+  pub claimed-below : (c : ℕ) (k : Claims (placed card) f c) → k .copy < copies card
+  claimed-below c k = omega (arith, own-copies (claims-leads c k), k .below)
+
+  pub copy-claims : (c : ℕ) → leader card f ≡ f → HasCopyIn card f c → Claims (placed card) f c
+  copy-claims c leads h =
+      record { copy = h .combination; below = omega (arith, own-copies leads, h .below); there = ap cellOf (h .there) }
+
+-- where its copies lie inside, an element has a copy in each cell that it claims
+pub claims-copy : (card : Card) → AllInside card → (f c : ℕ) → f < elements card → Claims (placed card) f c → HasCopyIn card f c
+claims-copy card inside f c h k =
+    record {
+      combination = k .copy;
+      below = claimed-below card f c k;
+      there = rw (sym (k .there)) (lies-inside (spot card f (k .copy)) (inside f (k .copy) h (claimed-below card f c k)));
+    }
+
+module _ (card : Card) (admitted : admission card ≡ Admitted) where
+  -- elements that are one have their copies in the same cells
+  pub one-copy : (f g c : ℕ) → AreOne card f g → HasCopyIn card f c → HasCopyIn card g c
+  one-copy f g c one h =
+      record { combination = h .combination; below = h .below; there = sym (one-spot card f g (h .combination) admitted one) ∙ h .there }
+
+  -- so where an element has a copy, its leader claims the cell
+  pub leader-claims : (f c : ℕ) → f < elements card → HasCopyIn card f c → Claims (placed card) (leader card f) c
+  leader-claims f c h has =
+      copy-claims card (leader card f) c (leader-leads card f h) (one-copy f (leader card f) c (sym (leader-one card f h)) has)
 
   -- where every copy lies inside, this is what the theory of claims says: no two different elements share a cell
-  pub one-element-exactly : AllInside card → OneElementACell card ↔ NoneShare (placed card) (elements card)
-  one-element-exactly inside = (
+  pub one-class-exactly : AllInside card → OneClassACell card ↔ NoneShare (placed card) (elements card)
+  one-class-exactly inside = (
     λ one x y c hx hy s.
-        let a = claims-copy inside x c hx (s .one) in
-        let b = claims-copy inside y c hy (s .other) in
-        one x y (a .combination) (b .combination) (record { 0 = c }) hx hy (a .below) (b .below) (a .there) (b .there),
+        let a = claims-copy card inside x c hx (s .one) in
+        let b = claims-copy card inside y c hy (s .other) in
+        let same = one x y (a .combination) (b .combination) (record { 0 = c }) hx hy (a .below) (b .below) (a .there) (b .there) in
+        sym (claims-leads card x c (s .one)) ∙ same-leader card x y same ∙ claims-leads card y c (s .other),
     λ none x y r s c hx hy hr hs e d.
-        none x y (c .0) hx hy (record {
-          one = copy-claims x (c .0) (record { combination = r; below = hr; there = e });
-          other = copy-claims y (c .0) (record { combination = s; below = hs; there = d });
-        }),
+        led-one card x y hx hy
+        (none (leader card x) (leader card y) (c .0) (leader-element card x hx) (leader-element card y hy) (record {
+          one = leader-claims x (c .0) hx (record { combination = r; below = hr; there = e });
+          other = leader-claims y (c .0) hy (record { combination = s; below = hs; there = d });
+        })),
   )
 
-  -- a refusal, where some copy lies outside or two elements share a cell
-  demand-3-refused : (after : List ℕ) (r : Refusal) → (AllInside card × OneElementACell card → ⊥) → Demand3 card after (Refused r)
+  -- a refusal, where some copy lies outside or two elements that are not one share a cell
+  demand-3-refused : (after : List ℕ) (r : Refusal) → (AllInside card × OneClassACell card → ⊥) → Demand3 card after (Refused r)
   demand-3-refused after r not-so =
       record {
         approved = (λ h. absurd h, not-so);
@@ -114,6 +154,25 @@ module _ (card : Card) where
         nobody = λ h. absurd h;
         counts = λ h. absurd h;
       }
+
+  -- the owner of a cell is the smallest element placed there
+  module _ (inside : AllInside card) (one : OneClassACell card) (f c : ℕ) where
+    claims-smallest : f < elements card → Claims (placed card) f c → SmallestIn card f c
+    claims-smallest h k =
+        let has = claims-copy card inside f c h k in
+        record {
+          element = h;
+          has = has;
+          smallest = λ g hg other.
+              let same = one f g (has .combination) (other .combination) (record { 0 = c }) h hg (has .below) (other .below) (has .there) (other .there) in
+              (same, omega (arith, claims-leads card f c k, leader-smallest card f g hg same));
+        }
+
+    smallest-claims : SmallestIn card f c → Claims (placed card) f c
+    smallest-claims s =
+        let led = leader-element card f (s .element) in
+        let at = one-copy f (leader card f) c (sym (leader-one card f (s .element))) (s .has) in
+        copy-claims card f c (le-antisymm (leader-least card f (s .element)) (s .smallest (leader card f) led at .1)) (s .has)
 
   -- an approval, from the owners of the cells
   demand-3-passed : (owners past : List ℕ) (n : ℕ) → AllInside card → Owned (placed card) (elements card) (cells card) owners n
@@ -123,18 +182,16 @@ module _ (card : Card) where
       λ c h. List·getD-append owners past 0 c (omega (arith, a .size)) in
       let nobody : (c : ℕ) → (getD owners c 0 ≡ 0) ↔ ((f : ℕ) → f < elements card → Claims (placed card) f c → ⊥) =
       nobody-exactly (placed card) (elements card) owners (a .owners) in
+      let one : OneClassACell card = one-class-exactly inside .1 (owners-none-share (placed card) (elements card) owners (a .owners)) in
       record {
-        approved = (
-          λ h. (inside, one-element-exactly inside .1 (owners-none-share (placed card) (elements card) owners (a .owners))),
-          λ h. tt,
-        );
+        approved = (λ h. (inside, one), λ h. tt);
         owner = λ h c f k. (
-          λ e. let o = a .owners f c .0 (sym (entry c k) ∙ e) in (o .0, claims-copy inside f c (o .0) (o .1)),
-          λ o. entry c k ∙ a .owners f c .1 (o .0, copy-claims f c (o .1)),
+          λ e. let o = a .owners f c .0 (sym (entry c k) ∙ e) in claims-smallest inside one f c (o .0) (o .1),
+          λ s. entry c k ∙ a .owners f c .1 (s .element, smallest-claims inside one f c s),
         );
         nobody = λ h c k. (
-          λ e f below has. nobody c .0 (sym (entry c k) ∙ e) f below (copy-claims f c has),
-          λ none. entry c k ∙ nobody c .1 (λ f below has. none f below (claims-copy inside f c below has)),
+          λ e f below has. nobody c .0 (sym (entry c k) ∙ e) (leader card f) (leader-element card f below) (leader-claims f c below has),
+          λ none. entry c k ∙ nobody c .1 (λ f below has. none f below (claims-copy card inside f c below has)),
         );
         counts = λ h.
             ap (λ (m : ℕ). Approved (elements card) m (cells card))
@@ -142,8 +199,8 @@ module _ (card : Card) where
       }
 
 -- Demand 3, for a layout whose numbers lie within the limits and which has no two replica combinations with the same sums, and a long enough
--- table: approved exactly when every copy of every element lies in the stated space and no two different elements share a cell; once approved,
--- each cell's owner is the one element placed there, or nobody exactly when none is
+-- table: approved exactly when every copy of every element lies in the stated space and no two elements that are not one share a cell; once
+-- approved, each cell's owner is the smallest of the one class placed there, or nobody exactly when none is
 pub demand-3 : (card : Card) (before after : List ℕ) (verdict : Verdict) → admission card ≡ Admitted → NoIdlePair (card .replica)
     → cells card ≤ length before → VerdictPromise card before after verdict → Demand3 card after verdict
 demand-3 card before after verdict admitted no-pair long p = rw (p .answers, p .leaves) (go (p .judgement) (p .comes))
@@ -151,11 +208,117 @@ demand-3 card before after verdict admitted no-pair long p = rw (p .answers, p .
     go : (j : Judgement) → ComesTo card (length before) j → Demand3 card (tableAfter card j before) (verdictOf card j)
     go (NotAdmitted r) h = absurd (not-both card h (admitted-exactly card .1 (admitted, no-pair)))
     go NoRoom h = absurd (omega arith)
-    go (OutsideAt flat axis) h = demand-3-refused card _ _ (λ so. inside-not-outside card (so .0) (h .1))
+    go (OutsideAt flat axis) h = demand-3-refused card admitted _ _ (λ so. inside-not-outside card (so .0) (h .1))
     go (Clashing x y cell) h =
-        demand-3-refused card _ _
-        (λ so. clash-shares (placed card) (elements card) x y cell (h .2) (one-element-exactly card (so .0) .0 (so .1)))
-    go (Passed owners n) h = demand-3-passed card owners (drop (cells card) before) n (h .1) (h .2)
+        demand-3-refused card admitted _ _
+        (λ so. clash-shares (placed card) (elements card) x y cell (h .2) (one-class-exactly card admitted (so .0) .0 (so .1)))
+    go (Passed owners n) h = demand-3-passed card admitted owners (drop (cells card) before) n (h .1) (h .2)
+
+-- without marks: no two different elements share a cell, where a copy of x and a copy of y lie in one cell x is y
+abbrev pub OneElementACell : Card → Type 0
+OneElementACell card = (x y r s : ℕ) (c : Cell) → x < elements card → y < elements card → r < copies card → s < copies card
+    → spot card x r ≡ Inside c → spot card y s ≡ Inside c → x ≡ y
+
+-- demand 3 as document 01 has it, of a card without marks
+pub record Demand3Unmarked (card : Card) (after : List ℕ) (verdict : Verdict) : Type 0 where
+  -- approved exactly when every copy of every element lies in the stated space and no two different elements share a cell
+  pub approved : IsApproval verdict ↔ (AllInside card × OneElementACell card)
+  -- once approved, each cell's owner is the one element placed there
+  pub owner : IsApproval verdict → (c f : ℕ) → c < cells card → (getD after c 0 ≡ f + 1) ↔ ((f < elements card) × HasCopyIn card f c)
+  -- or nobody exactly when none is
+  pub nobody : IsApproval verdict → (c : ℕ) → c < cells card → (getD after c 0 ≡ 0) ↔ ((f : ℕ) → f < elements card → HasCopyIn card f c → ⊥)
+  -- and the answer has elements, occupied cells, cells
+  pub counts : IsApproval verdict → verdict ≡ Approved (elements card) (occupied (take (cells card) after)) (cells card)
+
+pub demand-3-unmarked : (card : Card) (before after : List ℕ) (verdict : Verdict) → Unmarked card → admission card ≡ Admitted
+    → NoIdlePair (card .replica) → cells card ≤ length before → VerdictPromise card before after verdict → Demand3Unmarked card after verdict
+demand-3-unmarked card before after verdict none admitted no-pair long p =
+    let d = demand-3 card before after verdict admitted no-pair long p in
+    record {
+      approved = (
+        λ h. let so = d .approved .0 h in (so .0, λ x y r s c hx hy hr hs e k. one-is-same card none x y hx hy (so .1 x y r s c hx hy hr hs e k)),
+        λ so. d .approved .1 (so .0, λ x y r s c hx hy hr hs e k. ap (ownComponents card) (so .1 x y r s c hx hy hr hs e k)),
+      );
+      owner = λ h c f k. (
+        λ e. let s = d .owner h c f k .0 e in (s .element, s .has),
+        λ o. d .owner h c f k .1 (record {
+          element = o .0;
+          has = o .1;
+          smallest = λ g hg other.
+              let has = o .1 in
+              let same =
+              d .approved .0 h .1 f g (has .combination) (other .combination) (record { 0 = c }) (o .0) hg (has .below) (other .below)
+              (has .there) (other .there) in
+              (same, omega (arith, one-is-same card none f g (o .0) hg same));
+        }),
+      );
+      nobody = d .nobody;
+      counts = d .counts;
+    }
+
+-- two elements that are not one share a cell
+pub record ShareCell (card : Card) (x y c : ℕ) : Type 0 where
+  pub one : HasCopyIn card x c
+  pub other : HasCopyIn card y c
+  pub not-one : AreOne card x y → ⊥
+
+-- the first two, over all elements: the smallest y that shares with a smaller one, the smallest x that shares with it, their smallest cell
+pub record FirstShared (card : Card) (x y cell : ℕ) : Type 0 where
+  pub element : y < elements card
+  pub ordered : x < y
+  pub shared : ShareCell card x y cell
+  pub smallest-y : (a b c : ℕ) → a < b → b < elements card → ShareCell card a b c → y ≤ b
+  pub smallest-x : (a c : ℕ) → a < elements card → ShareCell card a y c → x ≤ a
+  pub smallest-cell : (c : ℕ) → ShareCell card x y c → cell ≤ c
+
+-- the first clash of the leaders is the first over all elements
+module _ (card : Card) (admitted : admission card ≡ Admitted) (x y cell : ℕ) (inside : AllInside card)
+    (k : FirstClash (placed card) (elements card) x y cell) where
+  x-below : x < elements card
+  x-below = omega (arith, k .ordered, k .element)
+
+  x-leads : leader card x ≡ x
+  x-leads = claims-leads card x cell (k .shared .one)
+
+  y-leads : leader card y ≡ y
+  y-leads = claims-leads card y cell (k .shared .other)
+
+  led-share : (a b c : ℕ) → a < elements card → b < elements card → ShareCell card a b c → Share (placed card) (leader card a) (leader card b) c
+  led-share a b c ha hb s = record { one = leader-claims card admitted a c ha (s .one); other = leader-claims card admitted b c hb (s .other) }
+
+  -- the larger of two leaders that share a cell is not below y
+  not-below : (a b c : ℕ) → a < elements card → b < elements card → ShareCell card a b c → a < b → y ≤ b
+  not-below a b c ha hb s less =
+      let la = leader-least card a ha in
+      let lb = leader-least card b hb in
+      let both = led-share a b c ha hb s in
+      ⊎-elim
+      (λ (h : leader card a ≤ leader card b).
+      let apart : leader card a ≡ leader card b → ⊥ = λ e. s .not-one (led-one card a b ha hb e) in
+      omega (arith, k .smallest-y (leader card a) (leader card b) c (omega (arith, apart)) (leader-element card b hb) both))
+      (λ (h : leader card b < leader card a).
+      omega (arith, k .smallest-y (leader card b) (leader card a) c h (leader-element card a ha) (record { one = both .other; other = both .one })))
+      (le-or-lt (leader card a) (leader card b))
+
+  pub first-shared : FirstShared card x y cell
+  first-shared = record {
+    element = k .element;
+    ordered = k .ordered;
+    shared = record {
+      one = claims-copy card inside x cell x-below (k .shared .one);
+      other = claims-copy card inside y cell (k .element) (k .shared .other);
+      not-one = λ one. omega (arith, k .ordered, sym x-leads ∙ same-leader card x y one ∙ y-leads);
+    };
+    smallest-y = λ a b c less hb s. not-below a b c (omega arith) hb s less;
+    smallest-x = λ a c ha s.
+        omega (
+          arith,
+          leader-least card a ha,
+          k .smallest-x (leader card a) c (rw y-leads at (led-share a y c ha (k .element) s)),
+        );
+    smallest-cell = λ c s.
+        k .smallest-cell c (rw (x-leads, y-leads) at (led-share x y c x-below (k .element) s));
+  }
 
 -- an approval comes of a judgement that all is passed
 pub approved-passed : (card : Card) (before after : List ℕ) (verdict : Verdict) → VerdictPromise card before after verdict → IsApproval verdict
@@ -175,17 +338,31 @@ module _ (card : Card) (before after : List ℕ) (verdict : Verdict) (admitted :
   demand : Demand3 card after verdict
   demand = demand-3 card before after verdict admitted no-pair long promise
 
-  -- copies of one element are no clash: one element alone is approved, wherever in the space its copies lie
-  pub copies-no-clash : elements card ≡ 1 → AllInside card → IsApproval verdict
-  copies-no-clash one inside = demand .approved .1 (inside, λ x y r s c hx hy hr hs e d. omega arith)
+  -- the entry of a cell is an element's leader plus 1 exactly when the element has a copy there: a follower's cells show its leader
+  pub owner-leads : IsApproval verdict → (c f : ℕ) → c < cells card → f < elements card → (getD after c 0 ≡ leader card f + 1) ↔ HasCopyIn card f c
+  owner-leads h c f k below = (
+    λ e. one-copy card admitted (leader card f) f c (leader-one card f below) (demand .owner h c (leader card f) k .0 e .has),
+    λ has. demand .owner h c (leader card f) k .1 (record {
+      element = leader-element card f below;
+      has = one-copy card admitted f (leader card f) c (sym (leader-one card f below)) has;
+      smallest = λ g hg other.
+          let same =
+          demand .approved .0 h .1 f g (has .combination) (other .combination) (record { 0 = c }) below hg (has .below) (other .below)
+          (has .there) (other .there) in
+          (leader-one card f below ∙ same, leader-smallest card f g hg same);
+    }),
+  )
 
-  -- and the two that refusal 8 names are different elements, which both have a copy in the cell
-  pub clash-means : (x y : Flat) (cell : Cell) → verdict ≡ Refused (Shared x y cell)
-      → (x .0 < y .0) × (y .0 < elements card) × HasCopyIn card (x .0) (cell .0) × HasCopyIn card (y .0) (cell .0)
+  -- copies of one element are no clash: elements that are all one are approved, wherever in the space their copies lie
+  pub copies-no-clash : ((x y : ℕ) → x < elements card → y < elements card → AreOne card x y) → AllInside card → IsApproval verdict
+  copies-no-clash all-one inside = demand .approved .1 (inside, λ x y r s c hx hy hr hs e d. all-one x y hx hy)
+
+  -- x, y and the cell of refusal 8, over all elements: y is the smallest that shares a cell with a smaller one that is not one with it, x the smallest
+  -- such for y, and the cell the smallest that they share
+  pub clash-means : (x y : Flat) (cell : Cell) → verdict ≡ Refused (Shared x y cell) → FirstShared card (x .0) (y .0) (cell .0)
   clash-means x y cell e = go (promise .judgement) (promise .comes) (sym (promise .answers) ∙ e)
     where
-      go : (j : Judgement) → ComesTo card (length before) j → verdictOf card j ≡ Refused (Shared x y cell)
-          → (x .0 < y .0) × (y .0 < elements card) × HasCopyIn card (x .0) (cell .0) × HasCopyIn card (y .0) (cell .0)
+      go : (j : Judgement) → ComesTo card (length before) j → verdictOf card j ≡ Refused (Shared x y cell) → FirstShared card (x .0) (y .0) (cell .0)
       go (NotAdmitted r) h q = absurd (not-both card h (admitted-exactly card .1 (admitted, no-pair)))
       go NoRoom h q = absurd (omega arith)
       go (OutsideAt flat axis) h q = absurd (omega (arith, ap (λ v. verdictNumbers v .number) q))
@@ -193,13 +370,7 @@ module _ (card : Card) (before after : List ℕ) (verdict : Verdict) (admitted :
           let same-x : a ≡ x .0 = ap (λ v. verdictNumbers v .a) q in
           let same-y : b ≡ y .0 = ap (λ v. verdictNumbers v .b) q in
           let same-cell : c ≡ cell .0 = ap (λ v. verdictNumbers v .c) q in
-          let k = h .2 in
-          rw (sym same-x, sym same-y, sym same-cell) (
-            k .ordered,
-            k .element,
-            claims-copy card (h .1) a c (omega arith) (k .shared .one),
-            claims-copy card (h .1) b c (k .element) (k .shared .other),
-          )
+          rw (sym same-x, sym same-y, sym same-cell) (first-shared card admitted a b c (h .1) (h .2))
       go (Passed owners n) h q = absurd (omega (arith, ap (λ v. verdictNumbers v .number) q))
 
 -- the owner of a cell is the verdict with one entry read, for coordinates that name a cell

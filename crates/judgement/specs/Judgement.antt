@@ -1,21 +1,29 @@
 -- What a card comes to in a table of so many entries: the order 1, 2, 3, 4, 5, 6, 17, 11, 7, 8 of document 01 with document 02's 17.
 use mathlib.Core.Path.{_≡_}
+use mathlib.Core.Bool.{cond}
 use mathlib.Core.List.{List}
 use Prim.Native.Nat.{ℕ, _≤_, _<_}
+use lib.Dec.{eqb}
 use Rattle.answers.specs.declared.Refusal.{Refusal}
 use Rattle.card.specs.Card.{elements, copies, cells}
 use Rattle.card.specs.declared.Card.{Card}
 use Rattle.card.specs.declared.Admission.the-variants.{Admitted, Refused}
 use Rattle.rules.specs.Rules.{spot}
 use Rattle.rules.specs.Copies.{cellOf}
+use Rattle.rules.specs.Reuse.{leader}
 use Rattle.rules.specs.declared.Spot.{Spot}
 use Rattle.rules.specs.declared.Spot.the-variants.{Inside, Outside}
 use Rattle.idle.specs.Admission.{fullAdmission}
 use Rattle.claims.specs.Claims.{Layout, OwnedTable, FirstClash}
 
--- where the copies of a card's elements go; one outside counts as cell 0, so a layout is asked only where every copy lies inside
+-- where the copies of a card's elements go: an element that is one with a smaller one has none of its own, it is placed with its leader; a copy
+-- outside counts as cell 0, so a layout is asked only where every copy lies inside
 abbrev pub placed : Card → Layout
-placed card = record { copies = copies card; at = λ flat combination. cellOf (spot card flat combination) }
+placed card =
+    record {
+      copies = λ flat. cond (eqb (leader card flat) flat) (copies card) 0;
+      at = λ flat combination. cellOf (spot card flat combination);
+    }
 
 abbrev pub LiesInside : Spot → Type 0
 LiesInside (Inside cell) = Unit

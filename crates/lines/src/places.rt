@@ -24,6 +24,10 @@ pub const SWIZZLE: usize = LENGTHS + 8;
 // How many numbers a card has.
 pub const CARD: usize = SWIZZLE + 3;
 
+// The reuse marks of a card: the first number of a line whose word has a star, set apart behind all
+// others, so that the card begins the line as it does without a star; 0 there is no mark.
+pub const MARKS: usize = 79;
+
 // After the card of `place`: the shape and the coordinates, each a count and eight numbers, and how
 // much memory is lent.
 pub const SHAPE: usize = CARD;

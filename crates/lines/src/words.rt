@@ -3,6 +3,11 @@ use crate::places;
 use crate::rule;
 use crate::rule::Line;
 
+// What a word with marks ends in, and the largest number of marks: bit k for shard iter k.
+const STAR: u8 = 42;
+
+const MOST_MARKS: u64 = 255;
+
 pub enum Word {
     Swizzle,
     Mode,
@@ -137,6 +142,49 @@ fn minus_allowed(below: &[bool; 80], count: usize, card: bool) -> bool {
     true
 }
 
+// What a word with so many numbers asks.
+fn asked(word: Word, count: usize, below: &[bool; 80]) -> Word {
+    if count != wanted(word) {
+        return Word::Unknown;
+    }
+    if minus_allowed(below, count, has_card(word)) {
+        return word;
+    }
+    Word::Unknown
+}
+
+// Sets the first number of a line apart, behind all others.
+fn set_marks_apart(numbers: &mut [u64; 80], below: &mut [bool; 80]) {
+    let marks = numbers[0];
+    let mut i: usize = 0;
+    while i < places::MARKS {
+        let number = numbers[i + 1];
+        let minus = below[i + 1];
+        numbers[i] = number;
+        below[i] = minus;
+        i += 1;
+    }
+    numbers[places::MARKS] = marks;
+    below[places::MARKS] = false;
+}
+
+// What a word with a star asks: the marks come first, and then it is as without one.
+fn asked_with_marks(
+    word: Word,
+    count: usize,
+    numbers: &mut [u64; 80],
+    below: &mut [bool; 80],
+) -> Word {
+    if count == 0 {
+        return Word::Unknown;
+    }
+    if !has_card(word) | below[0] | (MOST_MARKS < numbers[0]) {
+        return Word::Unknown;
+    }
+    set_marks_apart(numbers, below);
+    asked(word, count - 1, below)
+}
+
 // What a line of so many bytes asks: a word with all its numbers, which are kept in their order.
 pub fn question(
     line: &[u8; 4096],
@@ -151,12 +199,14 @@ pub fn question(
     let Line::Question(end, count) = read else {
         return Word::Unknown;
     };
-    let word = word_of(line, end);
-    if count != wanted(word) {
+    if end == 0 {
         return Word::Unknown;
     }
-    if minus_allowed(below, count, has_card(word)) {
-        return word;
+    if line.len() < end {
+        return Word::Unknown;
     }
-    Word::Unknown
+    if line[end - 1] == STAR {
+        return asked_with_marks(word_of(line, end - 1), count, numbers, below);
+    }
+    asked(word_of(line, end), count, below)
 }

@@ -5,7 +5,7 @@ ghost use mathlib.Core.Path.{_≡_};
 ghost use mathlib.Core.List.{map};
 ghost use Prim.Native.Nat.{min};
 ghost use Rattle.card.specs.Card.{extentOf, size};
-ghost use Rattle.card.specs.Packed.{beyond, lastColumn, Packs};
+ghost use Rattle.card.specs.Packed.{beyond, markNumber, lastColumn, Packs};
 
 // The columns of the two lists of iters: their extents and axes among the unsigned numbers, their strides
 // among the signed ones.
@@ -23,7 +23,7 @@ const REPLICA_STRIDES: usize = 8;
 
 // A card's numbers in two arrays, that are passed by reference from here on.
 pub struct Packed {
-    pub numbers: [u64; 48],
+    pub numbers: [u64; 56],
     pub strides: [i64; 24],
 }
 
@@ -78,16 +78,24 @@ fn last_column(card: Card) -> [u64; 8]
     ]
 }
 
+// A mark as a number.
+fn mark_number(mark: bool) -> u64
+    ensures { λ r. ⌜ r ≡ markNumber mark ⌝ }
+{
+    if mark { 1 } else { 0 }
+}
+
 // Packs a card, once: everything after it reads the two arrays.
 pub fn pack(card: Card) -> Packed
     ensures { λ r. ⌜ Packs card (r .numbers) (r .strides) ⌝ }
 {
     let shard = card.shard;
+    let marks = card.marks;
     let replica = card.replica;
     let offset = card.offset;
     let lengths = card.lengths;
     let last = last_column(card);
-    let mut numbers = [0u64; 48];
+    let mut numbers = [0u64; 56];
     let mut strides = [0i64; 24];
     let mut k: usize = 0;
     while k < 8 {
@@ -99,6 +107,7 @@ pub fn pack(card: Card) -> Packed
         numbers[REPLICA_AXES + k] = of_replica.axis;
         numbers[card::LENGTHS + k] = lengths[k];
         numbers[card::COUNTS + k] = last[k];
+        numbers[card::MARKS + k] = mark_number(marks[k]);
         let shard_stride = of_shard.stride;
         strides[SHARD_STRIDES + k] = shard_stride;
         let replica_stride = of_replica.stride;

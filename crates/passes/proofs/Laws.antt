@@ -1,22 +1,30 @@
 -- The two passes over a card's elements: what placing one element's row adds to what lies inside, and where its copies go as claims.
 use mathlib.Core.Path.{_≡_, refl, sym, ap, _∙_, subst}
+use mathlib.Core.Bool.{true}
 use mathlib.Core.List.{List}
 use Prim.Native.Nat.{ℕ, _+_, _-_, _≤_, _<_}
 use native.Mathlib.Decide.{decLe}
 use native.Mathlib.Omega.{arith}
 use borrow.Author.Count.{below-more}
+use borrow.Author.Tests.{ne-eqb}
 use lib.IntN.{ℤ}
 use lib.ListN.{length, replicate, length-replicate}
 use Rattle.laws.proofs.Rungs.{apart}
 use Rattle.card.specs.Card.{elements, copies, cells}
-use Rattle.card.specs.Packed.{cardOf, Admits}
+use Rattle.card.specs.Lists.{all, within, product}
+use Rattle.card.specs.Limits.{mostExtent}
+use Rattle.card.specs.Packed.{cardOf, Admits, ListOf}
 use Rattle.card.specs.Admission.{admission}
 use Rattle.card.specs.declared.Card.{Card}
 use Rattle.card.specs.declared.Admission.the-variants.{Admitted}
-use Rattle.card.proofs.Admitted.{sized}
+use Rattle.card.proofs.Admitted.{checked, fitting, numbered, sized}
+use Rattle.card.proofs.Listed.{shard-list}
+use Rattle.reuse.specs.Contracts.{Element}
+use Rattle.reuse.proofs.Walk.{extents-there}
 use Rattle.rules.specs.Rules.{axes, spot}
 use Rattle.rules.specs.Walked.{PlacedRow}
 use Rattle.rules.specs.Copies.{cellOf, cellsOf, outsideOf, copyCells, outsideAxis}
+use Rattle.rules.specs.Reuse.{leader}
 use Rattle.rules.specs.declared.Spot.{Spot}
 use Rattle.rules.specs.declared.Spot.the-variants.{Inside, Outside}
 use Rattle.rules.proofs.Spots.{cell-below}
@@ -24,17 +32,34 @@ use Rattle.rules.proofs.Filling.{cells-length, cells-at}
 use Rattle.rules.proofs.Theorems.{outside-axis-smallest, outside-axis-none}
 use Rattle.idle.proofs.Theorems.{checks-passed}
 use Rattle.claims.specs.Claims.{OwnedTable, FirstClash}
-use Rattle.claims.specs.Outcome.{Inside as InCells}
 use Rattle.claims.specs.Rows.{RowOf, Within, entryMet, cellMet}
-use Rattle.claims.proofs.Steps.{row-within, owners-none, claimed-owners, met-clash}
+use Rattle.claims.proofs.Steps.{row-within, owners-none, owners-follow, claimed-owners, met-clash}
 use Rattle.claims.proofs.Rows.{occupied-none, occupied-most}
 use Rattle.owners.specs.Owners.{entryLimit}
 use Rattle.judgement.specs.Judgement.{placed, LiesInside, AllInside, FirstOutside}
+use Rattle.judgement.proofs.Run.{few-copies, all-within}
+use Rattle.judgement.proofs.Theorems.{own-copies}
 use Rattle.passes.specs.Contracts.{Pass, Claimable, ElementClaim}
 
 -- a pass is over an admitted card
 pub admits : {numbers : List ℕ} {strides : List ℤ} {count : ℕ} {row : List ℕ} → Pass numbers strides count row → Admits numbers strides
 admits {numbers} {strides} p = record { whole = p .whole; admitted = checks-passed (cardOf numbers strides) (p .admitted) }
+
+-- its shard's iters can be read, and each of its elements looked at
+pub listed : {numbers : List ℕ} {strides : List ℤ} {count : ℕ} {row : List ℕ} → Pass numbers strides count row → ListOf numbers 0
+listed {numbers} {strides} p = shard-list numbers strides (checked (cardOf numbers strides) (admits p .admitted) .counts)
+
+pub element-of : {numbers : List ℕ} {strides : List ℤ} {count : ℕ} {row : List ℕ} (p : Pass numbers strides count row) (flat : ℕ) → flat < count → Element numbers flat
+element-of {numbers} {strides} p flat h =
+    let card = cardOf numbers strides in
+    let numbers-fit = numbered card (checked card (admits p .admitted) .numbers) in
+    let same = extents-there numbers strides (p .whole .all-numbers) (listed p) in
+    record {
+      all-numbers = p .whole .all-numbers;
+      of = listed p;
+      some-extents = subst (λ (l : List ℕ). all (within 1 mostExtent) l ≡ true) same (fitting (card .shard) (numbers-fit .shard) .extents);
+      element = omega (arith, p .all-elements, ap product same);
+    }
 
 -- every copy of the first n elements lies in the space
 abbrev pub InsideBelow : Card → ℕ → Type 0
@@ -78,21 +103,13 @@ module _ (card : Card) (flat : ℕ) {row after : List ℕ} {outside : ℕ} (is :
               ];
         }
 
--- the cells of an element's copies are its row
-pub copies-row : (card : Card) (flat : ℕ) → RowOf (placed card) flat (copyCells card flat)
+-- the cells of the copies of an element that leads are its row
+pub copies-row : (card : Card) (flat : ℕ) → leader card flat ≡ flat → RowOf (placed card) flat (copyCells card flat)
 unfolding copyCells
-copies-row card flat = record {
-  size = cells-length (spot card flat) (copies card);
-  cells = λ r h. cells-at (spot card flat) (copies card) r h;
+copies-row card flat leads = record {
+  size = cells-length (spot card flat) (copies card) ∙ sym (own-copies card flat leads);
+  cells = λ r h. cells-at (spot card flat) (copies card) r (omega (arith, few-copies card flat));
 }
-
--- where every copy lies in the space, every copy lies in the cells
-pub inside-cells : (card : Card) → AllInside card → InCells (placed card) (elements card) (cells card)
-inside-cells card all f r hf hr = split (spot card f r) refl (all f r hf hr)
-  where
-    split : (p : Spot) → spot card f r ≡ p → LiesInside p → cellOf p < cells card
-    split (Inside cell) e i = cell-below card f r cell e
-    split (Outside axis) e i = absurd i
 
 -- a placed row can be claimed: it lies in the cells, has a copy, and its entry is a number of the table
 pub record RowReady (flat : ℕ) (row table : List ℕ) : Type 0 where
@@ -104,13 +121,13 @@ pub row-ready : (card : Card) (flat : ℕ) (table : List ℕ) → admission card
     → RowReady flat row table
 row-ready card flat table admitted claimable {row} e =
     let n = sized card admitted in
-    let is = copies-row card flat in
-    let inside = inside-cells card (claimable .inside) in
+    let is = copies-row card flat (claimable .leads) in
+    let inside = all-within card (claimable .inside) in
     record {
       within =
           rw e
           (row-within (placed card) (elements card) table (rw (claimable .size) inside) flat (copyCells card flat) (claimable .element) is);
-      some = rw e (omega (arith, is .size));
+      some = rw e (omega (arith, is .size, own-copies card flat (claimable .leads)));
       small = omega (arith, claimable .element);
     }
 
@@ -122,11 +139,20 @@ claims-none card = record {
   counted = sym (occupied-none (cells card));
 }
 
+-- an element that follows claims nothing
+pub claims-follow : (card : Card) (y count : ℕ) {table : List ℕ} → (leader card y ≡ y → ⊥) → OwnedTable (placed card) y (cells card) table count
+    → OwnedTable (placed card) (y + 1) (cells card) table count
+claims-follow card y count {table} follows so-far = record {
+  size = so-far .size;
+  owners = owners-follow (placed card) y table (rw (ne-eqb (leader card y) y follows)) (so-far .owners);
+  counted = so-far .counted;
+}
+
 -- element y's row is claimed after those of the smaller ones
 module _ (card : Card) (y newly count : ℕ) {row before after : List ℕ} (so-far : OwnedTable (placed card) y (cells card) before count)
-    (claim : ElementClaim card y newly row before after) where
+    (leads : leader card y ≡ y) (claim : ElementClaim card y newly row before after) where
   is-row : RowOf (placed card) y row
-  is-row = rw (claim .placed) (copies-row card y)
+  is-row = rw (claim .placed) (copies-row card y leads)
 
   -- newly occupied cells are cells
   pub claims-count : length after ≡ cells card → count + newly ≤ cells card

@@ -9,6 +9,7 @@ use Rattle.card.specs.Packed.{cardOf, Whole}
 use Rattle.card.specs.declared.Card.{Card}
 use Rattle.card.specs.declared.Admission.the-variants.{Admitted}
 use Rattle.rules.specs.Copies.{copyCells}
+use Rattle.rules.specs.Reuse.{leader}
 use Rattle.idle.specs.Admission.{fullAdmission}
 use Rattle.claims.specs.Rows.{RowClaim}
 use Rattle.judgement.specs.Judgement.{AllInside, FirstOutside}
@@ -27,10 +28,11 @@ abbrev pub Finds : Card → Search → Type 0
 Finds card (Outside flat axis) = FirstOutside card (flat .0) axis
 Finds card NoneOutside = AllInside card
 
--- an element can be claimed: every copy of every element lies in the space, and the table has exactly the cells
+-- an element can be claimed: every copy of every element lies in the space, the element leads, and the table has exactly the cells
 pub record Claimable (card : Card) (flat : ℕ) (table : List ℕ) : Type 0 where
   pub inside : AllInside card
   pub element : flat < elements card
+  pub leads : leader card flat ≡ flat
   pub size : length table ≡ cells card
 
 -- one element's claim: its row is placed, and claimed or not

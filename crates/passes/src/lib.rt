@@ -20,7 +20,7 @@ enum Search {
 }
 
 // The first pass: the smallest element of which a copy lies outside the space.
-fn first_outside(numbers: &[u64; 48], strides: &[i64; 24], elements: u64, row: &mut [u32]) -> Search
+fn first_outside(numbers: &[u64; 56], strides: &[i64; 24], elements: u64, row: &mut [u32]) -> Search
     requires { ⌜ Pass (now numbers) (now strides) elements (now row) ⌝ }
     ensures { λ r. ⌜ Finds (cardOf (now (numbers .entry)) (now (strides .entry))) r ⌝ }
 {
@@ -41,7 +41,7 @@ fn first_outside(numbers: &[u64; 48], strides: &[i64; 24], elements: u64, row: &
 // Places the copies of one element and claims their cells: how many are newly occupied, none where a
 // cell has an owner already.
 fn claim_element(
-    numbers: &[u64; 48],
+    numbers: &[u64; 56],
     strides: &[i64; 24],
     flat: Flat,
     row: &mut [u32],
@@ -68,10 +68,10 @@ fn refuse_clash(table: &mut [u32], row: &[u32], flat: Flat) -> Refusal
     refusal
 }
 
-// The second pass: claims the cells of every element in the cleared table, which has exactly the
-// cells. The first element that meets an owner is refused.
+// The second pass: claims the cells of every element that leads in the cleared table, which has exactly
+// the cells. The first that meets an owner is refused.
 fn claim_all(
-    numbers: &[u64; 48],
+    numbers: &[u64; 56],
     strides: &[i64; 24],
     elements: u64,
     row: &mut [u32],
@@ -81,15 +81,19 @@ fn claim_all(
     requires { ⌜ AllInside (cardOf (now numbers) (now strides)) × (now table ≡ replicate (cells (cardOf (now numbers) (now strides))) 0) ⌝ }
     ensures { λ r. ⌜ VerdictPromise (cardOf (now (numbers .entry)) (now (strides .entry))) (now (table .entry)) (now (table .exit)) r ⌝ }
 {
+    let marked = reuse::has_marks(numbers);
     let mut occupied: u64 = 0;
     let mut flat: u64 = 0;
     while flat < elements {
-        let newly = claim_element(numbers, strides, Flat(flat), row, table);
-        if newly == 0 {
-            return Verdict::Refused(refuse_clash(table, row, Flat(flat)));
-        }
-        occupied += newly;
+        let element = flat;
         flat += 1;
+        if reuse::leads(numbers, marked, Flat(element)) {
+            let newly = claim_element(numbers, strides, Flat(element), row, table);
+            if newly == 0 {
+                return Verdict::Refused(refuse_clash(table, row, Flat(element)));
+            }
+            occupied += newly;
+        }
     }
     Verdict::Approved {
         elements,
@@ -100,7 +104,7 @@ fn claim_all(
 
 // Both passes, in a table of exactly the cells. Public, with a requires, for the crate above.
 pub fn judge_passes(
-    numbers: &[u64; 48],
+    numbers: &[u64; 56],
     strides: &[i64; 24],
     elements: u64,
     row: &mut [u32],

@@ -66,7 +66,7 @@ fn flatten(shape: Tuple, coordinates: Tuple) -> Found
 
 // Check 7 for one element: the smallest axis on which a copy lies outside, or AXES. The row is the
 // function's own, since a refusal touches nothing.
-fn outside_axis(numbers: &[u64; 48], strides: &[i64; 24], flat: Flat, end: usize) -> u64
+fn outside_axis(numbers: &[u64; 56], strides: &[i64; 24], flat: Flat, end: usize) -> u64
     requires { ⌜ Admits (now numbers) (now strides) × (end ≡ copies (cardOf (now numbers) (now strides))) ⌝ }
     ensures { λ r. ⌜ r ≡ outsideAxis (cardOf (now (numbers .entry)) (now (strides .entry))) (flat .0) ⌝ }
 {
@@ -76,7 +76,7 @@ fn outside_axis(numbers: &[u64; 48], strides: &[i64; 24], flat: Flat, end: usize
 
 // The placement of one element of a packed card. All copies are judged before the first is written.
 fn place_packed(
-    numbers: &[u64; 48],
+    numbers: &[u64; 56],
     strides: &[i64; 24],
     shape: Tuple,
     coordinates: Tuple,

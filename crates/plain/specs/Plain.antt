@@ -1,4 +1,5 @@
--- A card as 57 numbers, in the order of docs/PROTOCOL.md, strides and offsets in two's complement; and an answer as four numbers.
+-- A card as 57 numbers, in the order of docs/PROTOCOL.md, strides and offsets in two's complement, and one number for its marks; and an answer as
+-- four numbers.
 use Prim.Native.Nat.{ℕ, _+_, _*_, _-_, _^_}
 use mathlib.Core.Bool.{Bool, false, cond, not}
 use mathlib.Core.List.{List, [], _∷_, _++_, map}
@@ -6,7 +7,7 @@ use lib.Dec.{eqb, ltb}
 use lib.IntN.{ℤ, pos, negsuc}
 use lib.ListN.{getD, replicate}
 use Rattle.answers.specs.declared.Numbers.{Numbers}
-use Rattle.descriptor.specs.Descriptor.{bit}
+use Rattle.descriptor.specs.Descriptor.{yes, bit}
 use Rattle.descriptor.specs.declared.Fields.{Fields}
 use Rattle.card.specs.declared.Iter.{Iter}
 use Rattle.card.specs.declared.Iters.{Iters}
@@ -44,9 +45,14 @@ offsetFrom numbers = map (λ k. signed (getD numbers (38 + k) 0)) eight
 abbrev pub lengthsFrom : List ℕ → List ℕ
 lengthsFrom numbers = map (λ k. getD numbers (46 + k) 0) eight
 
-abbrev pub cardFrom : List ℕ → Card
-cardFrom numbers = record {
+-- bit k marks shard iter k
+abbrev pub marksFrom : ℕ → List Bool
+marksFrom marks = map (λ k. yes k marks) eight
+
+abbrev pub cardFrom : List ℕ → ℕ → Card
+cardFrom numbers marks = record {
   shard = shardFrom numbers;
+  marks = marksFrom marks;
   replica = replicaFrom numbers;
   offset = offsetFrom numbers;
   lengths = lengthsFrom numbers;

@@ -9,7 +9,7 @@ use swizzle::Swizzle;
 ghost use mathlib.Core.Path.{_≡_};
 ghost use Prim.Native.Nat.{_+_, _≤_, _<_};
 ghost use Rattle.descriptor.specs.Descriptor.{bit};
-ghost use Rattle.plain.specs.Plain.{signed, iterFrom, shardFrom, replicaFrom, offsetFrom, lengthsFrom, cardFrom, tupleFrom, fieldsFrom, bytesOf, four};
+ghost use Rattle.plain.specs.Plain.{signed, iterFrom, shardFrom, replicaFrom, offsetFrom, lengthsFrom, marksFrom, cardFrom, tupleFrom, fieldsFrom, bytesOf, four};
 
 // Where the numbers of a card stand, in the order of docs/PROTOCOL.md.
 const REPLICA: usize = 25;
@@ -124,12 +124,29 @@ fn lengths(numbers: &[u64; 57]) -> [u64; 8]
     ]
 }
 
-// The card that 57 numbers are.
-pub fn card(numbers: &[u64; 57]) -> Card
-    ensures { λ r. ⌜ r ≡ cardFrom (now (numbers .entry)) ⌝ }
+// The marks: bit k for shard iter k.
+pub fn marks(bits: u64) -> [bool; 8]
+    ensures { λ r. ⌜ r ≡ marksFrom bits ⌝ }
+{
+    [
+        (bits >> 0) % 2 == 1,
+        (bits >> 1) % 2 == 1,
+        (bits >> 2) % 2 == 1,
+        (bits >> 3) % 2 == 1,
+        (bits >> 4) % 2 == 1,
+        (bits >> 5) % 2 == 1,
+        (bits >> 6) % 2 == 1,
+        (bits >> 7) % 2 == 1,
+    ]
+}
+
+// The card that 57 numbers and the marks are.
+pub fn card(numbers: &[u64; 57], bits: u64) -> Card
+    ensures { λ r. ⌜ r ≡ cardFrom (now (numbers .entry)) bits ⌝ }
 {
     Card {
         shard: shard(numbers),
+        marks: marks(bits),
         replica: replica(numbers),
         offset: offset(numbers),
         lengths: lengths(numbers),

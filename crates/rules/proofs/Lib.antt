@@ -1,4 +1,5 @@
 pub mod RowMajor
+pub mod Reuse
 pub mod Prefixes
 pub mod Along
 pub mod Filling

@@ -16,6 +16,7 @@ use Rattle.card.proofs.Theorems.{AlikeCards}
 use Rattle.rules.specs.RowMajor.{rowMajor, components, inside}
 use Rattle.rules.specs.Rules.{axes, sum, swizzledZ, finished, coordinates, spot}
 use Rattle.rules.specs.Copies.{cellOf, pastAxis, outsideAxis}
+use Rattle.rules.specs.Reuse.{leader}
 use Rattle.rules.specs.declared.Spot.{Spot}
 use Rattle.rules.specs.declared.Spot.the-variants.{Inside, Outside}
 use Rattle.rules.proofs.RowMajor.{row-major-below, row-major-one-to-one, components-inside, components-give-back}
@@ -97,6 +98,14 @@ outside-axis-none card flat eight h r below =
 pub past-the-count-placed : (a b : Card) → AlikeCards a b → (flat combination : ℕ) → spot a flat combination ≡ spot b flat combination
 unfolding spot coordinates
 past-the-count-placed a b k flat combination = rw (k .shard .iters, k .replica .iters, k .offset, k .lengths, k .swizzle)
+
+-- nor in who leads
+pub same-led : (a b : Card) → AlikeCards a b → leader a ≡ leader b
+unfolding leader
+same-led a b k = fun-ext led
+  where
+    led : (flat : ℕ) → leader a flat ≡ leader b flat
+    led flat = rw (k .shard .iters, k .marks)
 
 pub same-spot : (a b : Card) → AlikeCards a b → spot a ≡ spot b
 same-spot a b k = fun-ext (λ flat. fun-ext (λ r. past-the-count-placed a b k flat r))

@@ -18,6 +18,7 @@ use Rattle.pattern.specs.Pattern.{column, number, bytes, zeroed, firstUsed}
 use Rattle.card.specs.Admission.{admission}
 use Rattle.rules.specs.RowMajor.{position}
 use Rattle.rules.specs.Rules.{coordinates, spot}
+use Rattle.rules.specs.Reuse.{leader}
 use Rattle.rules.specs.Copies.{copyCells, outsideAxis}
 use Rattle.idle.specs.Run.{pairOf}
 use Rattle.idle.specs.Admission.{fullAdmission}
@@ -80,7 +81,7 @@ meets k load = same (asked (load .question)) (load .stated)
 
 -- the computed test
 test : every meets 0 loads ≡ true
-unfolding meets asked loads swizzled bitLength leadingZeros computation registers place descriptorOf column number bytes zeroed firstUsed admission pairOf fullAdmission position coordinates spot copyCells outsideAxis placementAnswer placementMemory
+unfolding meets asked loads swizzled bitLength leadingZeros computation registers place descriptorOf column number bytes zeroed firstUsed admission pairOf fullAdmission position coordinates spot leader copyCells outsideAxis placementAnswer placementMemory
 test = refl
 
 -- every load of the sheet has its stated answer

@@ -1,5 +1,6 @@
 -- The cards of the test sheet: each list of iters is eight long, with zeros past its count, as a card has it.
 use Prim.Native.Nat.{ℕ, _-_}
+use mathlib.Core.Bool.{Bool, false}
 use mathlib.Core.List.{List, [], _∷_, _++_, map}
 use lib.IntN.{ℤ, pos, negℤ}
 use lib.ListN.{length, replicate}
@@ -52,11 +53,16 @@ unswizzled = swizzle 0 0 3
 abbrev pub none : List ℤ
 none = replicate 8 (pos 0)
 
+-- no iter is marked
+abbrev pub noMarks : List Bool
+noMarks = replicate 8 false
+
 -- tile X with a length of warpid and a replica stride: its own are 11 and 4
 abbrev pub tile : ℕ → ℕ → Card
 tile warps stride =
     record {
       shard = iters (8 by 4 on laneid ∷ 2 by 1 on warpid ∷ 4 by 1 on laneid ∷ 2 by 1 on m ∷ []);
+      marks = noMarks;
       replica = iters (2 by stride on warpid ∷ []);
       offset = map pos (0 ∷ 5 ∷ 0 ∷ 0 ∷ 0 ∷ 0 ∷ 0 ∷ 0 ∷ []);
       lengths = 1 ∷ warps ∷ 32 ∷ 1 ∷ 1 ∷ 1 ∷ 1 ∷ 2 ∷ [];
@@ -71,6 +77,7 @@ abbrev pub fromM : List Iter → List Iter → ℤ → ℕ → Swizzle → Card
 fromM shard replica offset length w =
     record {
       shard = iters shard;
+      marks = noMarks;
       replica = iters replica;
       offset = pos 0 ∷ pos 0 ∷ pos 0 ∷ pos 0 ∷ pos 0 ∷ pos 0 ∷ pos 0 ∷ offset ∷ [];
       lengths = 1 ∷ 1 ∷ 1 ∷ 1 ∷ 1 ∷ 1 ∷ 1 ∷ length ∷ [];
@@ -102,6 +109,7 @@ abbrev pub inTensorMemory : List Iter → List Iter → ℕ → ℕ → Card
 inTensorMemory shard replica lanes columns =
     record {
       shard = iters shard;
+      marks = noMarks;
       replica = iters replica;
       offset = none;
       lengths = 1 ∷ 1 ∷ 1 ∷ 1 ∷ 1 ∷ lanes ∷ columns ∷ 1 ∷ [];
@@ -127,6 +135,26 @@ bothSides = inTensorMemory (1 by 0 on TLane ∷ []) (2 by 1 on TLane ∷ 2 by 1 
 -- 004's scale factors: 32 rows, routed to the four warps of a warpgroup
 abbrev pub scaleFactors : Card
 scaleFactors = inTensorMemory (32 by 1 on TLane ∷ 4 by 1 on TCol ∷ []) (4 by 32 on TLane ∷ []) 128 4
+
+-- a card with reuse marks on its first iters
+abbrev pub marked : List Bool → Card → Card
+marked marks card =
+    record {
+      shard = card .shard;
+      marks = padded false marks;
+      replica = card .replica;
+      offset = card .offset;
+      lengths = card .lengths;
+      swizzle = card .swizzle;
+    }
+
+-- 004's scale factors used twice: an iter of stride 0 before them
+abbrev pub reusedFactors : Card
+reusedFactors = inTensorMemory (2 by 0 on TCol ∷ 32 by 1 on TLane ∷ 4 by 1 on TCol ∷ []) (4 by 32 on TLane ∷ []) 128 4
+
+-- three cells, each with four elements, and copies further on
+abbrev pub fourEach : ℕ → ℕ → Card
+fourEach stride length = fromM (2 by 0 on m ∷ 3 by 1 on m ∷ 2 by 0 on m ∷ []) (2 by stride on m ∷ []) (pos 0) length unswizzled
 
 -- 65 elements in a row, swizzled
 abbrev pub sixtyFive : ℕ → Card

@@ -9,7 +9,7 @@ use Rattle.answers.specs.Refusals.{answer}
 use Rattle.descriptor.specs.Descriptor.{descriptorOf}
 use Rattle.descriptor.specs.declared.Fields.{Fields}
 use Rattle.sheet.specs.Questions.{Question, swizzle, mode, fragment, descriptor, mask, place, verdict, owner, stretch, Reply, reply}
-use Rattle.sheet.specs.Cards.{tuple, tile, tileX, unswizzled, onM, atM, backwards, lastRowFirst, copiesBack, _by_on_, _back_on_, m, TLane, inTensorMemory, wideTile, doubled, copied, bothSides, scaleFactors, sixtyFive, figure189}
+use Rattle.sheet.specs.Cards.{tuple, tile, tileX, unswizzled, onM, atM, backwards, lastRowFirst, copiesBack, _by_on_, _back_on_, m, TLane, inTensorMemory, wideTile, doubled, copied, bothSides, scaleFactors, marked, reusedFactors, fourEach, sixtyFive, figure189}
 use Rattle.sheet.specs.Cards.{swizzle as swizzleBy}
 
 pub record Load : Type 0 where
@@ -171,6 +171,20 @@ loads =
     ∷ (verdict (atM (negℤ (pos 65537)) 65 unswizzled) (table 65) is reply (answer 2 0 0 0) [])
     ∷ (verdict (atM (pos 65535) 65 unswizzled) (table 65) is reply (answer 7 0 7 0) [])
     ∷ (verdict (atM (pos 65536) 65 unswizzled) (table 65) is reply (answer 2 0 0 0) [])
+    -- reuse marks (document 02): scale factors used twice are refused without the mark and approved with it; the owner is the smallest of its class;
+    -- a follower is placed with its leader
+    ∷ (verdict reusedFactors (table 512) is reply (answer 8 0 128 0) [])
+    ∷ (verdict (marked (true ∷ []) reusedFactors) (table 512) is reply (answer 0 256 512 512) [])
+    ∷ (owner (marked (true ∷ []) reusedFactors) (0 ∷ 0 ∷ 0 ∷ 0 ∷ 0 ∷ 37 ∷ 2 ∷ 0 ∷ []) (table 512) is reply (answer 0 23 0 0) [])
+    ∷ (place (marked (true ∷ []) reusedFactors) (tuple (2 ∷ 32 ∷ 4 ∷ [])) (tuple (1 ∷ 5 ∷ 2 ∷ [])) (table 4)
+    is reply (answer 0 4 0 0) (22 ∷ 150 ∷ 278 ∷ 406 ∷ []))
+    -- two marks; one of them missing; two classes that meet, x and y the smallest of theirs
+    ∷ (verdict (marked (true ∷ false ∷ true ∷ []) (fourEach 3 6)) (table 6) is reply (answer 0 12 6 6) [])
+    ∷ (verdict (marked (false ∷ false ∷ true ∷ []) (fourEach 3 6)) (table 6) is reply (answer 8 0 6 0) [])
+    ∷ (verdict (marked (true ∷ false ∷ true ∷ []) (fourEach 2 5)) (table 5) is reply (answer 8 0 4 2) [])
+    -- a marked stride of 1; a mark past the count
+    ∷ (verdict (marked (true ∷ []) (onM (4 by 1 on m ∷ []) 4 unswizzled)) (table 4) is reply (answer 2 0 0 0) [])
+    ∷ (verdict (marked (false ∷ true ∷ []) (onM (4 by 1 on m ∷ []) 4 unswizzled)) (table 4) is reply (answer 0 4 4 4) [])
     -- Figure 189's layout
     ∷ (verdict figure189 (table 256) is reply (answer 8 8 16 8) [])
     -- the accumulator of 224 columns: 28,672 cells, more than are lent

@@ -15,7 +15,7 @@ fn step(sum: i64, component: u64, stride: i64) -> i64
 
 // Adds to the sums what a list of iters adds to each axis at an index: one walk over the iters for all
 // eight axes, from the last, which runs fastest. Public, with a requires, for the crates above.
-pub fn walk(numbers: &[u64; 48], strides: &[i64; 24], list: usize, index: u64, sums: &mut [i64; 8])
+pub fn walk(numbers: &[u64; 56], strides: &[i64; 24], list: usize, index: u64, sums: &mut [i64; 8])
     requires { ⌜ Walkable (now numbers) (now strides) list × Sums (now sums) ⌝ }
     ensures { λ r. ⌜ now (sums .exit) ≡ walked (itersOf (now (numbers .entry)) (now (strides .entry)) list) index (now (sums .entry)) ⌝ }
 {

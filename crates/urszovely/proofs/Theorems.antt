@@ -20,19 +20,19 @@ pub as-holder-settled : (kind : ℕ) (place : Place) (x y : List ℕ) → AsHold
 as-holder-settled kind place x y h k =
     h .numbers ∙ ap (λ (r : Holder). four (holderNumbers r)) (holder-settled kind place (h .holder) (k .holder) (h .allowed) (k .allowed)) ∙ sym (k .numbers)
 
-pub as-placement-settled : (card shape coordinates before a b x y : List ℕ) → AsPlacement card shape coordinates before a x
-    → AsPlacement card shape coordinates before b y → (a ≡ b) × (x ≡ y)
-as-placement-settled card shape coordinates before a b x y h k =
-    let same = placement-settled (cardFrom card) (tupleFrom shape) (tupleFrom coordinates) before a b (h .placement) (k .placement) (h .allowed) (k .allowed) in
+pub as-placement-settled : (card : List ℕ) (marks : ℕ) (shape coordinates before a b x y : List ℕ) → AsPlacement card marks shape coordinates before a x
+    → AsPlacement card marks shape coordinates before b y → (a ≡ b) × (x ≡ y)
+as-placement-settled card marks shape coordinates before a b x y h k =
+    let same = placement-settled (cardFrom card marks) (tupleFrom shape) (tupleFrom coordinates) before a b (h .placement) (k .placement) (h .allowed) (k .allowed) in
     (same .1, h .numbers ∙ ap (λ (p : Placement). four (placementNumbers p)) (same .0) ∙ sym (k .numbers))
 
-pub as-verdict-settled : (card before a b x y : List ℕ) → AsVerdict card before a x → AsVerdict card before b y → (a ≡ b) × (x ≡ y)
-as-verdict-settled card before a b x y h k =
-    let same = verdict-settled (cardFrom card) before a b (h .verdict) (k .verdict) (h .allowed) (k .allowed) in
+pub as-verdict-settled : (card : List ℕ) (marks : ℕ) (before a b x y : List ℕ) → AsVerdict card marks before a x → AsVerdict card marks before b y → (a ≡ b) × (x ≡ y)
+as-verdict-settled card marks before a b x y h k =
+    let same = verdict-settled (cardFrom card marks) before a b (h .verdict) (k .verdict) (h .allowed) (k .allowed) in
     (same .0, h .numbers ∙ ap (λ (v : Verdict). four (verdictNumbers v)) (same .1) ∙ sym (k .numbers))
 
-pub as-owner-settled : (card coordinates before a b x y : List ℕ) → AsOwner card coordinates before a x → AsOwner card coordinates before b y
+pub as-owner-settled : (card : List ℕ) (marks : ℕ) (coordinates before a b x y : List ℕ) → AsOwner card marks coordinates before a x → AsOwner card marks coordinates before b y
     → (a ≡ b) × (x ≡ y)
-as-owner-settled card coordinates before a b x y h k =
-    let same = owner-settled (cardFrom card) coordinates before a b (h .owner) (k .owner) (h .allowed) (k .allowed) in
+as-owner-settled card marks coordinates before a b x y h k =
+    let same = owner-settled (cardFrom card marks) coordinates before a b (h .owner) (k .owner) (h .allowed) (k .allowed) in
     (same .0, h .numbers ∙ ap (λ (v : Owner). four (ownerNumbers v)) (same .1) ∙ sym (k .numbers))

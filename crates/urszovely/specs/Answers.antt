@@ -17,17 +17,17 @@ pub record AsHolder (kind : ℕ) (place : Place) (answer : List ℕ) : Type 0 wh
   pub allowed : HolderAnswer kind place holder
   pub numbers : answer ≡ four (holderNumbers holder)
 
-pub record AsPlacement (card shape coordinates before after answer : List ℕ) : Type 0 where
+pub record AsPlacement (card : List ℕ) (marks : ℕ) (shape coordinates before after answer : List ℕ) : Type 0 where
   pub placement : Placement
-  pub allowed : Placing (cardFrom card) (tupleFrom shape) (tupleFrom coordinates) before after placement
+  pub allowed : Placing (cardFrom card marks) (tupleFrom shape) (tupleFrom coordinates) before after placement
   pub numbers : answer ≡ four (placementNumbers placement)
 
-pub record AsVerdict (card before after answer : List ℕ) : Type 0 where
+pub record AsVerdict (card : List ℕ) (marks : ℕ) (before after answer : List ℕ) : Type 0 where
   pub verdict : Verdict
-  pub allowed : VerdictPromise (cardFrom card) before after verdict
+  pub allowed : VerdictPromise (cardFrom card marks) before after verdict
   pub numbers : answer ≡ four (verdictNumbers verdict)
 
-pub record AsOwner (card coordinates before after answer : List ℕ) : Type 0 where
+pub record AsOwner (card : List ℕ) (marks : ℕ) (coordinates before after answer : List ℕ) : Type 0 where
   pub owner : Owner
-  pub allowed : OwnerPromise (cardFrom card) coordinates before after owner
+  pub allowed : OwnerPromise (cardFrom card marks) coordinates before after owner
   pub numbers : answer ≡ four (ownerNumbers owner)

@@ -102,10 +102,10 @@ pub extern "C" fn urszovely_mask(
 
 // A card's own checks: 1 to 6, then 17.
 #[no_mangle]
-pub extern "C" fn urszovely_admit(card: &[u64; 57], answer: &mut [u64; 4])
-    ensures { λ r. ⌜ now (answer .exit) ≡ four (admissionNumbers (fullAdmission (cardFrom (now (card .entry))))) ⌝ }
+pub extern "C" fn urszovely_admit(card: &[u64; 57], marks: u64, answer: &mut [u64; 4])
+    ensures { λ r. ⌜ now (answer .exit) ≡ four (admissionNumbers (fullAdmission (cardFrom (now (card .entry)) marks))) ⌝ }
 {
-    let admission = idle::admit(plain::card(card));
+    let admission = idle::admit(plain::card(card, marks));
     let numbers = admission::admission_numbers(admission);
     *answer = plain::four(numbers);
 }
@@ -114,15 +114,16 @@ pub extern "C" fn urszovely_admit(card: &[u64; 57], answer: &mut [u64; 4])
 #[no_mangle]
 pub extern "C" fn urszovely_place(
     card: &[u64; 57],
+    marks: u64,
     shape: &[u64; 9],
     coordinates: &[u64; 9],
     memory: &mut [u32],
     answer: &mut [u64; 4],
 )
-    ensures { λ r. ⌜ AsPlacement (now (card .entry)) (now (shape .entry)) (now (coordinates .entry)) (now (memory .entry)) (now (memory .exit)) (now (answer .exit)) ⌝ }
+    ensures { λ r. ⌜ AsPlacement (now (card .entry)) marks (now (shape .entry)) (now (coordinates .entry)) (now (memory .entry)) (now (memory .exit)) (now (answer .exit)) ⌝ }
 {
     let placement = placement::place(
-        plain::card(card),
+        plain::card(card, marks),
         plain::tuple(shape),
         plain::tuple(coordinates),
         memory,
@@ -133,10 +134,15 @@ pub extern "C" fn urszovely_place(
 
 // The verdict.
 #[no_mangle]
-pub extern "C" fn urszovely_verdict(card: &[u64; 57], table: &mut [u32], answer: &mut [u64; 4])
-    ensures { λ r. ⌜ AsVerdict (now (card .entry)) (now (table .entry)) (now (table .exit)) (now (answer .exit)) ⌝ }
+pub extern "C" fn urszovely_verdict(
+    card: &[u64; 57],
+    marks: u64,
+    table: &mut [u32],
+    answer: &mut [u64; 4],
+)
+    ensures { λ r. ⌜ AsVerdict (now (card .entry)) marks (now (table .entry)) (now (table .exit)) (now (answer .exit)) ⌝ }
 {
-    let verdict = verdict::judge(plain::card(card), table);
+    let verdict = verdict::judge(plain::card(card, marks), table);
     let numbers = judgement::verdict_numbers(verdict);
     *answer = plain::four(numbers);
 }
@@ -145,13 +151,14 @@ pub extern "C" fn urszovely_verdict(card: &[u64; 57], table: &mut [u32], answer:
 #[no_mangle]
 pub extern "C" fn urszovely_owner(
     card: &[u64; 57],
+    marks: u64,
     coordinates: &[u64; 8],
     table: &mut [u32],
     answer: &mut [u64; 4],
 )
-    ensures { λ r. ⌜ AsOwner (now (card .entry)) (now (coordinates .entry)) (now (table .entry)) (now (table .exit)) (now (answer .exit)) ⌝ }
+    ensures { λ r. ⌜ AsOwner (now (card .entry)) marks (now (coordinates .entry)) (now (table .entry)) (now (table .exit)) (now (answer .exit)) ⌝ }
 {
-    let owner = verdict::owner_of(plain::card(card), *coordinates, table);
+    let owner = verdict::owner_of(plain::card(card, marks), *coordinates, table);
     let numbers = judgement::owner_numbers(owner);
     *answer = plain::four(numbers);
 }

@@ -18,7 +18,7 @@ ghost use Rattle.verdict.specs.Contracts.{ReadAt};
 
 // The verdict on an admitted card in a table of exactly its cells, with one row for the copies of an
 // element.
-fn judge_cells(numbers: &[u64; 48], strides: &[i64; 24], table: &mut [u32]) -> Verdict
+fn judge_cells(numbers: &[u64; 56], strides: &[i64; 24], table: &mut [u32]) -> Verdict
     requires { ⌜ Whole (now numbers) (now strides) × (fullAdmission (cardOf (now numbers) (now strides)) ≡ Admitted) ⌝ }
     requires { ⌜ length (now table) ≡ cells (cardOf (now numbers) (now strides)) ⌝ }
     ensures { λ r. ⌜ VerdictPromise (cardOf (now (numbers .entry)) (now (strides .entry))) (now (table .entry)) (now (table .exit)) r ⌝ }
@@ -30,7 +30,7 @@ fn judge_cells(numbers: &[u64; 48], strides: &[i64; 24], table: &mut [u32]) -> V
 }
 
 // The verdict on an admitted card: room for its cells, then the owners in them.
-fn judge_admitted(numbers: &[u64; 48], strides: &[i64; 24], table: &mut [u32]) -> Verdict
+fn judge_admitted(numbers: &[u64; 56], strides: &[i64; 24], table: &mut [u32]) -> Verdict
     requires { ⌜ Whole (now numbers) (now strides) × (fullAdmission (cardOf (now numbers) (now strides)) ≡ Admitted) ⌝ }
     ensures { λ r. ⌜ VerdictPromise (cardOf (now (numbers .entry)) (now (strides .entry))) (now (table .entry)) (now (table .exit)) r ⌝ }
 {
@@ -43,7 +43,7 @@ fn judge_admitted(numbers: &[u64; 48], strides: &[i64; 24], table: &mut [u32]) -
 }
 
 // The verdict on a packed card: the card's own checks, then the table's.
-fn judge_packed(numbers: &[u64; 48], strides: &[i64; 24], table: &mut [u32]) -> Verdict
+fn judge_packed(numbers: &[u64; 56], strides: &[i64; 24], table: &mut [u32]) -> Verdict
     requires { ⌜ Whole (now numbers) (now strides) ⌝ }
     ensures { λ r. ⌜ VerdictPromise (cardOf (now (numbers .entry)) (now (strides .entry))) (now (table .entry)) (now (table .exit)) r ⌝ }
 {
@@ -65,7 +65,7 @@ pub fn judge(card: Card, table: &mut [u32]) -> Verdict
 }
 
 // The owner of a cell of an admitted card: the verdict, and then one entry is read.
-fn owner_at(numbers: &[u64; 48], strides: &[i64; 24], cell: Cell, table: &mut [u32]) -> Owner
+fn owner_at(numbers: &[u64; 56], strides: &[i64; 24], cell: Cell, table: &mut [u32]) -> Owner
     requires { ⌜ Whole (now numbers) (now strides) × (fullAdmission (cardOf (now numbers) (now strides)) ≡ Admitted) ⌝ }
     requires { ⌜ cell .0 < cells (cardOf (now numbers) (now strides)) ⌝ }
     ensures { λ r. ⌜ ReadAt (cardOf (now (numbers .entry)) (now (strides .entry))) (cell .0) (now (table .entry)) (now (table .exit)) r ⌝ }
@@ -83,7 +83,7 @@ fn owner_at(numbers: &[u64; 48], strides: &[i64; 24], cell: Cell, table: &mut [u
 
 // The owner of a cell of a packed card: after the card's own checks the coordinates are judged.
 fn owner_packed(
-    numbers: &[u64; 48],
+    numbers: &[u64; 56],
     strides: &[i64; 24],
     coordinates: &[u64; 8],
     table: &mut [u32],

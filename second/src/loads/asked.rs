@@ -142,17 +142,27 @@ pub fn random_asked(random: &mut Random, space: &[u64; AXES]) -> Coordinates {
     asked
 }
 
-pub fn verdict(random: &mut Random, make: MakeCard) -> Vec<Number> {
-    let card = make(random);
+/// The numbers of a verdict on this card.
+pub fn verdict_on(random: &mut Random, card: &Card) -> Vec<Number> {
     let length = table_length(random, card.cells());
     [card.numbers(), whole(&[length])].concat()
 }
 
-pub fn owner(random: &mut Random, make: MakeCard) -> Vec<Number> {
+pub fn verdict(random: &mut Random, make: MakeCard) -> Vec<Number> {
     let card = make(random);
+    verdict_on(random, &card)
+}
+
+/// The numbers of a question for an owner on this card.
+pub fn owner_on(random: &mut Random, card: &Card) -> Vec<Number> {
     let asked = random_asked(random, &card.space);
     let length = table_length(random, card.cells());
     [card.numbers(), whole(&asked), whole(&[length])].concat()
+}
+
+pub fn owner(random: &mut Random, make: MakeCard) -> Vec<Number> {
+    let card = make(random);
+    owner_on(random, &card)
 }
 
 /// Lengths of a space: a few axes of some length, sometimes too many cells.

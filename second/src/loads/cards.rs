@@ -5,7 +5,7 @@
 use super::limits::{AXIS, COPIES, MOST_B, SIZES, STRIDES};
 use super::random::Random;
 use super::small::{permitted_swizzle, random_swizzle};
-use crate::layout::{Card, Flat, Iter, AXES, M_AXIS, REPLICA_SLOTS, SHARD_SLOTS};
+use crate::layout::{Card, Flat, Iter, AXES, M_AXIS, NO_MARKS, REPLICA_SLOTS, SHARD_SLOTS};
 use crate::lines::Number;
 use crate::swizzle::{from_mode, Swizzle};
 
@@ -18,6 +18,7 @@ pub fn card_of(shard: &[Iter], replica: &[Iter]) -> Card {
     let mut card = Card {
         shard_count: shard.len() as u64,
         shard_slots: std::array::from_fn(|k| slot(shard, k)),
+        marks: NO_MARKS,
         replica_count: replica.len() as u64,
         replica_slots: std::array::from_fn(|k| slot(replica, k)),
         offset: [0; AXES],
@@ -140,7 +141,7 @@ fn orderly(random: &mut Random) -> Card {
 
 /// Small iters with any strides; they clash more often than not. The more
 /// axes, the smaller the strides, or the cells would be too many.
-fn loose(random: &mut Random) -> Card {
+pub fn loose(random: &mut Random) -> Card {
     let axes = random_axes(random);
     let strides = 24 >> axes.len();
     let iters = |random: &mut Random, count: u64, most: u64| -> Vec<Iter> {
@@ -202,7 +203,7 @@ fn largest_m(card: &Card) -> u64 {
 /// Element 2 shares one cell with element 0 and a smaller one with element
 /// 1: the smallest element it shares with does not hold the smallest cell it
 /// shares.
-fn tangled(random: &mut Random) -> Card {
+pub fn tangled(random: &mut Random) -> Card {
     let axis = random.below(AXES as u64);
     let scale = random.between(1, 3);
     let small = random.between(1, 4);
@@ -463,7 +464,8 @@ pub fn spoil(random: &mut Random, card: &mut Card) {
             let at = random.index(Card::NUMBERS);
             let mut numbers = card.numbers();
             numbers[at] = random.hostile().into();
-            *card = Card::of(&numbers).unwrap_or(*card);
+            let marks = card.marks;
+            *card = Card::of(&numbers).map_or(*card, |card| Card { marks, ..card });
         }
     }
 }

@@ -3,8 +3,9 @@
 //! wrong.
 
 use super::cards::{card_of, iter, random_axes, shuffle, some_iter};
-use super::limits::{LENT_TABLE, MOST_B, MOST_M, MOST_S};
+use super::limits::{LARGEST_TABLE, LENT_TABLE, MOST_B, MOST_M, MOST_S};
 use super::random::Random;
+use super::reuse::{number_of, reuse};
 use super::signed::{lower, turn_some};
 use crate::layout::{Card, Coordinates, AXES, M_AXIS, REPLICA_SLOTS, SHARD_SLOTS};
 use crate::lines::{whole, Number};
@@ -89,6 +90,26 @@ pub fn owner(random: &mut Random) -> Vec<Number> {
     let card = full_card(random);
     let asked: Coordinates = card.space.map(|length| random.below(length));
     [card.numbers(), whole(&asked), whole(&[LENT_TABLE])].concat()
+}
+
+/// The same with reused iters, so that there are more elements than cells.
+fn reused_card(random: &mut Random) -> Card {
+    let mut card = full_card(random);
+    reuse(random, &mut card, LARGEST_TABLE);
+    card
+}
+
+pub fn starred_verdict(random: &mut Random) -> Vec<Number> {
+    let card = reused_card(random);
+    let marks = number_of(&card.marks);
+    [whole(&[marks]), card.numbers(), whole(&[LENT_TABLE])].concat()
+}
+
+pub fn starred_owner(random: &mut Random) -> Vec<Number> {
+    let card = reused_card(random);
+    let asked: Coordinates = card.space.map(|length| random.below(length));
+    let marks = whole(&[number_of(&card.marks)]);
+    [marks, card.numbers(), whole(&asked), whole(&[LENT_TABLE])].concat()
 }
 
 #[cfg(test)]

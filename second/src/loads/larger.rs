@@ -7,7 +7,8 @@ use super::full::{bit_tile, finished, tile};
 use super::limits::{LARGEST_TABLE, LENT_TABLE};
 use super::malformed::Question;
 use super::random::Random;
-use crate::layout::{whole_product, Card, Coordinates, Iter, AXES, M_AXIS, SHARD_SLOTS};
+use super::reuse::{number_of, reuse};
+use crate::layout::{whole_product, Card, Coordinates, Iter, Marks, AXES, M_AXIS, SHARD_SLOTS};
 use crate::lines::whole;
 use crate::swizzle::Swizzle;
 
@@ -16,14 +17,21 @@ type Asked = Question<'static>;
 /// All the cells that a space can have.
 const ALL: u64 = LARGEST_TABLE;
 
+/// A question about a card, under the word with a star if it has marks.
+fn about(card: &Card, [plain, starred]: [&'static str; 2], rest: &[u64]) -> Asked {
+    let numbers = [card.numbers(), whole(rest)].concat();
+    match number_of(&card.marks) {
+        0 => Question::new(plain, &numbers),
+        marks => Question::new(starred, &[whole(&[marks]), numbers].concat()),
+    }
+}
+
 fn verdict(card: &Card, length: u64) -> Asked {
-    let numbers = [card.numbers(), whole(&[length])].concat();
-    Question::new("verdict", &numbers)
+    about(card, ["verdict", "verdict*"], &[length])
 }
 
 fn owner(card: &Card, asked: &Coordinates, length: u64) -> Asked {
-    let numbers = [card.numbers(), whole(asked), whole(&[length])].concat();
-    Question::new("owner", &numbers)
+    about(card, ["owner", "owner*"], &[&asked[..], &[length]].concat())
 }
 
 fn stretch(space: &[u64; AXES], axis: u64, asked: &Coordinates, length: u64) -> Asked {
@@ -128,6 +136,64 @@ fn copies_and_faults() -> Vec<Card> {
     ]
 }
 
+/// The card with these iters marked.
+fn marked(card: Card, iters: &[usize]) -> Card {
+    let marks: Marks = std::array::from_fn(|k| iters.contains(&k));
+    Card { marks, ..card }
+}
+
+/// Cards with marked iters: five that are approved, then refused ones.
+fn reused_tiles() -> Vec<Card> {
+    let still = |extent: u64| iter(extent, 0, 7);
+    let all_on_m = |shard: &[Iter]| on_m(shard, &[], 0, ALL);
+    let steps = [iter(4, 0, 0), iter(4_096, -16, 7), iter(4, 0, 3)];
+    let late = [iter(16_384, 1, 7), still(2)];
+    vec![
+        marked(all_on_m(&[still(2), iter(32_768, 1, 7)]), &[0]),
+        marked(all_on_m(&[iter(16_384, 4, 7), still(4)]), &[1, 5]),
+        marked(all_on_m(&[still(65_536)]), &[0]),
+        marked(on_m(&steps, &[], 65_520, ALL), &[0, 2]),
+        marked(
+            on_m(
+                &[iter(1_024, 1, 7), still(64)],
+                &[iter(64, 1_024, 7)],
+                0,
+                ALL,
+            ),
+            &[1],
+        ),
+        marked(all_on_m(&[iter(65_536, 1, 7)]), &[0]),
+        marked(all_on_m(&[still(65_536), still(2)]), &[0, 1]),
+        marked(on_m(&[still(2), iter(32_768, 1, 7)], &[], 0, 32_767), &[0]),
+        marked(on_m(&late, &[iter(2, 16_383, 7)], 0, ALL), &[1]),
+        marked(all_on_m(&[still(2), still(2), iter(16_384, 1, 7)]), &[0]),
+    ]
+}
+
+/// The accumulator twice over the same cells.
+fn reused_accumulator() -> Card {
+    let shard = [
+        iter(2, 0, 6),
+        iter(2, 112, 6),
+        iter(128, 1, 5),
+        iter(112, 1, 6),
+    ];
+    marked(card_of(&shard, &[]), &[0])
+}
+
+fn reused() -> Vec<Asked> {
+    let tiles = reused_tiles();
+    let verdicts = tiles.iter().map(|card| verdict(card, ALL));
+    let owners = tiles[..5].iter().map(|card| owner(card, &[0; AXES], ALL));
+    let card = reused_accumulator();
+    let accumulator = [
+        verdict(&card, 28_672),
+        verdict(&card, 28_671),
+        owner(&card, &last(&card.space), 28_672),
+    ];
+    verdicts.chain(owners).chain(accumulator).collect()
+}
+
 /// The second copy of the first element lies where the last element does.
 fn met_late(extent: u64, axis: u64) -> Card {
     card_of(
@@ -138,7 +204,7 @@ fn met_late(extent: u64, axis: u64) -> Card {
 
 /// One way back and one way forth, of lengths that meet nowhere but at the
 /// end of both.
-fn crossing(extent: u64, axis: u64) -> Card {
+pub fn crossing(extent: u64, axis: u64) -> Card {
     let back = extent as i64 - 2;
     let mut card = card_of(
         &[iter(extent, -back, axis), iter(extent, back + 1, axis)],
@@ -182,7 +248,7 @@ pub fn by_hand() -> Vec<Asked> {
     let others = others.iter().map(|card| verdict(card, ALL));
     let questions = accumulators().into_iter().chain(enough).chain(short);
     let questions = questions.chain(owners).chain(beyond).chain(others);
-    questions.chain(stretches()).collect()
+    questions.chain(stretches()).chain(reused()).collect()
 }
 
 /// So many sizes whose product with a number lies above what the programs
@@ -277,7 +343,10 @@ pub fn question(random: &mut Random) -> Asked {
     if random.once_in(4) {
         return random_stretch(random);
     }
-    let card = card(random);
+    let mut card = card(random);
+    if random.once_in(3) {
+        reuse(random, &mut card, ALL);
+    }
     let length = lent(random, card.cells());
     if random.once_in(3) {
         let asked = random_asked(random, &card.space);
@@ -323,6 +392,32 @@ mod tests {
         all_say(&others[8..9], ALL, "8 0 32767 32767");
         all_say(&others[9..10], ALL, "8 0 32759 32220");
         all_say(&others[10..], ALL, "8 0 1 0");
+    }
+
+    #[test]
+    fn what_is_said_to_reused_tiles() {
+        let said: Vec<String> = reused().iter().map(said).collect();
+        let wanted = [
+            "0 65536 32768 65536",
+            "0 65536 16384 65536",
+            "0 65536 1 65536",
+            "0 65536 4096 65536",
+            "0 65536 65536 65536",
+            "2 0 0 0",
+            "5 0 0 0",
+            "7 32767 7 0",
+            "8 0 32766 16383",
+            "8 0 16384 0",
+            "0 1 0 0",
+            "0 1 0 0",
+            "0 1 0 0",
+            "0 16381 0 0",
+            "0 1 0 0",
+            "0 57344 28672 28672",
+            "11 28672 0 0",
+            "0 28672 0 0",
+        ];
+        assert_eq!(said, wanted);
     }
 
     #[test]

@@ -19,6 +19,9 @@ pub const COPIES: u64 = 64;
 /// The number of an axis.
 pub const AXIS: u64 = 7;
 
+/// MARKS of the words with a star.
+pub const MARKS: u64 = 255;
+
 /// The swizzle's numbers; S is not below B either.
 pub const MOST_M: u64 = 8;
 pub const MOST_B: u64 = 4;

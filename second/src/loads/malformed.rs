@@ -68,6 +68,7 @@ pub const SHORT_KINDS: &[Kind] = &[
     |_, _| Vec::new(),
     unknown_word,
     other_case,
+    other_star,
     too_few,
     too_many,
     |random, question| question.changed(random, |number| format!("0{number}")),
@@ -137,6 +138,19 @@ fn other_case(random: &mut Random, question: &Question) -> Vec<u8> {
         0 => question.under(&question.word.to_uppercase()),
         1 => question.under(&format!("{}{rest}", first.to_uppercase())),
         _ => question.under(&format!("{first}{}", rest.to_uppercase())),
+    }
+}
+
+/// The word without its star, or with one, before the numbers of the other.
+/// Only these words get one: others with a star may be questions one day.
+fn other_star(_: &mut Random, question: &Question) -> Vec<u8> {
+    let starred = format!("{}*", question.word);
+    match question.word.strip_suffix('*') {
+        Some(plain) => question.under(plain),
+        None if ["verdict*", "owner*", "place*"].contains(&&starred[..]) => {
+            question.under(&starred)
+        }
+        None => question.under("*"),
     }
 }
 

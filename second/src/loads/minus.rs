@@ -67,7 +67,8 @@ pub fn misspelt(random: &mut Random, question: &Question) -> Vec<u8> {
         return question.with(any, &negated(&question.numbers[any]));
     }
     let place = match question.numbers.len() > CARD {
-        true => random.pick(&signed_places()),
+        // MARKS stands before the card.
+        true => random.pick(&signed_places()) + usize::from(question.word.ends_with('*')),
         false => any,
     };
     question.with(place, random.pick(SPELLINGS))
@@ -102,18 +103,24 @@ mod tests {
         PLAIN.iter().map(question).collect()
     }
 
-    /// A question of each of a card's words on tile X, turned round.
-    fn card_questions() -> [Question<'static>; 3] {
+    /// A question of each of a card's words on tile X, turned round, and how
+    /// many numbers come before the card.
+    fn card_questions() -> [(Question<'static>, usize); 6] {
         let mut card = tile_x();
         turn_some(&mut Random::new(0), &mut card, 1);
-        let question = |word: &'static str, rest: &[i128]| {
-            Question::new(word, &[&card.numbers()[..], rest].concat())
+        let question = |word: &'static str, marks: &[i128], rest: &[i128]| {
+            let numbers = [marks, &card.numbers(), rest].concat();
+            (Question::new(word, &numbers), marks.len())
         };
-        let spot = [2, 8, 16, 1, 1, 1, 1, 1, 1, 2, 7, 15, 1, 1, 1, 1, 1, 1];
+        let spot = [2, 8, 16, 1, 1, 1, 1, 1, 1, 2, 7, 15, 1, 1, 1, 1, 1, 1, 2];
+        let asked = [0, 9, 31, 0, 0, 0, 0, 1, 704];
         [
-            question("verdict", &[704]),
-            question("owner", &[0, 9, 31, 0, 0, 0, 0, 1, 704]),
-            question("place", &[&spot[..], &[2]].concat()),
+            question("verdict", &[], &[704]),
+            question("owner", &[], &asked),
+            question("place", &[], &spot),
+            question("verdict*", &[1], &[704]),
+            question("owner*", &[1], &asked),
+            question("place*", &[1], &spot),
         ]
     }
 
@@ -129,10 +136,10 @@ mod tests {
                 assert!(unknown(&question.with(at, "-1")), "{} {at}", question.word);
             }
         }
-        for question in card_questions() {
+        for (question, before) in card_questions() {
             assert!(!unknown(&question.bytes()));
             for at in 0..question.numbers.len() {
-                let allowed = signed_places().contains(&at);
+                let allowed = at >= before && signed_places().contains(&(at - before));
                 let line = question.with(at, "-1");
                 assert_eq!(unknown(&line), !allowed, "{} {at}", question.word);
             }
@@ -148,7 +155,7 @@ mod tests {
 
     #[test]
     fn these_spellings_are_numbers() {
-        let [question, ..] = card_questions();
+        let [(question, _), ..] = card_questions();
         let past_the_count = |spelling: &&&str| !unknown(&question.with(23, spelling));
         let numbers: Vec<&&str> = SPELLINGS.iter().filter(past_the_count).collect();
         let wanted = [
