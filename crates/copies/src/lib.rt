@@ -174,8 +174,8 @@ fn place_copies(base: &[i64; 8], numbers: &[u64; 56], strides: &[i64; 24], row: 
     outside
 }
 
-// The offset of a packed card.
-fn offset(strides: &[i64; 24]) -> [i64; 8]
+// The offset of a packed card. Public, with a requires, for the crates above.
+pub fn offset(strides: &[i64; 24]) -> [i64; 8]
     requires { ⌜ length (now strides) ≡ 24 ⌝ }
     ensures { λ r. ⌜ r ≡ slice 16 24 (now (strides .entry)) ⌝ }
 {

@@ -16,7 +16,7 @@ use text::input::Input;
 use text::output;
 
 // Answers a question that has all its numbers.
-fn ask(word: Word, numbers: &[u64; 80], below: &[bool; 80]) -> Reply {
+fn ask(word: Word, numbers: &[u64; 80], below: &[bool; 80], lent: &mut [u32]) -> Reply {
     match word {
         Word::Swizzle => swizzles::swizzle(numbers),
         Word::Mode => swizzles::mode(numbers),
@@ -26,19 +26,19 @@ fn ask(word: Word, numbers: &[u64; 80], below: &[bool; 80]) -> Reply {
         Word::Descriptor => masks::descriptor(numbers),
         Word::Mask => masks::mask(numbers),
         Word::Place => layouts::place(numbers, below),
-        Word::Verdict => tables::verdict(numbers, below),
-        Word::Owner => tables::owner(numbers, below),
-        Word::Stretch => tables::stretch(numbers),
+        Word::Verdict => tables::verdict(numbers, below, lent),
+        Word::Owner => tables::owner(numbers, below, lent),
+        Word::Stretch => tables::stretch(numbers, lent),
         Word::Unknown => reply::unknown(),
     }
 }
 
 // Answers a line of so many bytes.
-fn answer(line: &[u8; 4096], held: usize) -> Reply {
+fn answer(line: &[u8; 4096], held: usize, lent: &mut [u32]) -> Reply {
     let mut numbers = [0u64; 80];
     let mut below = [false; 80];
     let word = words::question(line, held, &mut numbers, &mut below);
-    ask(word, &numbers, &below)
+    ask(word, &numbers, &below, lent)
 }
 
 // Writes out what is finished where the next step in the input is a read, which may wait.
@@ -50,25 +50,35 @@ fn before_waiting(out: &[u8; 65536], at: usize, input: Input) -> usize {
 }
 
 // The answer to the line once it is whole, and the next place. An empty line gets none.
-fn answer_whole(out: &mut [u8; 65536], at: usize, line: &[u8; 4096], input: Input) -> usize {
+fn answer_whole(
+    out: &mut [u8; 65536],
+    at: usize,
+    line: &[u8; 4096],
+    input: Input,
+    lent: &mut [u32],
+) -> usize {
     if input.whole & (0 < input.held) {
-        return print::put(out, at, answer(line, input.held));
+        return print::put(out, at, answer(line, input.held, lent));
     }
     at
 }
+
+// The most entries that the program lends to a table: its own limit, not the card's.
+const MOST_LENT: usize = 16384;
 
 // Answers every line of the input. A proved loop has to end, so it counts its turns down from a
 // number that no run uses up.
 fn answer_all(out: &mut [u8; 65536]) {
     let mut part = io::large_buffer();
     let mut line = io::buffer();
+    let mut lent = [0u32; MOST_LENT];
     let mut input = input::start();
     let mut at = 0;
     let mut turns = u64::MAX;
     while turns > 0 {
         at = before_waiting(out, at, input);
         input = input::advance(&mut part, &mut line, input);
-        at = answer_whole(out, at, &line, input);
+        at = answer_whole(out, at, &line, input, &mut lent);
         if input.ended {
             break;
         }

@@ -1,13 +1,11 @@
-// The words on the owner table of a card: verdict, owner, stretch.
+// The words on the owner table of a card: verdict, owner, stretch. One buffer is lent for all lines, no
+// more of it than a line asks for, so nothing is cleared; what it is long is the program's own limit.
 use crate::layouts::card;
 use lines::lent::fill;
 use lines::numbers::eight;
 use lines::places;
 use lines::reply;
 use lines::reply::Reply;
-
-// The most entries that the program lends to a table: its own limit, not the card's.
-const MOST_LENT: u64 = 16384;
 
 // The verdict that a line asks for, in entries as they are lent.
 fn ask_verdict(numbers: &[u64; 80], below: &[bool; 80], lent: &mut [u32]) -> Reply {
@@ -17,14 +15,13 @@ fn ask_verdict(numbers: &[u64; 80], below: &[bool; 80], lent: &mut [u32]) -> Rep
 }
 
 // verdict CARD length
-pub fn verdict(numbers: &[u64; 80], below: &[bool; 80]) -> Reply {
+pub fn verdict(numbers: &[u64; 80], below: &[bool; 80], lent: &mut [u32]) -> Reply {
     let asked = numbers[places::VERDICT_LENT];
-    if MOST_LENT < asked {
+    if (lent.len() as u64) < asked {
         return reply::unknown();
     }
     let length = asked as usize;
-    let mut lent = [0u32; 16384];
-    ask_verdict(numbers, below, &mut lent[0..length])
+    ask_verdict(numbers, below, &mut lent[..length])
 }
 
 // The owner that a line asks for, in entries as they are lent.
@@ -35,14 +32,13 @@ fn ask_owner(numbers: &[u64; 80], below: &[bool; 80], lent: &mut [u32]) -> Reply
 }
 
 // owner CARD eight coordinates, length
-pub fn owner(numbers: &[u64; 80], below: &[bool; 80]) -> Reply {
+pub fn owner(numbers: &[u64; 80], below: &[bool; 80], lent: &mut [u32]) -> Reply {
     let asked = numbers[places::OWNER_LENT];
-    if MOST_LENT < asked {
+    if (lent.len() as u64) < asked {
         return reply::unknown();
     }
     let length = asked as usize;
-    let mut lent = [0u32; 16384];
-    ask_owner(numbers, below, &mut lent[0..length])
+    ask_owner(numbers, below, &mut lent[..length])
 }
 
 // The answer of a stretch, and the digest of the part that is handed back.
@@ -62,12 +58,11 @@ fn ask_stretch(numbers: &[u64; 80], lent: &mut [u32]) -> Reply {
 }
 
 // stretch eight lengths, axis, eight coordinates, length
-pub fn stretch(numbers: &[u64; 80]) -> Reply {
+pub fn stretch(numbers: &[u64; 80], lent: &mut [u32]) -> Reply {
     let asked = numbers[places::STRETCH_LENT];
-    if MOST_LENT < asked {
+    if (lent.len() as u64) < asked {
         return reply::unknown();
     }
     let length = asked as usize;
-    let mut lent = [0u32; 16384];
-    ask_stretch(numbers, &mut lent[0..length])
+    ask_stretch(numbers, &mut lent[..length])
 }

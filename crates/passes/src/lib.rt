@@ -38,6 +38,18 @@ fn first_outside(numbers: &[u64; 56], strides: &[i64; 24], elements: u64, row: &
     Search::NoneOutside
 }
 
+// What lies outside the space: nothing where the card's far ends lie inside, and else the first pass
+// looks.
+fn find_outside(numbers: &[u64; 56], strides: &[i64; 24], elements: u64, row: &mut [u32]) -> Search
+    requires { ⌜ Pass (now numbers) (now strides) elements (now row) ⌝ }
+    ensures { λ r. ⌜ Finds (cardOf (now (numbers .entry)) (now (strides .entry))) r ⌝ }
+{
+    if reach::stays_inside(numbers, strides) {
+        return Search::NoneOutside;
+    }
+    first_outside(numbers, strides, elements, row)
+}
+
 // Places the copies of one element and claims their cells: how many are newly occupied, none where a
 // cell has an owner already.
 fn claim_element(
@@ -115,7 +127,7 @@ pub fn judge_passes(
     ensures { λ r. ⌜ VerdictPromise (cardOf (now (numbers .entry)) (now (strides .entry))) (now (table .entry)) (now (table .exit)) r ⌝ }
 {
     owners::clear(table);
-    let search = first_outside(numbers, strides, elements, row);
+    let search = find_outside(numbers, strides, elements, row);
     if let Search::Outside { flat, axis } = search {
         return Verdict::Refused(Refusal::CopyOutside { flat, axis });
     }

@@ -95,7 +95,7 @@ unmarked-below (true ∷ marks) (n ∷ ns) (x ∷ xs) = let rest = unmarked-belo
 unmarked-below (false ∷ marks) (n ∷ ns) (x ∷ xs) = let rest = unmarked-below marks ns xs in omega arith
 
 -- the components of a row-major number are its coordinates
-components-back : (ns xs : List ℕ) → inside ns xs ≡ true → components ns (rowMajor ns xs) ≡ xs
+pub components-back : (ns xs : List ℕ) → inside ns xs ≡ true → components ns (rowMajor ns xs) ≡ xs
 components-back ns xs e =
     let below = row-major-below ns xs e in
     row-major-one-to-one ns (components ns (rowMajor ns xs)) xs (components-inside ns (rowMajor ns xs) (omega arith)) e

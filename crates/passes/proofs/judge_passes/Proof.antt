@@ -14,7 +14,7 @@ use Rattle.passes.proofs.judge_passes.Tie as tie
 abbrev start : tie.After-clear → tie.Start
 start k = k .before .before .before .before
 
-abbrev clearing : tie.After-first-outside → tie.After-clear
+abbrev clearing : tie.After-find-outside → tie.After-clear
 clearing p = p .before .before .before .before
 
 abbrev card : tie.Start → Card
@@ -31,7 +31,7 @@ returns c =
     let p = c .before .before .before .before .before in
     let k = clearing p in
     let s = start k in
-    let first = rw (c .before .search .given .1) at (p .first-outside .ensures) in
+    let first = rw (c .before .search .given .1) at (p .find-outside .ensures) in
     outside-promise (card s) (s .args .table .now) (s .pre .0 .admitted) (s .pre .1) _ _ first (is-cleared k)
 
 claim-all-requires : tie.Need-claim-all-requires
@@ -43,9 +43,9 @@ claim-all-requires c κs =
         whole = s .pre .0 .whole;
         admitted = s .pre .0 .admitted;
         all-elements = s .pre .0 .all-elements;
-        one-each = p .first-outside .kept .1 .1 .1 .0 ∙ s .pre .0 .one-each;
+        one-each = p .find-outside .kept .1 .1 .1 .0 ∙ s .pre .0 .one-each;
       },
-      (rw (c .before .before .enum-told .given .1) at (p .first-outside .ensures), is-cleared k),
+      (rw (c .before .before .enum-told .given .1) at (p .find-outside .ensures), is-cleared k),
     )
 
 returns-2 : tie.Need-returns-2

@@ -1,0 +1,3 @@
+pub mod Ends
+pub mod Stays
+pub mod Contracts
