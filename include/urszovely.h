@@ -8,7 +8,7 @@
  *
  * A card is 57 numbers: the shard count; eight times extent, stride, axis; the replica count; four times extent, stride, axis;
  * eight offsets and eight lengths, pid to m; M, B, S. Strides and offsets are in two's complement: (uint64_t)(int64_t)-1. Bit k of `marks`
- * is the reuse mark of shard iter k, whose stride is then 0; bits past the count are ignored. */
+ * is the reuse mark of shard iter k, whose stride must then be 0, else 2; bits past the count are ignored. */
 #ifndef URSZOVELY_H
 #define URSZOVELY_H
 
@@ -30,7 +30,7 @@ enum urszovely_refusal {
     URSZOVELY_TOO_MANY = 5,    /* too many elements or copies */
     URSZOVELY_SWIZZLE = 6,     /* swizzle numbers, bits or mode not allowed */
     URSZOVELY_OUTSIDE = 7,     /* a copy lies outside the space: flat, axis */
-    URSZOVELY_SHARED = 8,      /* two elements share a cell: x, y, cell */
+    URSZOVELY_SHARED = 8,      /* two elements that are not one share a cell: x, y, cell */
     URSZOVELY_SHAPE = 9,       /* shape not admitted */
     URSZOVELY_COORDINATE = 10, /* a coordinate outside its dimension */
     URSZOVELY_TOO_SHORT = 11,  /* lent memory too short: the length needed */

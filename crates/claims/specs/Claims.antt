@@ -5,8 +5,8 @@ use mathlib.Core.List.{List, [], _∷_}
 use Prim.Native.Nat.{ℕ, zero, suc, _+_, _≤_, _<_}
 use lib.ListN.{length, getD}
 
--- a layout: copy r of element f goes to cell `at f r`, for each r below the element's copies; an element that is one with a smaller one has no
--- copies of its own
+-- a layout: copy r of element f goes to cell `at f r`, for each r below the element's own copies, of which it may have none: an element that is one
+-- with a smaller one is given none
 pub record Layout : Type 0 where
   pub copies : ℕ → ℕ
   pub at : ℕ → ℕ → ℕ

@@ -14,7 +14,7 @@ use Rattle.card.specs.declared.Admission.the-variants.{Admitted}
 use Rattle.rules.specs.declared.Spot.the-variants.{Inside, Outside}
 use Rattle.idle.specs.Admission.{fullAdmission}
 use Rattle.idle.proofs.Theorems.{admitted-exactly, AfterAdmission, after-admission, checks-passed}
-use Rattle.claims.specs.Claims.{occupied, FirstClash}
+use Rattle.claims.specs.Claims.{occupied}
 use Rattle.claims.proofs.Theorems.{owners-none-share}
 use Rattle.judgement.specs.Judgement.{placed, AllInside, FirstOutside, Judgement, NotAdmitted, NoRoom, OutsideAt, Clashing, Passed, ComesTo}
 use Rattle.judgement.specs.Verdict.{verdictOf, VerdictPromise, askedSpot, OwnerJudgement, NoCell, ByVerdict, OwnerComesTo, readEntry, ownerOf, OwnerPromise, verdictNumbers, ownerNumbers}
@@ -24,7 +24,7 @@ use Rattle.judgement.specs.declared.Verdict.the-variants.{Approved, Refu
 use Rattle.judgement.specs.declared.Owner.{Owner}
 use Rattle.judgement.proofs.Unique.{not-both, judgement-unique, owner-judgement-unique}
 use Rattle.judgement.proofs.Run.{judge-comes}
-use Rattle.judgement.proofs.Theorems.{OneClassACell, one-class-exactly, demand-3, owner-by-verdict}
+use Rattle.judgement.proofs.Theorems.{OneClassACell, one-class-exactly, FirstShared, first-shared, clash-exactly, demand-3, owner-by-verdict}
 
 -- the numbers of a question that judges a card in a table of so many entries, after 1 to 6 and 17
 pub record InNumbers (card : Card) (room : ℕ) (n approved : Numbers) : Type 0 where
@@ -33,7 +33,7 @@ pub record InNumbers (card : Card) (room : ℕ) (n approved : Numbers) : Type 0 
   -- 7 with the smallest flat of which a copy lies outside, and the smallest axis for it
   pub outside : cells card ≤ room → (flat axis : ℕ) → FirstOutside card flat axis → AfterAdmission card n (answer 7 flat axis 0)
   -- 8 with x, y and the cell
-  pub shared : cells card ≤ room → AllInside card → (x y cell : ℕ) → FirstClash (placed card) (elements card) x y cell
+  pub shared : cells card ≤ room → AllInside card → (x y cell : ℕ) → FirstShared card x y cell
       → AfterAdmission card n (answer 8 x y cell)
   -- and 0
   pub passed : cells card ≤ room → AllInside card → OneClassACell card → AfterAdmission card n approved
@@ -44,7 +44,7 @@ Stands card room =
     (room < cells card)
     ⊎ ((cells card ≤ room)
     × (((flat : ℕ) × (axis : ℕ) × FirstOutside card flat axis)
-    ⊎ (AllInside card × (((x : ℕ) × (y : ℕ) × (cell : ℕ) × FirstClash (placed card) (elements card) x y cell) ⊎ OneClassACell card))))
+    ⊎ (AllInside card × (((x : ℕ) × (y : ℕ) × (cell : ℕ) × FirstShared card x y cell) ⊎ OneClassACell card))))
 
 pub one-is-so : (card : Card) (room : ℕ) → fullAdmission card ≡ Admitted → Stands card room
 one-is-so card room e = go (judge card room) (judge-comes card room)
@@ -53,7 +53,7 @@ one-is-so card room e = go (judge card room) (judge-comes card room)
     go (NotAdmitted r) h = absurd (not-both card h e)
     go NoRoom h = inl (h .1)
     go (OutsideAt flat axis) h = inr (h .0 .enough, inl (flat, axis, h .1))
-    go (Clashing x y cell) h = inr (h .0 .enough, inr (h .1, inl (x, y, cell, h .2)))
+    go (Clashing x y cell) h = inr (h .0 .enough, inr (h .1, inl (x, y, cell, first-shared card (checks-passed card e) x y cell (h .1) (h .2))))
     go (Passed owners n) h =
         inr (h .0 .enough, inr (h .1, inr (one-class-exactly card (checks-passed card e) (h .1) .1 (owners-none-share (placed card) (elements card) owners (h .2 .owners)))))
 
@@ -71,7 +71,7 @@ module _ (card : Card) (before after : List ℕ) (v : Verdict) (p : VerdictPromi
         short = λ few. by _ (λ e. is NoRoom (e, few) ∙ refused _);
         outside = λ room flat axis first. by _ (λ e. is (OutsideAt flat axis) (record { admitted = e; enough = room }, first) ∙ refused _);
         shared = λ room inside x y cell first.
-            by _ (λ e. is (Clashing x y cell) (record { admitted = e; enough = room }, inside, first) ∙ refused _);
+            by _ (λ e. is (Clashing x y cell) (record { admitted = e; enough = room }, inside, clash-exactly card (checks-passed card e) x y cell inside first) ∙ refused _);
         passed = λ room inside one.
             by _ (λ e.
             let free = admitted-exactly card .0 e in

@@ -320,6 +320,65 @@ module _ (card : Card) (admitted : admission card ≡ Admitted) (x y cell : ℕ)
         k .smallest-cell c (rw (x-leads, y-leads) at (led-share x y c x-below (k .element) s));
   }
 
+-- and the first over all elements is the first clash of the leaders
+module _ (card : Card) (admitted : admission card ≡ Admitted) (x y cell : ℕ) (inside : AllInside card) (k : FirstShared card x y cell) where
+  below-x : x < elements card
+  below-x = omega (arith, k .ordered, k .element)
+
+  -- two leaders that are one are the same
+  leaders-same : (a b : ℕ) → leader card a ≡ a → leader card b ≡ b → AreOne card a b → a ≡ b
+  leaders-same a b la lb one = sym la ∙ same-leader card a b one ∙ lb
+
+  moved : (a b c : ℕ) → a < elements card → b < elements card → ShareCell card a b c → ShareCell card (leader card a) (leader card b) c
+  moved a b c ha hb s = record {
+    one = one-copy card admitted a (leader card a) c (sym (leader-one card a ha)) (s .one);
+    other = one-copy card admitted b (leader card b) c (sym (leader-one card b hb)) (s .other);
+    not-one = λ one. s .not-one (sym (leader-one card a ha) ∙ one ∙ leader-one card b hb);
+  }
+
+  turned : (a b c : ℕ) → ShareCell card a b c → ShareCell card b a c
+  turned a b c s = record { one = s .other; other = s .one; not-one = λ one. s .not-one (sym one) }
+
+  leads-y : leader card y ≡ y
+  leads-y =
+      let s = moved x y cell below-x (k .element) (k .shared) in
+      let lx = leader-least card x below-x in
+      let ly = leader-least card y (k .element) in
+      ⊎-elim
+      (λ (h : leader card x ≤ leader card y).
+      let apart : leader card x ≡ leader card y → ⊥ = λ e. s .not-one (ap (ownComponents card) e) in
+      le-antisymm ly (k .smallest-y (leader card x) (leader card y) cell (omega (arith, apart)) (leader-element card y (k .element)) s))
+      (λ (h : leader card y < leader card x).
+      absurd (omega (arith, k .ordered, k .smallest-y (leader card y) (leader card x) cell h (leader-element card x below-x) (turned _ _ cell s))))
+      (le-or-lt (leader card x) (leader card y))
+
+  leads-x : leader card x ≡ x
+  leads-x =
+      let s = rw leads-y at (moved x y cell below-x (k .element) (k .shared)) in
+      le-antisymm (leader-least card x below-x) (k .smallest-x (leader card x) cell (leader-element card x below-x) s)
+
+  -- what two different leaders claim together they share
+  claimed-share : (a b c : ℕ) → a < elements card → b < elements card → (a ≡ b → ⊥) → Share (placed card) a b c → ShareCell card a b c
+  claimed-share a b c ha hb apart s = record {
+    one = claims-copy card inside a c ha (s .one);
+    other = claims-copy card inside b c hb (s .other);
+    not-one = λ one. apart (leaders-same a b (claims-leads card a c (s .one)) (claims-leads card b c (s .other)) one);
+  }
+
+  pub clash-exactly : FirstClash (placed card) (elements card) x y cell
+  clash-exactly = record {
+    element = k .element;
+    ordered = k .ordered;
+    shared = record { one = copy-claims card x cell leads-x (k .shared .one); other = copy-claims card y cell leads-y (k .shared .other) };
+    smallest-y = λ a b c less hb s.
+        k .smallest-y a b c less hb (claimed-share a b c (omega arith) hb (λ e. omega arith) s);
+    smallest-x = λ a c s.
+        ⊎-elim (λ (h : y ≤ a). omega (arith, k .ordered))
+        (λ (h : a < y). k .smallest-x a c (omega (arith, k .element)) (claimed-share a y c (omega (arith, k .element)) (k .element) (λ e. omega arith) s))
+        (le-or-lt y a);
+    smallest-cell = λ c s. k .smallest-cell c (claimed-share x y c below-x (k .element) (λ e. omega (arith, k .ordered)) s);
+  }
+
 -- an approval comes of a judgement that all is passed
 pub approved-passed : (card : Card) (before after : List ℕ) (verdict : Verdict) → VerdictPromise card before after verdict → IsApproval verdict
     → (owners : List ℕ) × (n : ℕ) × ComesTo card (length before) (Passed owners n) × (verdict ≡ Approved (elements card) n (cells card))

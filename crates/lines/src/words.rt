@@ -185,7 +185,8 @@ fn asked_with_marks(
     asked(word, count - 1, below)
 }
 
-// What a line of so many bytes asks: a word with all its numbers, which are kept in their order.
+// What a line of so many bytes asks: a word with all its numbers, which are kept in
+// their order, the marks of a star set apart behind them.
 pub fn question(
     line: &[u8; 4096],
     held: usize,

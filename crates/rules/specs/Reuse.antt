@@ -27,7 +27,7 @@ ownComponents card flat = unmarked 0 (marksOf card) (components (extents card) f
 abbrev pub AreOne : Card → ℕ → ℕ → Type 0
 AreOne card x y = ownComponents card x ≡ ownComponents card y
 
--- the element that leads: the one with these components, so the smallest of those that are one with it
+-- the element that leads: the one whose components are the own ones; it is the smallest of those that are one with it (leader-smallest)
 unfoldable pub leader : Card → ℕ → ℕ
 leader card flat = rowMajor (extents card) (ownComponents card flat)
 

@@ -47,7 +47,7 @@ swizzledM w sums = set sums lastAxis (swizzledZ w (getD sums lastAxis (pos 0)))
 abbrev pub finished : Card → ℕ → ℕ → List ℤ
 finished card flat combination = swizzledM (card .swizzle) (map (sum card flat combination) axes)
 
--- a coordinate below zero lies outside the space on its own axis: it counts as one past the largest length
+-- a coordinate below zero lies outside the space on its own axis: it counts as the largest length, which no coordinate inside reaches
 abbrev pub onAxis : ℤ → ℕ
 onAxis (pos n) = n
 onAxis (negsuc n) = mostLength
