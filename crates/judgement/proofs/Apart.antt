@@ -2,9 +2,8 @@
 use mathlib.Core.Path.{_≡_, sym, ap, _∙_}
 use mathlib.Core.List.{List}
 use Prim.Native.Nat.{ℕ, _*_, _<_}
-use native.Mathlib.Decide.{ℕ-discrete}
 use native.Mathlib.Omega.{arith}
-use borrow.Author.Tests.{eq-eqb, ne-eqb}
+use borrow.Author.Tests.{eq-eqb}
 use lib.ListN.{length}
 use Rattle.laws.proofs.Rungs.{apart}
 use Rattle.card.specs.Card.{elements, copies}
@@ -24,7 +23,7 @@ use Rattle.judgement.specs.Judgement.{placed, AllInside}
 use Rattle.judgement.specs.Verdict.{VerdictPromise, verdictNumbers}
 use Rattle.judgement.specs.declared.Verdict.{Verdict}
 use Rattle.judgement.specs.declared.Verdict.the-variants.{Approved}
-use Rattle.judgement.proofs.Run.{lies-inside, few-copies}
+use Rattle.judgement.proofs.Run.{lies-inside, few-copies, some-leads}
 use Rattle.judgement.proofs.Theorems.{approved-passed}
 
 module _ (card : Card) (eight : length (card .lengths) ≡ 8) where
@@ -42,13 +41,9 @@ module _ (card : Card) (eight : length (card .lengths) ≡ 8) where
   led some = record {
     element = λ k h. leader-at-element card some k h;
     own = λ k h. rw (eq-eqb (leader card (leaderAt card some k)) (leaderAt card some k) (leader-at-leads card some k h));
-    found = λ f h own. leader-at-found card some f h (owns f own);
+    found = λ f h own. leader-at-found card some f h (some-leads card f own);
     once = leader-at-once card some;
   }
-    where
-      owns : (f : ℕ) → 0 < placed card .copies f → leader card f ≡ f
-      owns f own =
-          elim (ℕ-discrete (leader card f) f) [ yes e ↦ e | no n ↦ absurd (omega (arith, rw (ne-eqb (leader card f) f n) at own)) ]
 
   pub approved-occupies : (before after : List ℕ) (n occupied m : ℕ) → VerdictPromise card before after (Approved n occupied m)
       → occupied ≡ classes card * copies card

@@ -51,6 +51,14 @@ few-copies card f =
       | no n ↦ rw (ne-eqb (leader card f) f n) (omega arith)
     ]
 
+-- and one that has some leads
+pub some-leads : (card : Card) (f : ℕ) → 0 < placed card .copies f → leader card f ≡ f
+some-leads card f own =
+    elim (ℕ-discrete (leader card f) f) [
+      | yes e ↦ e
+      | no n ↦ absurd (omega (arith, rw (ne-eqb (leader card f) f n) at own))
+    ]
+
 -- where every copy lies inside, the cells of all copies are cells of the space
 pub all-within : (card : Card) → AllInside card → Within (placed card) (elements card) (cells card)
 all-within card inside f r h k =

@@ -4,9 +4,8 @@ use mathlib.Core.Logic.{_↔_, ⊎-elim}
 use mathlib.Core.List.{List, _++_}
 use Prim.Native.Nat.{ℕ, _+_, _≤_, _<_}
 use native.Mathlib.Nat.{le-antisymm}
-use native.Mathlib.Decide.{ℕ-discrete}
 use native.Mathlib.Omega.{arith}
-use borrow.Author.Tests.{eq-eqb, ne-eqb}
+use borrow.Author.Tests.{eq-eqb}
 use lib.ListN.{length, getD, take, drop, List·getD-append}
 use lib.Seq.{take-at}
 use Rattle.answers.specs.declared.Cell.{Cell}
@@ -37,7 +36,7 @@ use Rattle.judgement.specs.declared.Verdict.the-variants.{Approved, Refu
 use Rattle.judgement.specs.declared.Owner.{Owner}
 use Rattle.judgement.specs.declared.Owner.the-variants.{Entry, Refused as NoOwner}
 use Rattle.judgement.proofs.Unique.{not-both, inside-not-outside, judgement-unique, owner-judgement-unique}
-use Rattle.judgement.proofs.Run.{lies-inside}
+use Rattle.judgement.proofs.Run.{lies-inside, some-leads}
 
 -- two outcomes that the promise of the verdict allows are equal
 pub verdict-settled : (card : Card) (before a b : List ℕ) (v w : Verdict) → VerdictPromise card before a v → VerdictPromise card before b w
@@ -96,11 +95,7 @@ module _ (card : Card) (f : ℕ) where
   own-copies e = rw (eq-eqb (leader card f) f e)
 
   pub claims-leads : (c : ℕ) → Claims (placed card) f c → leader card f ≡ f
-  claims-leads c k =
-      elim (ℕ-discrete (leader card f) f) [
-        | yes e ↦ e
-        | no n ↦ absurd (omega (arith, rw (ne-eqb (leader card f) f n) at (k .below)))
-      ]
+  claims-leads c k = some-leads card f (omega (arith, k .below))
 
   pub claimed-below : (c : ℕ) (k : Claims (placed card) f c) → k .copy < copies card
   claimed-below c k = omega (arith, own-copies (claims-leads c k), k .below)

@@ -1,14 +1,13 @@
 -- Zero-column masks: which sizes there are, the answer, and what is left in the lent memory.
-use mathlib.Core.Bool.{Bool, true, false, cond, not, _&&_, _||_}
-use mathlib.Core.List.{List, [], _∷_, _++_}
-use Prim.Native.Nat.{ℕ, zero, suc, _+_, _*_, _/_, _%_}
+use mathlib.Core.Bool.{Bool, cond, not, _&&_}
+use mathlib.Core.List.{List, [], _++_}
+use Prim.Native.Nat.{ℕ, zero, _+_, _/_, _%_}
 use lib.Dec.{leb, ltb, eqb}
-use lib.ListN.{getD, drop}
+use lib.ListN.{drop}
 use Rattle.answers.specs.Refusals.{answer, refusalNumbers}
 use Rattle.answers.specs.declared.Numbers.{Numbers}
 use Rattle.answers.specs.declared.Refusal.the-variants.{TooShort, MaskSize, Reserved, Shift}
 use Rattle.descriptor.specs.Descriptor.{fieldsOf, reserved, maskM}
-use Rattle.descriptor.specs.declared.Fields.{Fields}
 use Rattle.pattern.specs.Pattern.{column, bytes, zeroed, firstUsed}
 use Rattle.mask.specs.declared.Generated.{Generated}
 use Rattle.mask.specs.declared.Generated.the-variants.{Mask, Refused}

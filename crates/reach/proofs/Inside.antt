@@ -1,6 +1,6 @@
 -- A card whose far ends lie inside lies inside: every coordinate is from 0 to below its length, and on m the swizzle keeps the block of each address.
-use mathlib.Core.Path.{_≡_, refl, sym, ap, _∙_, subst}
-use mathlib.Core.Bool.{Bool, true, false, cond}
+use mathlib.Core.Path.{_≡_, refl, sym, ap, _∙_}
+use mathlib.Core.Bool.{Bool, true, false}
 use mathlib.Core.List.{List, map}
 use Prim.Native.Nat.{ℕ, _+_, _*_, _/_, _^_, _≤_, _<_}
 use native.Mathlib.Nat.{div-lt-iff-lt-mul, div-add-mod'}
@@ -8,50 +8,43 @@ use lib.Pow.{pow-pos}
 use native.Mathlib.Decide.{ℕ-discrete}
 use native.Mathlib.Omega.{arith}
 use lib.IntN.{ℤ, pos, negsuc, _+ℤ_}
-use lib.ListN.{length, getD, length-map, List·getD-map}
+use lib.ListN.{length, getD, List·getD-map}
 use lib.Signed.{_≤ℤ_, _<ℤ_}
 use Rattle.swizzle.specs.Swizzle.{swizzled}
 use Rattle.swizzle.proofs.Laws.{swizzled-block}
 use Rattle.card.specs.Limits.{lastAxis}
-use Rattle.card.specs.Card.{listed, extentOf, elements, copies}
+use Rattle.card.specs.Card.{elements, copies}
 use Rattle.card.specs.Admission.{admission}
 use Rattle.card.specs.declared.Card.{Card}
 use Rattle.card.specs.declared.Admission.the-variants.{Admitted}
-use Rattle.card.proofs.Admitted.{checked, numbered, fitting}
+use Rattle.card.proofs.Admitted.{checked, Numbered, numbered, fitting}
 use Rattle.rules.specs.RowMajor.{inside, firstPast, position}
-use Rattle.rules.specs.Rules.{axes, part, sum, swizzledZ, finished, onAxis, coordinates, spotAt, spot}
+use Rattle.rules.specs.Rules.{sum, swizzledZ, finished, onAxis, coordinates, spot}
 use Rattle.rules.proofs.RowMajor.{first-past}
 use Rattle.rules.proofs.Theorems.{coordinate-at}
 use Rattle.judgement.specs.Judgement.{LiesInside, AllInside}
-use Rattle.reach.specs.Ends.{endIndex, endSum, wholeBlocks}
+use Rattle.reach.specs.Ends.{endSum, wholeBlocks}
 use Rattle.reach.specs.Stays.{Stays}
-use Rattle.reach.proofs.Parts.{up, down, parts-sum, whole}
+use Rattle.reach.proofs.Parts.{parts-sum, whole}
 use Rattle.reach.proofs.Reach.{part-most, part-least}
 
+-- the two parts of a sum further up, the sum further up
+sum-le : (a b c d offset : ℤ) → a ≤ℤ c → b ≤ℤ d → (a +ℤ offset +ℤ b) ≤ℤ (c +ℤ offset +ℤ d)
+sum-le a b c d offset s t = omega (whole, parts-sum a offset, parts-sum (a +ℤ offset) b, parts-sum c offset, parts-sum (c +ℤ offset) d)
+
 module _ (card : Card) (admitted : admission card ≡ Admitted) (f r : ℕ) (hf : f < elements card) (hr : r < copies card) (axis : ℕ) where
+  fits : Numbered card
+  fits = numbered card (checked card admitted .numbers)
+
   sum-most : sum card f r axis ≤ℤ endSum true card axis
   sum-most =
-      let n = numbered card (checked card admitted .numbers) in
-      let offset = getD (card .offset) axis (pos 0) in
-      let a = part (card .shard) f axis in
-      let b = part (card .replica) r axis in
-      let c = part (card .shard) (endIndex true (card .shard)) axis in
-      let d = part (card .replica) (endIndex true (card .replica)) axis in
-      let s : a ≤ℤ c = part-most (card .shard) (fitting (card .shard) (n .shard) .extents) f axis hf in
-      let t : b ≤ℤ d = part-most (card .replica) (fitting (card .replica) (n .replica) .extents) r axis hr in
-      omega (whole, parts-sum a offset, parts-sum (a +ℤ offset) b, parts-sum c offset, parts-sum (c +ℤ offset) d)
+      sum-le _ _ _ _ (getD (card .offset) axis (pos 0)) (part-most (card .shard) (fitting (card .shard) (fits .shard) .extents) f axis hf)
+      (part-most (card .replica) (fitting (card .replica) (fits .replica) .extents) r axis hr)
 
   sum-least : endSum false card axis ≤ℤ sum card f r axis
   sum-least =
-      let n = numbered card (checked card admitted .numbers) in
-      let offset = getD (card .offset) axis (pos 0) in
-      let a = part (card .shard) f axis in
-      let b = part (card .replica) r axis in
-      let c = part (card .shard) (endIndex false (card .shard)) axis in
-      let d = part (card .replica) (endIndex false (card .replica)) axis in
-      let s : c ≤ℤ a = part-least (card .shard) (fitting (card .shard) (n .shard) .extents) f axis hf in
-      let t : d ≤ℤ b = part-least (card .replica) (fitting (card .replica) (n .replica) .extents) r axis hr in
-      omega (whole, parts-sum a offset, parts-sum (a +ℤ offset) b, parts-sum c offset, parts-sum (c +ℤ offset) d)
+      sum-le _ _ _ _ (getD (card .offset) axis (pos 0)) (part-least (card .shard) (fitting (card .shard) (fits .shard) .extents) f axis hf)
+      (part-least (card .replica) (fitting (card .replica) (fits .replica) .extents) r axis hr)
 
 -- between 0 and a bound a sum is a coordinate below it
 coordinate-below : (z : ℤ) (n : ℕ) → pos 0 ≤ℤ z → z <ℤ pos n → onAxis z < n

@@ -1,15 +1,14 @@
 -- The far ends of a packed card: what the functions find there, in the words of the card.
-use mathlib.Core.Path.{_≡_, sym, ap, _∙_, subst}
+use mathlib.Core.Path.{_≡_, sym}
 use mathlib.Core.Bool.{true, false, and-eq-true-iff}
 use mathlib.Core.List.{List}
-use Prim.Native.Nat.{ℕ, _+_, _^_, _≤_, _<_}
+use Prim.Native.Nat.{ℕ, _+_, _≤_, _<_}
 use native.Mathlib.Decide.{ℕ-discrete}
 use native.Mathlib.Omega.{arith}
 use lib.Dec.{leb}
-use lib.IntN.{ℤ, pos}
+use lib.IntN.{ℤ}
 use lib.ListN.{getD}
 use lib.Seq.{slice}
-use lib.Signed.{_≤ℤ_, _<ℤ_}
 use Rattle.swizzle.proofs.Laws.{permitted-numbers}
 use Rattle.card.specs.Lists.{all, within, product}
 use Rattle.card.specs.Limits.{lastAxis, mostLength, mostCells}
@@ -18,7 +17,6 @@ use Rattle.card.specs.declared.Card.{Card}
 use Rattle.card.proofs.Lists.{all-at, within-numbers}
 use Rattle.card.proofs.Admitted.{Checked, checked}
 use Rattle.card.proofs.ReadBack.{slice-at, eight-lengths}
-use Rattle.reach.specs.Ends.{endSum, wholeBlocks}
 use Rattle.reach.specs.Stays.{Stays}
 use Rattle.reach.specs.Contracts.{EndSums, Between, Spaced}
 

@@ -1,29 +1,27 @@
 -- Nothing lies beyond the far ends: a component times its stride is no further than at the end where it is largest or 0, and so are the sums; so a card whose far
 -- ends lie inside lies inside.
-use mathlib.Core.Path.{_≡_, refl, sym, ap, ap₂, _∙_, subst}
+use mathlib.Core.Path.{_≡_, refl, sym, ap}
 use mathlib.Core.Bool.{Bool, true, false, cond, and-eq-true-iff, true≢false}
 use mathlib.Core.List.{List, [], _∷_, map}
-use Prim.Native.Nat.{ℕ, zero, suc, _+_, _*_, _-_, _/_, _%_, _^_, _≤_, _<_}
-use native.Mathlib.Nat.{mul-le-mul-left, mul-le-mul-right}
+use Prim.Native.Nat.{ℕ, suc, _+_, _*_, _-_, _≤_, _<_}
+use native.Mathlib.Nat.{mul-le-mul-right}
 use native.Mathlib.Omega.{arith}
 use borrow.Author.Tests.{lt-ltb, le-leb}
 use lib.Dec.{eqb, ltb}
 use lib.IntN.{ℤ, pos, negsuc, _+ℤ_, _*ℤ_}
-use lib.ListN.{length, getD}
-use lib.Signed.{_≤ℤ_, _<ℤ_, leZ, ≤ℤ-refl}
+use lib.Signed.{_≤ℤ_, leZ, ≤ℤ-refl}
 use Rattle.card.specs.Lists.{all, within, product}
 use Rattle.card.specs.Limits.{mostExtent}
-use Rattle.card.specs.Card.{listed, extentOf, elements, copies}
+use Rattle.card.specs.Card.{listed, extentOf}
 use Rattle.card.specs.declared.Iter.{Iter}
 use Rattle.card.specs.declared.Iters.{Iters}
-use Rattle.card.specs.declared.Card.{Card}
 use Rattle.card.proofs.Lists.{within-numbers}
-use Rattle.rules.specs.RowMajor.{rowMajor, components, inside}
-use Rattle.rules.specs.Rules.{added, part, sum}
+use Rattle.rules.specs.RowMajor.{components, inside}
+use Rattle.rules.specs.Rules.{added, part}
 use Rattle.rules.proofs.RowMajor.{inside-parts, components-inside}
 use Rattle.rules.proofs.Reuse.{components-back}
-use Rattle.reach.specs.Ends.{farEnd, ends, endIndex, endSum}
-use Rattle.reach.proofs.Parts.{up, down, parts-sum, parts-times, whole}
+use Rattle.reach.specs.Ends.{farEnd, ends, endIndex}
+use Rattle.reach.proofs.Parts.{parts-sum, parts-times, whole}
 
 -- one component
 times-most : (c : ℕ) (iter : Iter) → c < iter .extent → (pos c *ℤ iter .stride) ≤ℤ (pos (farEnd true iter) *ℤ iter .stride)

@@ -1,10 +1,8 @@
 -- The far ends of a card: the components that move every axis furthest up, or furthest down. Nothing here has to be believed.
-use Prim.Native.Nat.{ℕ, _+_, _*_, _-_, _/_, _%_}
-use mathlib.Core.Path.{_≡_}
-use mathlib.Core.Bool.{Bool, true, false, cond}
+use Prim.Native.Nat.{ℕ, _*_, _-_, _/_}
+use mathlib.Core.Bool.{Bool, cond}
 use mathlib.Core.List.{List, map}
 use lib.IntN.{ℤ, pos}
-use lib.ListN.{getD}
 use lib.Signed.{leZ}
 use Rattle.card.specs.Card.{listed, extentOf}
 use Rattle.card.specs.declared.Iter.{Iter}

@@ -1,11 +1,10 @@
 -- One walk over the shard's iters, from the last: what is left of the flat index is the quotient by the extents passed, and no marked component passed is more
 -- than 0.
-use mathlib.Core.Path.{_≡_, refl, sym, ap, _∙_, subst}
-use mathlib.Core.Bool.{Bool, true, false, not}
-use mathlib.Core.List.{List, [], _∷_, map}
-use Prim.Native.Nat.{ℕ, suc, _+_, _*_, _/_, _%_, _≤_, _<_}
+use mathlib.Core.Path.{_≡_, sym, ap, _∙_, subst}
+use mathlib.Core.Bool.{true, false}
+use mathlib.Core.List.{List, []}
+use Prim.Native.Nat.{ℕ, suc, _*_, _/_, _%_, _≤_, _<_}
 use native.Mathlib.Nat.{div-div-eq-div-mul, mul-comm, div-one, zero-add, eq-or-lt-of-le}
-use native.Mathlib.Numerals.{add-one}
 use native.Mathlib.Omega.{arith}
 use mathlib.Core.Logic.{_⊎_, ⊎-elim}
 use lib.IntN.{ℤ}
@@ -13,7 +12,7 @@ use lib.ListN.{length, getD, take, drop, length-take, drop-of-length-le}
 use lib.Seq.{slice, drop-cons, getD-take}
 use Rattle.card.specs.Lists.{all, within, product}
 use Rattle.card.specs.Limits.{mostExtent}
-use Rattle.card.specs.Card.{marksOf, elements}
+use Rattle.card.specs.Card.{elements}
 use Rattle.card.specs.Packed.{markAt, cardOf, ListOf}
 use Rattle.card.proofs.Lists.{all-at, within-numbers}
 use Rattle.card.proofs.ReadBack.{extents-part}

@@ -1,5 +1,5 @@
 -- The cards of the test sheet: each list of iters is eight long, with zeros past its count, as a card has it.
-use Prim.Native.Nat.{ℕ, _*_, _-_}
+use Prim.Native.Nat.{ℕ, _-_}
 use mathlib.Core.Bool.{Bool, false}
 use mathlib.Core.List.{List, [], _∷_, _++_, map}
 use lib.IntN.{ℤ, pos, negℤ}
@@ -148,9 +148,9 @@ marked marks card =
       swizzle = card .swizzle;
     }
 
--- 004's scale factors used twice, an iter of stride 0 before them: so many rows, 32 of them as 004 has it
-abbrev pub reusedFactors : ℕ → Card
-reusedFactors rows = inTensorMemory (2 by 0 on TCol ∷ rows by 1 on TLane ∷ 4 by 1 on TCol ∷ []) (4 by rows on TLane ∷ []) (4 * rows) 4
+-- 004's scale factors used twice: an iter of stride 0 before them
+abbrev pub reusedFactors : Card
+reusedFactors = inTensorMemory (2 by 0 on TCol ∷ 32 by 1 on TLane ∷ 4 by 1 on TCol ∷ []) (4 by 32 on TLane ∷ []) 128 4
 
 -- three cells, each with four elements, and copies further on
 abbrev pub fourEach : ℕ → ℕ → Card

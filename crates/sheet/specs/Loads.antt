@@ -173,10 +173,10 @@ loads =
     ∷ (verdict (atM (pos 65536) 65 unswizzled) (table 65) is reply (answer 2 0 0 0) [])
     -- reuse marks (document 02): scale factors used twice are refused without the mark and approved with it; the owner is the smallest of its class;
     -- a follower is placed with its leader
-    ∷ (verdict (reusedFactors 8) (table 128) is reply (answer 8 0 32 0) [])
-    ∷ (verdict (marked (true ∷ []) (reusedFactors 8)) (table 128) is reply (answer 0 64 128 128) [])
-    ∷ (owner (marked (true ∷ []) (reusedFactors 4)) (0 ∷ 0 ∷ 0 ∷ 0 ∷ 0 ∷ 5 ∷ 2 ∷ 0 ∷ []) (table 64) is reply (answer 0 7 0 0) [])
-    ∷ (place (marked (true ∷ []) (reusedFactors 32)) (tuple (2 ∷ 32 ∷ 4 ∷ [])) (tuple (1 ∷ 5 ∷ 2 ∷ [])) (table 4)
+    ∷ (verdict reusedFactors (table 512) is reply (answer 8 0 128 0) [])
+    ∷ (verdict (marked (true ∷ []) reusedFactors) (table 512) is reply (answer 0 256 512 512) [])
+    ∷ (owner (marked (true ∷ []) reusedFactors) (0 ∷ 0 ∷ 0 ∷ 0 ∷ 0 ∷ 37 ∷ 2 ∷ 0 ∷ []) (table 512) is reply (answer 0 23 0 0) [])
+    ∷ (place (marked (true ∷ []) reusedFactors) (tuple (2 ∷ 32 ∷ 4 ∷ [])) (tuple (1 ∷ 5 ∷ 2 ∷ [])) (table 4)
     is reply (answer 0 4 0 0) (22 ∷ 150 ∷ 278 ∷ 406 ∷ []))
     -- two marks; one of them missing; two classes that meet, x and y the smallest of theirs
     ∷ (verdict (marked (true ∷ false ∷ true ∷ []) (fourEach 3 6)) (table 6) is reply (answer 0 12 6 6) [])

@@ -1,8 +1,5 @@
 -- `reach::end_sums` has the sums of the copy at a far end: one walk over each list, on the offset.
 use mathlib.Core.Path.{_≡_, sym, ap, ap₂, _∙_, subst}
-use mathlib.Core.Bool.{Bool}
-use mathlib.Core.List.{List}
-use Prim.Native.Nat.{ℕ, _<_}
 use native.Mathlib.Omega.{arith}
 use lib.IntN.{ℤ, pos, _+ℤ_, +ℤ-comm}
 use lib.ListN.{getD}

@@ -1,7 +1,6 @@
 -- `reuse::leads` is whether an element leads: where nothing is marked each does.
 use mathlib.Core.Path.{sym}
 use borrow.Author.Tests.{eq-eqb}
-use borrow.Author.Needs.{needs}
 use Rattle.reuse.proofs.Walk.{unmarked-leads}
 use Rattle.reuse.proofs.leads.Statement.{statement}
 use Rattle.reuse.proofs.leads.Tie as tie
