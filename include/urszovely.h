@@ -1,4 +1,4 @@
-/* urszovely.h: tile layouts, swizzles, warp fragments and zero-column masks, answered by a proved library. C99 and C++.
+/* urszovely.h: tile layouts, swizzles, banks, warp fragments and zero-column masks, answered by a proved library. C99 and C++.
  *
  * Every question takes any numbers and answers four: answer[0] is 0 or the number of a refusal, answer[1] to answer[3] are its
  * details, 0 unless said. Pointers are valid, not NULL and do not overlap; nothing else is asked of a caller. A refusal touches no
@@ -32,7 +32,7 @@ enum urszovely_refusal {
     URSZOVELY_OUTSIDE = 7,     /* a copy lies outside the space: flat, axis */
     URSZOVELY_SHARED = 8,      /* two elements that are not one share a cell: x, y, cell */
     URSZOVELY_SHAPE = 9,       /* shape not admitted */
-    URSZOVELY_COORDINATE = 10, /* a coordinate outside its dimension */
+    URSZOVELY_COORDINATE = 10, /* a coordinate outside its dimension, or an address of 2^32 or more */
     URSZOVELY_TOO_SHORT = 11,  /* lent memory too short: the length needed */
     URSZOVELY_CELL = 12,       /* asked cell coordinate outside the space: axis */
     URSZOVELY_MASK_SIZE = 13,  /* mask M or N not allowed */
@@ -47,6 +47,10 @@ void urszovely_swizzle(uint64_t m, uint64_t b, uint64_t s, uint64_t address, uin
 
 /* M, B, S from element bits and mode: 0 with M, B, S, or 6. */
 void urszovely_mode(uint64_t bits, uint64_t mode, uint64_t answer[4]);
+
+/* Line and bank of an element address, taken as it is; banks are 4 bytes wide, 32 to a line: 0 with line and bank, or 6 for the bits, 10
+ * for an address of 2^32 or more. */
+void urszovely_bank(uint64_t bits, uint64_t address, uint64_t answer[4]);
 
 /* What a register of a warp's lane holds: 0 with computation, row, column, or 14. */
 void urszovely_fragment(uint64_t kind, uint64_t lane, uint64_t reg, uint64_t answer[4]);
@@ -97,7 +101,7 @@ static inline const char *urszovely_refusal_text(uint64_t number)
     case 7: return "a copy lies outside the space";
     case 8: return "two elements share a cell";
     case 9: return "shape not admitted";
-    case 10: return "a coordinate outside its dimension";
+    case 10: return "a coordinate outside its dimension, or an address of 2^32 or more";
     case 11: return "lent memory too short";
     case 12: return "asked cell coordinate outside the space";
     case 13: return "mask M or N not allowed";

@@ -261,6 +261,7 @@ static int plain(void)
 {
     if (is("swizzle") && fits(4, 0)) urszovely_swizzle(numbers[0], numbers[1], numbers[2], numbers[3], answer);
     else if (is("mode") && fits(2, 0)) urszovely_mode(numbers[0], numbers[1], answer);
+    else if (is("bank") && fits(2, 0)) urszovely_bank(numbers[0], numbers[1], answer);
     else if (is("fragment") && fits(3, 0)) urszovely_fragment(numbers[0], numbers[1], numbers[2], answer);
     else if (is("holder") && fits(4, 0)) urszovely_holder(numbers[0], numbers[1], numbers[2], numbers[3], answer);
     else return 0;

@@ -87,6 +87,13 @@ static void guarded_mode(uint64_t bits, uint64_t mode, uint64_t *answer)
     settle(ANSWER, answer, 32);
 }
 
+static void guarded_bank(uint64_t bits, uint64_t address, uint64_t *answer)
+{
+    int side;
+    for (side = 0; side < 2; side++) urszovely_bank(bits, address, blank(side));
+    settle(ANSWER, answer, 32);
+}
+
 static void guarded_fragment(uint64_t kind, uint64_t lane, uint64_t reg, uint64_t *answer)
 {
     int side;
@@ -183,6 +190,7 @@ static void guarded_stretch(const uint32_t *table, size_t length, const uint64_t
 #define MOST_TABLE 65536
 #define urszovely_swizzle guarded_swizzle
 #define urszovely_mode guarded_mode
+#define urszovely_bank guarded_bank
 #define urszovely_fragment guarded_fragment
 #define urszovely_holder guarded_holder
 #define urszovely_fields guarded_fields

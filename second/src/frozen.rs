@@ -10,6 +10,7 @@ const BLOCKS: &[&[u8]] = &[
     include_bytes!("../loads/blocks/04-ask-03.txt"),
     include_bytes!("../loads/blocks/05-ask-04.txt"),
     include_bytes!("../loads/blocks/06-ask-11.txt"),
+    include_bytes!("../loads/blocks/07-ask-12.txt"),
 ];
 
 /// The lines of full size: 16,384 elements and more, up to 64 copies, tables
@@ -47,6 +48,7 @@ mod tests {
         0x095b_87f6_f306_1e0a,
         0x50b8_c06c_a5fb_c750,
         0x9f29_6235_3480_a824,
+        0xd8f4_b337_a3c3_10c9,
     ];
     const LARGE_CHECKS: &[u64] = &[
         0xa6f5_5d97_af13_b392,

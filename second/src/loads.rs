@@ -58,6 +58,7 @@ const MAKERS: &[Maker] = &[
     ("place*", |random| reuse::place(random, meeting_card)),
     ("verdict*", |random| reuse::verdict(random, meeting_card)),
     ("owner*", |random| reuse::owner(random, meeting_card)),
+    ("bank", small::bank),
 ];
 
 /// Questions of full size, which would slow the others down.

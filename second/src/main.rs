@@ -2,6 +2,7 @@
 //! the same lines straight from the documents, and it keeps and makes the
 //! loads on which the two programs are compared.
 
+mod bank;
 mod fragment;
 mod frozen;
 mod layout;

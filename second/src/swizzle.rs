@@ -49,9 +49,12 @@ pub fn answer_swizzle(numbers: &[u64]) -> Option<Answer> {
     })
 }
 
+/// The bits that an element may have.
+pub const ELEMENT_BITS: &[u64] = &[4, 8, 16, 32, 64, 128];
+
 /// M, B, S from element bits and mode.
 pub fn from_mode(bits: u64, mode: u64) -> Option<Swizzle> {
-    if ![4, 8, 16, 32, 64, 128].contains(&bits) || mode > 3 {
+    if !ELEMENT_BITS.contains(&bits) || mode > 3 {
         return None;
     }
     let bit_length = u64::from(64 - (128 / bits).leading_zeros());

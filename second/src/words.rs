@@ -1,5 +1,6 @@
 //! The words of the protocol, in the order in which they arrived.
 
+use crate::bank;
 use crate::fragment;
 use crate::layout::{self, Marks, NO_MARKS};
 use crate::lines::{plain, Answer, Number};
@@ -108,6 +109,11 @@ pub const WORDS: &[Word] = &[
             layout::answer_place(marks, numbers)
         },
     },
+    Word {
+        name: "bank",
+        count: 2,
+        answer: |numbers, _| bank::answer_bank(&plain(numbers)?),
+    },
 ];
 
 /// For the tests: the numbers that a word's answers can have.
@@ -127,6 +133,7 @@ pub const NUMBERS: &[(&str, &[u64])] = &[
     ("verdict*", &[0, 1, 2, 3, 4, 5, 6, 7, 8, 11, 17]),
     ("owner*", &[0, 1, 2, 3, 4, 5, 6, 7, 8, 11, 12, 17]),
     ("place*", &[0, 1, 2, 3, 4, 5, 6, 7, 9, 10, 11, 17]),
+    ("bank", &[0, 6, 10]),
 ];
 
 #[cfg(test)]

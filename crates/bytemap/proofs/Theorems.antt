@@ -1,16 +1,16 @@
 -- One table of bytes serves every width of mode 128B: counted in bits all widths have one swizzle, and bytes are whole units of it.
 use mathlib.Core.Path.{_≡_, refl, sym, ap₂, _∙_}
 use mathlib.Core.Bool.{true}
-use Prim.Native.Nat.{ℕ, _+_, _-_, _*_, _/_, _%_, _^_, _≤_}
+use Prim.Native.Nat.{ℕ, _+_, _-_, _*_, _/_, _%_, _≤_}
 use native.Mathlib.Nat.{add-zero, mul-div-cancel, mul-mod-left}
 use native.Mathlib.Omega.{arith}
 use lib.Count.{leadingZeros}
-use Rattle.laws.proofs.Rungs.{apart, ended-at}
 use Rattle.swizzle.specs.Swizzle.{swizzled}
-use Rattle.swizzle.specs.Mode.{knownBits, known, bitLength, modeAnswer}
+use Rattle.swizzle.specs.Mode.{knownBits, bitLength, modeAnswer}
 use Rattle.swizzle.specs.declared.Swizzle.{Swizzle}
 use Rattle.swizzle.specs.declared.Chosen.the-variants.{Parameters}
-use Rattle.swizzle.proofs.Widths.{at-known-bits, known-parts, bits-positive}
+use Rattle.swizzle.proofs.Widths.{at-known-bits, known-parts, bits-positive, together}
+use Rattle.swizzle.proofs.Theorems.{mode-told}
 use Rattle.bytemap.proofs.Laws.{whole-units, pattern-repeats}
 
 -- element m begins at bit m * bits of memory: the byte that this bit is in
@@ -36,12 +36,7 @@ pub mode-of-bytes : modeAnswer 8 3 ≡ Parameters (record { m = 4; b = 3; s = 3 
 unfolding bitLength leadingZeros
 mode-of-bytes = refl
 
--- an element's bits times 2^M are the 128 bits that a mode leaves together
-together : (bits : ℕ) → knownBits bits ≡ true → 2 ^ 7 ≡ 2 ^ (bitLength (128 / bits) - 1) * bits
-unfolding bitLength leadingZeros
-together = at-known-bits (λ n. 2 ^ 7 ≡ 2 ^ (bitLength (128 / n) - 1) * n) refl refl refl refl refl refl
-
--- so every width, counted in bits, has the one swizzle
+-- every width, counted in bits, has the one swizzle
 pub same-in-bits : (bits m : ℕ) → knownBits bits ≡ true → swizzled 7 3 3 (m * bits) ≡ swizzled (bitLength (128 / bits) - 1) 3 3 m * bits
 same-in-bits bits m k =
     let M = bitLength (128 / bits) - 1 in
@@ -72,10 +67,8 @@ of-known bits m entry k e =
 pub by-table : (bits m entry : ℕ) (w : Swizzle) → modeAnswer bits 3 ≡ Parameters w → entry ≡ swizzled 4 3 3 (byteOf bits m % 1024)
     → ByTable bits m entry w
 by-table bits m entry w chosen e =
-    let named = ended-at (known bits 3) chosen (λ q. apart (cc)) in
-    let last = named .1 in
-    let same : _≡_ {A = Swizzle} (record { m = bitLength (128 / bits) - 1; b = 3; s = 3 }) w = cc in
-    rw (sym same) (of-known bits m entry (known-parts bits 3 (named .0) .0) e)
+    let told = mode-told bits 3 w chosen in
+    rw (told .1) (of-known bits m entry (known-parts bits 3 (told .0) .0) e)
 
 -- and `place_of_byte` has both in one: the byte of the swizzled element is the place of the element's byte
 pub place-of-element : (bits m r : ℕ) (w : Swizzle) → modeAnswer bits 3 ≡ Parameters w → r ≡ swizzled 4 3 3 (byteOf bits m)

@@ -20,6 +20,7 @@ fn ask(word: Word, numbers: &[u64; 80], below: &[bool; 80], lent: &mut [u32]) ->
     match word {
         Word::Swizzle => swizzles::swizzle(numbers),
         Word::Mode => swizzles::mode(numbers),
+        Word::Bank => swizzles::bank(numbers),
         Word::Fragment => fragments::fragment(numbers),
         Word::Holder => fragments::holder(numbers),
         Word::Fields => masks::fields(numbers),

@@ -1,4 +1,4 @@
-// The words of the subject swizzle.
+// The words of the subject swizzle, and that of the banks where a swizzled address lies.
 use lines::reply;
 use lines::reply::Reply;
 
@@ -12,4 +12,10 @@ pub fn swizzle(numbers: &[u64; 80]) -> Reply {
 pub fn mode(numbers: &[u64; 80]) -> Reply {
     let chosen = swizzle::swizzle_of_mode(numbers[0], numbers[1]);
     reply::plain(swizzle::mode_numbers(chosen))
+}
+
+// bank bits address
+pub fn bank(numbers: &[u64; 80]) -> Reply {
+    let banked = banks::bank_of(numbers[0], numbers[1]);
+    reply::plain(banks::bank_numbers(banked))
 }

@@ -11,6 +11,7 @@ const MOST_MARKS: u64 = 255;
 pub enum Word {
     Swizzle,
     Mode,
+    Bank,
     Fragment,
     Holder,
     Fields,
@@ -69,13 +70,16 @@ fn mask_word(line: &[u8; 4096], end: usize) -> Word {
     layout_word(line, end)
 }
 
-// and those of swizzles and fragments first.
+// and those of swizzles, banks and fragments first.
 fn word_of(line: &[u8; 4096], end: usize) -> Word {
     if is_named(line, end, b"swizzle") {
         return Word::Swizzle;
     }
     if is_named(line, end, b"mode") {
         return Word::Mode;
+    }
+    if is_named(line, end, b"bank") {
+        return Word::Bank;
     }
     if is_named(line, end, b"fragment") {
         return Word::Fragment;
@@ -91,6 +95,7 @@ fn wanted(word: Word) -> usize {
     match word {
         Word::Swizzle => 4,
         Word::Mode => 2,
+        Word::Bank => 2,
         Word::Fragment => 3,
         Word::Holder => 4,
         Word::Fields => 1,

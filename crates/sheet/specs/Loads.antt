@@ -8,7 +8,7 @@ use lib.ListN.{replicate}
 use Rattle.answers.specs.Refusals.{answer}
 use Rattle.descriptor.specs.Descriptor.{descriptorOf}
 use Rattle.descriptor.specs.declared.Fields.{Fields}
-use Rattle.sheet.specs.Questions.{Question, swizzle, mode, fragment, descriptor, mask, place, verdict, owner, stretch, Reply, reply}
+use Rattle.sheet.specs.Questions.{Question, swizzle, mode, bank, fragment, descriptor, mask, place, verdict, owner, stretch, Reply, reply}
 use Rattle.sheet.specs.Cards.{tuple, tile, tileX, unswizzled, onM, atM, backwards, lastRowFirst, copiesBack, _by_on_, _back_on_, m, TLane, inTensorMemory, wideTile, doubled, copied, bothSides, scaleFactors, marked, reusedFactors, fourEach, sixtyFive, figure189}
 use Rattle.sheet.specs.Cards.{swizzle as swizzleBy}
 
@@ -67,6 +67,51 @@ loads =
     ∷ (swizzle 3 4 3 64 is reply (answer 6 0 0 0) [])
     -- source document 004: float16 with the 128B swizzle
     ∷ (mode 16 3 is reply (answer 0 3 3 3) [])
+    -- banks: the first and the last address of each width, and the one after it
+    ∷ (bank 4 0 is reply (answer 0 0 0 0) [])
+    ∷ (bank 4 4294967295 is reply (answer 0 16777215 31 0) [])
+    ∷ (bank 4 4294967296 is reply (answer 10 0 0 0) [])
+    ∷ (bank 8 0 is reply (answer 0 0 0 0) [])
+    ∷ (bank 8 4294967295 is reply (answer 0 33554431 31 0) [])
+    ∷ (bank 8 4294967296 is reply (answer 10 0 0 0) [])
+    ∷ (bank 16 0 is reply (answer 0 0 0 0) [])
+    ∷ (bank 16 4294967295 is reply (answer 0 67108863 31 0) [])
+    ∷ (bank 16 4294967296 is reply (answer 10 0 0 0) [])
+    ∷ (bank 32 0 is reply (answer 0 0 0 0) [])
+    ∷ (bank 32 4294967295 is reply (answer 0 134217727 31 0) [])
+    ∷ (bank 32 4294967296 is reply (answer 10 0 0 0) [])
+    ∷ (bank 64 0 is reply (answer 0 0 0 0) [])
+    ∷ (bank 64 4294967295 is reply (answer 0 268435455 30 0) [])
+    ∷ (bank 64 4294967296 is reply (answer 10 0 0 0) [])
+    ∷ (bank 128 0 is reply (answer 0 0 0 0) [])
+    ∷ (bank 128 4294967295 is reply (answer 0 536870911 28 0) [])
+    ∷ (bank 128 4294967296 is reply (answer 10 0 0 0) [])
+    -- bits that there are not, judged first
+    ∷ (bank 12 0 is reply (answer 6 0 0 0) [])
+    ∷ (bank 256 4294967296 is reply (answer 6 0 0 0) [])
+    ∷ (bank 0 18446744073709551615 is reply (answer 6 0 0 0) [])
+    -- source document 004, float16 with the 128B swizzle: column 0 down the rows is address 72 i, and banks 0, 4, 8, 12, 16, 20, 24, 28
+    ∷ (bank 16 0 is reply (answer 0 0 0 0) [])
+    ∷ (bank 16 72 is reply (answer 0 1 4 0) [])
+    ∷ (bank 16 144 is reply (answer 0 2 8 0) [])
+    ∷ (bank 16 216 is reply (answer 0 3 12 0) [])
+    ∷ (bank 16 288 is reply (answer 0 4 16 0) [])
+    ∷ (bank 16 360 is reply (answer 0 5 20 0) [])
+    ∷ (bank 16 432 is reply (answer 0 6 24 0) [])
+    ∷ (bank 16 504 is reply (answer 0 7 28 0) [])
+    -- without the swizzle it is address 64 i: one bank, 0, in every row
+    ∷ (bank 16 0 is reply (answer 0 0 0 0) [])
+    ∷ (bank 16 64 is reply (answer 0 1 0 0) [])
+    ∷ (bank 16 128 is reply (answer 0 2 0 0) [])
+    ∷ (bank 16 192 is reply (answer 0 3 0 0) [])
+    ∷ (bank 16 256 is reply (answer 0 4 0 0) [])
+    ∷ (bank 16 320 is reply (answer 0 5 0 0) [])
+    ∷ (bank 16 384 is reply (answer 0 6 0 0) [])
+    ∷ (bank 16 448 is reply (answer 0 7 0 0) [])
+    -- and in rows of 32 and of 64 bytes, where row 1 is elsewhere, row 4 and row 2, both at byte 128, are in the bank of row 0
+    ∷ (bank 8 32 is reply (answer 0 0 8 0) [])
+    ∷ (bank 8 64 is reply (answer 0 0 16 0) [])
+    ∷ (bank 8 128 is reply (answer 0 1 0 0) [])
     -- fragments
     ∷ (fragment 5 5 6 is reply (answer 0 1 3 4) [])
     ∷ (fragment 5 18 3 is reply (answer 0 0 6 3) [])

@@ -5,6 +5,7 @@ use Prim.Native.Nat.{ℕ}
 use Rattle.answers.specs.declared.Numbers.{Numbers}
 use Rattle.swizzle.specs.Swizzle.{swizzleAnswer, swizzleNumbers}
 use Rattle.swizzle.specs.Mode.{modeAnswer, modeNumbers}
+use Rattle.banks.specs.Bank.{bankAnswer, bankNumbers}
 use Rattle.fragment.specs.Fragment.{heldAnswer, heldNumbers}
 use Rattle.descriptor.specs.Descriptor.{shiftLimit, writeAnswer, writeNumbers}
 use Rattle.mask.specs.Mask.{maskAnswer, maskMemory, maskNumbers}
@@ -21,6 +22,8 @@ pub data Question : Type 0 where
   swizzle : ℕ → ℕ → ℕ → ℕ → Question
   -- bits and mode
   mode : ℕ → ℕ → Question
+  -- bits and the address
+  bank : ℕ → ℕ → Question
   -- kind, lane and register
   fragment : ℕ → ℕ → ℕ → Question
   -- M and the fields
@@ -48,6 +51,7 @@ reply n v = record { numbers = n; values = v }
 unfoldable pub asked : Question → Reply
 asked (swizzle M B S m) = reply (swizzleNumbers (swizzleAnswer M B S m)) []
 asked (mode bits n) = reply (modeNumbers (modeAnswer bits n)) []
+asked (bank bits address) = reply (bankNumbers (bankAnswer bits address)) []
 asked (fragment kind lane i) = reply (heldNumbers (heldAnswer kind lane i)) []
 asked (descriptor M fields) = reply (writeNumbers (writeAnswer (shiftLimit M) M fields)) []
 asked (mask M N d lent) =

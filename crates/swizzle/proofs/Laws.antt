@@ -38,7 +38,7 @@ picked-below : (B S x : ℕ) → picked B S x < 2 ^ B
 picked-below B S x = mod-lt (x / 2 ^ S) (pow-pos B)
 
 -- from bit B on nothing changes
-crossed-high : (B S x k : ℕ) → B ≤ k → crossed B S x / 2 ^ k ≡ x / 2 ^ k
+pub crossed-high : (B S x k : ℕ) → B ≤ k → crossed B S x / 2 ^ k ≡ x / 2 ^ k
 crossed-high B S x k h =
     xor-shr x (picked B S x) k
     ∙ ap (λ (n : ℕ). bitXor (x / 2 ^ k) n) (div-eq-of-lt (lt-of-lt-of-le (picked-below B S x) (pow-mono h)))

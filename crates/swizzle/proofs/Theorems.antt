@@ -126,13 +126,19 @@ known-permitted bits mode k =
     let zeros = zeros-known bits (parts .0) in
     rw (le-leb (bitLength (128 / bits) - 1) 8 (omega arith), le-leb mode 4 (omega arith), le-leb mode 3 (omega arith))
 
+-- what comes out of bits and mode says that they are known, and is their M, B, S
+pub mode-told : (bits mode : ℕ) (w : Swizzle) → modeAnswer bits mode ≡ Parameters w
+    → (known bits mode ≡ true) × (w ≡ record { m = bitLength (128 / bits) - 1; b = mode; s = 3 })
+mode-told bits mode w e =
+    let named = ended-at (known bits mode) e (λ q. apart (cc)) in
+    let last = named .1 in
+    (named .0, cc)
+
 -- for every bits and mode the numbers that come out are permitted
 pub mode-permitted : (bits mode : ℕ) (w : Swizzle) → modeAnswer bits mode ≡ Parameters w → permitted (w .m) (w .b) (w .s) ≡ true
 mode-permitted bits mode w e =
-    let named = ended-at (known bits mode) e (λ q. apart (cc)) in
-    let last = named .1 in
-    let same : _≡_ {A = Swizzle} (record { m = bitLength (128 / bits) - 1; b = mode; s = 3 }) w = cc in
-    rw (sym same) (known-permitted bits mode (named .0))
+    let told = mode-told bits mode w e in
+    rw (told .1) (known-permitted bits mode (told .0))
 
 -- two outcomes that the promise of the swizzle of an address allows are equal
 pub swizzle-settled : (M B S m : ℕ) (p q : Swizzled) → p ≡ swizzleAnswer M B S m → q ≡ swizzleAnswer M B S m → p ≡ q

@@ -1,12 +1,13 @@
--- What holds of each of the six widths holds of all known bits; so the leading zeros of 128 / bits are counted once for each width.
+-- What holds of each of the six widths holds of all known bits; so the leading zeros of 128 / bits are counted once for each width, and
+-- 2^M elements of each make 128 bits.
 use mathlib.Core.Path.{_≡_, refl, subst⁻¹}
 use mathlib.Core.Bool.{Bool, true, false, _||_, and-eq-true-iff}
 use mathlib.Core.Logic.{_⊎_, inl, inr, ⊎-elim}
-use Prim.Native.Nat.{ℕ, _/_, _≤_, _<_}
+use Prim.Native.Nat.{ℕ, _-_, _*_, _/_, _^_, _≤_, _<_}
 use borrow.Author.Tests.{eqb-true, leb-true}
 use lib.Dec.{T, eqb, leb, lit<, lit≤}
 use lib.Count.{leadingZeros}
-use Rattle.swizzle.specs.Mode.{knownBits, known}
+use Rattle.swizzle.specs.Mode.{knownBits, known, bitLength}
 
 either : (a b : Bool) → (a || b) ≡ true → (a ≡ true) ⊎ (b ≡ true)
 either true b e = inl refl
@@ -45,3 +46,8 @@ unfolding leadingZeros
 zeros-known =
     at-known-bits (λ n. Zeros (leadingZeros 64 (128 / n)))
     (zeros-at 4 tt tt) (zeros-at 8 tt tt) (zeros-at 16 tt tt) (zeros-at 32 tt tt) (zeros-at 64 tt tt) (zeros-at 128 tt tt)
+
+-- an element's bits times 2^M are the 128 bits that a mode leaves together
+pub together : (bits : ℕ) → knownBits bits ≡ true → 2 ^ 7 ≡ 2 ^ (bitLength (128 / bits) - 1) * bits
+unfolding bitLength leadingZeros
+together = at-known-bits (λ n. 2 ^ 7 ≡ 2 ^ (bitLength (128 / n) - 1) * n) refl refl refl refl refl refl

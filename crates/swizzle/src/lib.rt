@@ -68,12 +68,18 @@ pub fn swizzle_address(m: u64, b: u64, s: u64, address: u64) -> Swizzled
     }
 }
 
+// Whether these are bits of an element. Public for the crates above, which have elements of the same widths.
+pub fn is_known_bits(bits: u64) -> bool
+    ensures { λ r. ⌜ r ≡ knownBits bits ⌝ }
+{
+    (bits == 4) | (bits == 8) | (bits == 16) | (bits == 32) | (bits == 64) | (bits == 128)
+}
+
 // Whether these are element bits and a mode that have a swizzle.
 fn is_known(bits: u64, mode: u64) -> bool
     ensures { λ r. ⌜ r ≡ known bits mode ⌝ }
 {
-    ((bits == 4) | (bits == 8) | (bits == 16) | (bits == 32) | (bits == 64) | (bits == 128))
-        & (mode <= MOST_MODE)
+    is_known_bits(bits) & (mode <= MOST_MODE)
 }
 
 // The M of known bits: the bit length of 128 / bits, less 1, from counting leading zeros.

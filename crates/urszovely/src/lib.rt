@@ -4,6 +4,7 @@ ghost use mathlib.Core.Path.{_≡_};
 ghost use lib.ListN.{length};
 ghost use Rattle.swizzle.specs.Swizzle.{swizzleAnswer, swizzleNumbers};
 ghost use Rattle.swizzle.specs.Mode.{modeAnswer, modeNumbers};
+ghost use Rattle.banks.specs.Bank.{bankAnswer, bankNumbers};
 ghost use Rattle.fragment.specs.Fragment.{heldAnswer, heldNumbers};
 ghost use Rattle.descriptor.specs.Descriptor.{readAnswer, readNumbers, shiftLimit, writeAnswer, writeNumbers};
 ghost use Rattle.mask.specs.Mask.{maskAnswer, maskMemory, maskNumbers};
@@ -30,6 +31,16 @@ pub extern "C" fn urszovely_mode(bits: u64, mode: u64, answer: &mut [u64; 4])
 {
     let chosen = swizzle::swizzle_of_mode(bits, mode);
     let numbers = swizzle::mode_numbers(chosen);
+    *answer = plain::four(numbers);
+}
+
+// Line and bank of an element address.
+#[no_mangle]
+pub extern "C" fn urszovely_bank(bits: u64, address: u64, answer: &mut [u64; 4])
+    ensures { λ r. ⌜ now (answer .exit) ≡ four (bankNumbers (bankAnswer bits address)) ⌝ }
+{
+    let banked = banks::bank_of(bits, address);
+    let numbers = banks::bank_numbers(banked);
     *answer = plain::four(numbers);
 }
 

@@ -27,6 +27,9 @@ pub const MOST_M: u64 = 8;
 pub const MOST_B: u64 = 4;
 pub const MOST_S: u64 = 8;
 
+/// The address of an element whose bank is asked for, as many as there are.
+pub const ADDRESSES: u64 = 1 << 32;
+
 /// The shift of a mask.
 pub const SHIFTS: &[u64] = &[16, 32];
 

@@ -93,6 +93,7 @@ mod tests {
         "descriptor 64 1 1 1 1 1 1 1 1 1 2 3 32",
         "mask 128 16 847173709201408 2",
         "stretch 1 11 32 1 1 1 1 2 1 1 6 9 1 1 1 1 1 704",
+        "bank 16 72",
     ];
 
     fn plain_questions() -> Vec<Question<'static>> {

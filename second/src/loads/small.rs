@@ -1,6 +1,6 @@
-//! Random questions that need no card: swizzles, fragments and masks.
+//! Random questions that need no card: swizzles, banks, fragments and masks.
 
-use super::limits::{MOST_B, MOST_M, MOST_S, SHIFTS};
+use super::limits::{ADDRESSES, MOST_B, MOST_M, MOST_S, SHIFTS};
 use super::random::Random;
 use crate::lines::{whole, Number};
 use crate::mask::Fields;
@@ -58,13 +58,41 @@ pub fn swizzle(random: &mut Random) -> Vec<Number> {
     whole(&[m, b, s, random_address(random)])
 }
 
-pub fn mode(random: &mut Random) -> Vec<Number> {
-    let bits = match random.below(8) {
+fn random_bits(random: &mut Random) -> u64 {
+    match random.below(8) {
         0..=3 => random.pick(&[4, 8, 16, 32, 64, 128]),
         4 | 5 => random.around_one_of(&[0, 1, 2, 3, 4, 5, 8, 16, 32, 64, 128, 256]),
         6 => random.below(300),
         _ => random.hostile(),
+    }
+}
+
+/// An address of which there is a bank, mostly: a small one, one at a multiple
+/// of a line's bits or beside it, any, the last ones.
+fn bank_address(random: &mut Random) -> u64 {
+    match random.below(12) {
+        0 | 1 => random.below(4_096),
+        2..=4 => {
+            let line = random.below(1 << 21) << random.between(3, 11);
+            random.around(line)
+        }
+        5..=7 => random.below(ADDRESSES),
+        8 => ADDRESSES - 1 - random.below(300),
+        9 => random.around(ADDRESSES),
+        _ => random.hostile(),
+    }
+}
+
+pub fn bank(random: &mut Random) -> Vec<Number> {
+    let bits = match random.once_in(3) {
+        true => random_bits(random),
+        false => random.pick(&[4, 8, 16, 32, 64, 128]),
     };
+    whole(&[bits, bank_address(random)])
+}
+
+pub fn mode(random: &mut Random) -> Vec<Number> {
+    let bits = random_bits(random);
     let mode = match random.below(8) {
         0..=4 => random.below(4),
         5 | 6 => random.below(6),

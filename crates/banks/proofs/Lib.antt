@@ -1,0 +1,3 @@
+pub mod Groups
+pub mod Pieces
+pub mod Theorems
