@@ -16,8 +16,9 @@ clang() { "$tools/bin/clang" --target=x86_64-unknown-linux-gnu "$@"; }
 # quiet COMMAND..: what it says is only shown where it fails.
 quiet() { "$@" >"$work/log" 2>&1 || { cat "$work/log" >&2; fail "failed: $*"; }; }
 
-# copy_project PROJECT CRATE: the project, and above the crate and all that it rests on the crate door, in the work folder. What rt
-# proved there of an earlier copy stays: it knows unchanged crates by their files. Sets $crates, bottom up, without door.
+# copy_project PROJECT CRATE [card]: the project, and above the crate and all that it rests on the crate door, with the card from
+# plain numbers where asked for, in the work folder. What rt proved there of an earlier copy stays: it knows unchanged crates by
+# their files. Sets $crates, bottom up, without door.
 copy_project() {
     crates="$(sed -n "s/^$2: *//p" "$1/crates.txt") $2"
     rm -rf "$work/project/crates"
@@ -25,7 +26,7 @@ copy_project() {
     cp -r "$1/crates" "$1/crates.txt" "$work/project"
     echo "door: $crates" >>"$work/project/crates.txt"
     mkdir -p "$work/project/crates/door/src"
-    cp "$here/door.rt.in" "$work/project/crates/door/src/lib.rt"
+    cat ${3:+"$bench/$3.rt.in"} "$here/door.rt.in" >"$work/project/crates/door/src/lib.rt"
 }
 
 # prove: the archive of the proved door.
@@ -63,23 +64,43 @@ END
         -Wno-override-module -c -x ir "$work/door.ll" -o "$library"
 }
 
-# measure CRATE FUNCTION COUNT [quick] [PROJECT]: holds the project's function and the Rust one against each other, on all cases and
-# COUNT random questions, then prints the table of their instructions.
+# plain ARCHIVE [TARGET]: the straightforward Rust, for this processor or the target's.
+plain() {
+    rustc --edition 2021 --crate-type staticlib ${2:+--target "$2"} -C opt-level=3 -C panic=abort -C codegen-units=1 \
+        --check-cfg 'cfg(one_loop)' ${PLAIN:+--cfg "$PLAIN"} -o "$1" "$here/plain.rs"
+}
+
+# own_program: where the processor cannot run x86-64, the same source, unproved, and the same Rust, compiled for it: for times alone.
+own_program() {
+    compile
+    sed -E -e '/^target /d' -e 's/"(target-cpu|target-features|tune-cpu)"="[^"]*"//g' -e 's/= \{ +\}$/= { nounwind }/' "$work/door.ll" >"$work/own.ll"
+    "$tools/bin/clang" --target="$(uname -m)-unknown-linux-gnu" -O3 -fPIE -Wno-override-module -c -x ir "$work/own.ll" -o "$work/own.o"
+    plain "$work/libown.a"
+    cc -O2 -w -DQUICK -o "$work/own" "$here/drive.c" "$work/own.o" "$work/libown.a"
+}
+
+# run WORDS..: the program, under the emulator where the processor cannot run it.
+run() { $emulator "$loader" --library-path "$tools/lib" "$work/drive" "$@"; }
+
+# measure CRATE FUNCTION COUNT "card or nothing" [quick] [PROJECT]: holds the project's function and the Rust one against each other,
+# on all cases and COUNT random questions, then prints the table of their instructions and times.
 measure() {
-    crate=$1 function=$2 count=$3 quick=
-    shift 3
+    crate=$1 function=$2 count=$3 card=$4 quick=
+    shift 4
     [ "${1:-}" != quick ] || { quick=-DQUICK work=$work-quick; shift; }
     command -v "$qemu" >/dev/null || fail "no $qemu here; bench/README.md says what is needed"
+    emulator=$qemu
+    [ "$(uname -m)" != x86_64 ] || emulator=
     mkdir -p "$work"
-    copy_project "${1:-$bench/..}" "$crate"
+    copy_project "${1:-$bench/..}" "$crate" "$card"
     if [ -n "$quick" ]; then compile; else prove; fi
-    rustc --edition 2021 --crate-type staticlib --target x86_64-unknown-linux-gnu -C opt-level=3 -C panic=abort -C codegen-units=1 \
-        --check-cfg 'cfg(one_loop)' ${PLAIN:+--cfg "$PLAIN"} -o "$work/libplain.a" "$here/plain.rs"
+    plain "$work/libplain.a" x86_64-unknown-linux-gnu
     clang -O2 -fPIE $quick -c "$here/drive.c" -o "$work/drive.o"
     quiet "$own/bin/rattle-link" --target x86_64-unknown-linux-gnu --toolchain "$tools" -o "$work/drive" "$work/drive.o" "$library" "$work/libplain.a"
     cc -O2 -shared -fPIC -o "$work/icount.so" "$bench/icount.c"
-    "$qemu" "$loader" --library-path "$tools/lib" "$work/drive" compare "$count"
+    run compare "$count"
     "$qemu" -plugin "$work/icount.so" "$loader" --library-path "$tools/lib" "$work/drive" count >"$work/names" 2>"$work/counts" ||
         fail "$qemu: $(head -n 3 "$work/counts")"
-    awk -v function_name="$function" -f "$bench/report.awk" "$work/names" "$work/counts"
+    if [ -z "$emulator" ]; then run time; else own_program; "$work/own" time; fi >"$work/times"
+    awk -v function_name="$function" -f "$bench/report.awk" part=1 "$work/names" part=2 "$work/counts" part=3 "$work/times"
 }

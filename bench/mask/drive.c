@@ -51,10 +51,15 @@ static const struct question { const char *name; u64 m, n, descriptor; } cases[]
 };
 enum { CASES = sizeof cases / sizeof *cases };
 
-// Both on one question and the first `length` bytes of memory in which anything stands: whether answers or bytes differ, those past
-// the length too. Leaves Rust's answer in `answer`.
 static u8 lent[LENT + PAST], other[LENT + PAST];
 static u64 answer[4];
+static int number_of_cases(void) { return CASES; }
+static const char *name(int i) { return cases[i].name; }
+static void ask_rust(int i) { rust_mask(lent, LENT, cases[i].m, cases[i].n, cases[i].descriptor, answer); }
+static void ask_project(int i) { project_mask(lent, LENT, cases[i].m, cases[i].n, cases[i].descriptor, answer); }
+
+// Both on one question and the first `length` bytes of memory in which anything stands: whether answers or bytes differ, those past
+// the length too. Leaves Rust's answer in `answer`.
 static int differ(struct question q, u64 length) {
     u64 out[4];
     for (u64 i = 0; i < sizeof lent; i++) lent[i] = other[i] = any() >> 32;
@@ -88,25 +93,12 @@ static int random_differs(void) {
 
 static int compare(int count) {
     int bad = 0, asked = 0;
-    u64 answered[32] = {};
     for (int i = 0; i < CASES; i++) bad += differ(cases[i], LENT);
     for (; asked < count && bad < 10; asked++) {
         bad += random_differs();
         answered[answer[0] % 32]++;
     }
-    printf("%d cases and %d random masks: %d differ. Answers to the random ones, number and times:", CASES, asked, bad);
-    for (int i = 0; i < 32; i++) if (answered[i]) printf(" %d %lu,", i, answered[i]);
-    printf("\n");
+    printf("%d cases and %d random masks: %d differ; ", CASES, asked, bad);
+    print_answered();
     return bad != 0;
-}
-
-static void count(void) {
-    u64 out[4];
-    for (int i = -1; i < CASES; i++) { // once before the first, so that what is bound late is bound
-        struct question q = cases[i < 0 ? 0 : i];
-        if (i < 0) { rust_mask(lent, LENT, q.m, q.n, q.descriptor, out); project_mask(lent, LENT, q.m, q.n, q.descriptor, out); continue; }
-        printf("%s\n", q.name);
-        getppid(); rust_mask(lent, LENT, q.m, q.n, q.descriptor, out); getppid();
-        getppid(); project_mask(lent, LENT, q.m, q.n, q.descriptor, out); getppid();
-    }
 }

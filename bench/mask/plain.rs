@@ -36,10 +36,10 @@ fn each_column(sub_masks: u64, columns: u64, mut test: impl FnMut(u64, u64)) {
 
 fn generate_mask(m: u64, n: u64, descriptor: u64, mask: &mut [u8]) -> Answer {
     let field = |at: u64, bits: u64| (descriptor >> at) & ((1 << bits) - 1);
-    let sub_masks = match m {
-        128 => 1,
-        64 => 2,
-        32 => 4,
+    let (sub_masks, limit) = match m {
+        128 => (1, 32),
+        64 => (2, 32),
+        32 => (4, 16),
         _ => return Answer::Refused(13),
     };
     if n % 8 != 0 || n < 8 || n > 256 {
@@ -48,8 +48,8 @@ fn generate_mask(m: u64, n: u64, descriptor: u64, mask: &mut [u8]) -> Answer {
     if field(36, 3) != 0 || field(62, 2) != 0 {
         return Answer::Refused(15);
     }
-    if field(56, 6) > 32 {
-        return Answer::Shifted { limit: 32 };
+    if field(56, 6) > limit {
+        return Answer::Shifted { limit };
     }
     if (mask.len() as u64) < n / 8 {
         return Answer::Short { needed: n / 8 };

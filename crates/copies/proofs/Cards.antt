@@ -25,7 +25,7 @@ use Rattle.copies.specs.Contracts.{Ready}
 use Rattle.sums.proofs.Turn.{along-room}
 
 -- a list of eight has a bound if it has it on each axis
-eight-small : (l : List ℤ) (most : ℕ) → length l ≡ 8 → ((axis : ℕ) → axis < 8 → natAbs (getD l axis (pos 0)) ≤ most) → (axis : ℕ) → natAbs (getD l axis (pos 0)) ≤ most
+pub eight-small : (l : List ℤ) (most : ℕ) → length l ≡ 8 → ((axis : ℕ) → axis < 8 → natAbs (getD l axis (pos 0)) ≤ most) → (axis : ℕ) → natAbs (getD l axis (pos 0)) ≤ most
 eight-small l most h at axis =
     elim (decLt axis 8) [
       | yes below ↦ at axis below
@@ -65,7 +65,7 @@ module _ (numbers : List ℕ) (strides : List ℤ) (a : Admits numbers strides) 
     small = eight-small (card .offset) roomy eight (λ axis h. let s = offset-at axis h in omega arith);
   }
 
-  base-sums : (flat : ℕ) → Sums (walked (card .shard) flat (card .offset))
+  pub base-sums : (flat : ℕ) → Sums (walked (card .shard) flat (card .offset))
   base-sums flat = record {
     eight = walked-eight (card .shard) flat (card .offset);
     small =

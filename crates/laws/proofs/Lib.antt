@@ -9,3 +9,4 @@ pub mod Products
 pub mod Capped
 pub mod Signed
 pub mod Words
+pub mod Parts

@@ -1,15 +1,12 @@
--- The two passes over a card's elements: what placing one element's row adds to what lies inside, and where its copies go as claims.
+-- The pass over a card's elements: what placing one element's row leaves in it, and where its copies go as claims.
 use mathlib.Core.Path.{_≡_, refl, sym, ap, _∙_, subst}
 use mathlib.Core.Bool.{true}
-use mathlib.Core.List.{List}
-use Prim.Native.Nat.{ℕ, _+_, _-_, _≤_, _<_}
-use native.Mathlib.Decide.{decLe}
+use mathlib.Core.List.{List, [], _∷_}
+use Prim.Native.Nat.{ℕ, zero, suc, _+_, _-_, _≤_, _<_}
 use native.Mathlib.Omega.{arith}
-use borrow.Author.Count.{below-more}
 use borrow.Author.Tests.{ne-eqb}
 use lib.IntN.{ℤ}
-use lib.ListN.{length, replicate, length-replicate}
-use Rattle.laws.proofs.Rungs.{apart}
+use lib.ListN.{length, getD, set, replicate, length-replicate}
 use Rattle.card.specs.Card.{elements, copies, cells}
 use Rattle.card.specs.Lists.{all, within, product}
 use Rattle.card.specs.Limits.{mostExtent}
@@ -21,25 +18,21 @@ use Rattle.card.proofs.Admitted.{checked, fitting, numbered, sized}
 use Rattle.card.proofs.Listed.{shard-list}
 use Rattle.reuse.specs.Contracts.{Element}
 use Rattle.reuse.proofs.Walk.{extents-there}
-use Rattle.rules.specs.Rules.{axes, spot}
+use Rattle.rules.specs.Rules.{spot}
 use Rattle.rules.specs.Walked.{PlacedRow}
-use Rattle.rules.specs.Copies.{cellOf, cellsOf, outsideOf, copyCells, outsideAxis}
+use Rattle.rules.specs.Copies.{cellOf, cellsOf, copyCells}
 use Rattle.rules.specs.Reuse.{leader}
-use Rattle.rules.specs.declared.Spot.{Spot}
-use Rattle.rules.specs.declared.Spot.the-variants.{Inside, Outside}
-use Rattle.rules.proofs.Spots.{cell-below}
 use Rattle.rules.proofs.Filling.{cells-length, cells-at}
-use Rattle.rules.proofs.Theorems.{outside-axis-smallest, outside-axis-none}
 use Rattle.idle.proofs.Theorems.{checks-passed}
-use Rattle.claims.specs.Claims.{OwnedTable, FirstClash}
-use Rattle.claims.specs.Rows.{RowOf, Within, entryMet, cellMet}
-use Rattle.claims.proofs.Steps.{row-within, owners-none, owners-follow, claimed-owners, met-clash}
-use Rattle.claims.proofs.Rows.{occupied-none, occupied-most}
+use Rattle.claims.specs.Claims.{OwnedTable, FirstClash, taken}
+use Rattle.claims.specs.Rows.{RowOf, RowClaim, Within, minSome, entryMet, cellMet}
+use Rattle.claims.proofs.Steps.{row-within, owners-none, owners-follow, claim-none, claim-all, claimed-owners, clash-first}
+use Rattle.claims.proofs.Rows.{occupied-none, occupied-most, occupied-set, taken-owned}
 use Rattle.owners.specs.Owners.{entryLimit}
-use Rattle.judgement.specs.Judgement.{placed, LiesInside, AllInside, FirstOutside}
+use Rattle.judgement.specs.Judgement.{placed}
 use Rattle.judgement.proofs.Run.{few-copies, all-within}
 use Rattle.judgement.proofs.Theorems.{own-copies}
-use Rattle.passes.specs.Contracts.{Pass, Claimable, ElementClaim}
+use Rattle.passes.specs.Contracts.{Pass, Claimable}
 
 -- a pass is over an admitted card
 pub admits : {numbers : List ℕ} {strides : List ℤ} {count : ℕ} {row : List ℕ} → Pass numbers strides count row → Admits numbers strides
@@ -61,47 +54,12 @@ element-of {numbers} {strides} p flat h =
       element = omega (arith, p .all-elements, ap product same);
     }
 
--- every copy of the first n elements lies in the space
-abbrev pub InsideBelow : Card → ℕ → Type 0
-InsideBelow card n = (flat combination : ℕ) → flat < n → combination < copies card → LiesInside (spot card flat combination)
-
-not-outside : (p : Spot) (axis : ℕ) → LiesInside p → p ≡ Outside axis → ⊥
-not-outside (Inside cell) axis i e = absurd (apart (cc))
-not-outside (Outside other) axis i e = i
-
 -- element flat's row is placed
 module _ (card : Card) (flat : ℕ) {row after : List ℕ} {outside : ℕ} (is : PlacedRow (spot card flat) row after outside) (one-each : length row ≡ copies card)
   where
     pub row-cells : after ≡ copyCells card flat
     unfolding copyCells
     row-cells = is .cells ∙ ap (cellsOf (spot card flat)) one-each
-
-    row-axis : outside ≡ outsideAxis card flat
-    unfolding outsideAxis
-    row-axis = is .smallest-axis ∙ ap (outsideOf (spot card flat)) one-each
-
-    -- no copy lies outside: one element more lies in the space
-    pub inside-more : length (card .lengths) ≡ 8 → length axes ≤ outside → InsideBelow card flat → InsideBelow card (flat + 1)
-    inside-more eight h below f r hf =
-        below-more (λ f. (r : ℕ) → r < copies card → LiesInside (spot card f r)) flat (λ g hg s. below g s hg)
-        (λ s hs. subst LiesInside (sym (outside-axis-none card flat eight (omega (arith, row-axis)) s hs .0)) tt) f hf r
-
-    -- one lies outside: this is the first element of which one does
-    pub outside-first : outside < length axes → flat < elements card → InsideBelow card flat → FirstOutside card flat outside
-    outside-first h element below =
-        let s = outside-axis-smallest card flat (omega (arith, row-axis)) in
-        record {
-          element = element;
-          combination = s .somewhere .0;
-          copy = s .somewhere .1;
-          outside = s .somewhere .2 ∙ ap Outside (sym row-axis);
-          smallest-axis = λ r other hr e. omega (arith, row-axis, s .none-smaller r other hr e);
-          smallest-flat = λ f r other below-f hr e.
-              elim (decLe flat f) [
-                | yes k ↦ k
-                | no k ↦ absurd (not-outside (spot card f r) other (below f r (omega arith) hr) e)
-              ];
-        }
 
 -- the cells of the copies of an element that leads are its row
 pub copies-row : (card : Card) (flat : ℕ) → leader card flat ≡ flat → RowOf (placed card) flat (copyCells card flat)
@@ -149,28 +107,53 @@ claims-follow card y count {table} follows so-far = record {
 }
 
 -- element y's row is claimed after those of the smaller ones
-module _ (card : Card) (y newly count : ℕ) {row before after : List ℕ} (so-far : OwnedTable (placed card) y (cells card) before count)
-    (leads : leader card y ≡ y) (claim : ElementClaim card y newly row before after) where
-  is-row : RowOf (placed card) y row
-  is-row = rw (claim .placed) (copies-row card y leads)
-
+module _ (card : Card) (y newly count : ℕ) {before after : List ℕ} (so-far : OwnedTable (placed card) y (cells card) before count)
+    (leads : leader card y ≡ y) (claim : RowClaim (copyCells card y) y newly before after) where
   -- newly occupied cells are cells
   pub claims-count : length after ≡ cells card → count + newly ≤ cells card
-  claims-count size = omega (arith, so-far .counted, claim .claim .counted, occupied-most after)
+  claims-count size = omega (arith, so-far .counted, claim .counted, occupied-most after)
 
-  pub claims-more : Within row before → length after ≡ cells card → 0 < newly → OwnedTable (placed card) (y + 1) (cells card) after (count + newly)
+  pub claims-more : Within (copyCells card y) before → length after ≡ cells card → 0 < newly
+      → OwnedTable (placed card) (y + 1) (cells card) after (count + newly)
   claims-more within size some = record {
     size = size;
-    owners = claimed-owners (placed card) y before (so-far .owners) row is-row newly after (claim .claim) within some;
-    counted = omega (arith, so-far .counted, claim .claim .counted);
+    owners = claimed-owners (placed card) y before (so-far .owners) (copyCells card y) (copies-row card y leads) newly after claim within some;
+    counted = omega (arith, so-far .counted, claim .counted);
   }
 
-  -- it meets an owner: this is the first clash, and the table is as it was
-  pub claims-met : newly ≡ 0 → (0 < entryMet after row) × (after ≡ before)
-  claims-met e = let m = claim .claim .met e in (rw (m .1) (m .0), m .1)
+  -- it meets an owner: the table is as it was
+  pub claims-met : newly ≡ 0 → (0 < entryMet after (copyCells card y)) × (after ≡ before)
+  claims-met e = let m = claim .met e in (rw (m .1) (m .0), m .1)
 
-  pub claims-clash : y < elements card → newly ≡ 0
-      → FirstClash (placed card) (elements card) (entryMet after row - 1) y (cellMet after (entryMet after row) row - 1)
-  claims-clash h e =
-      rw (claims-met e .1)
-      (met-clash (placed card) y before (so-far .owners) row is-row newly after (claim .claim) (elements card) h e)
+-- an element that meets an owner is the first that clashes
+pub claims-clash : (card : Card) (y count : ℕ) {table : List ℕ} → OwnedTable (placed card) y (cells card) table count → leader card y ≡ y → y < elements card
+    → 0 < entryMet table (copyCells card y)
+    → FirstClash (placed card) (elements card) (entryMet table (copyCells card y) - 1) y (cellMet table (entryMet table (copyCells card y)) (copyCells card y) - 1)
+claims-clash card y count {table} so-far leads h met =
+    clash-first (placed card) y table (so-far .owners) (copyCells card y) (copies-row card y leads) (elements card) h met
+
+-- a row of one cell: where the cell has an owner nothing is claimed, else the entry is written
+met-one : (table : List ℕ) (c : ℕ) → entryMet table (c ∷ []) ≡ getD table c 0
+met-one table c = by (getD table c 0)
+  where
+    by : (n : ℕ) → minSome 0 n ≡ n
+    by zero = refl
+    by (suc n) = refl
+
+pub single-met : (row table : List ℕ) (f c : ℕ) → row ≡ c ∷ [] → (getD table c 0 ≡ 0 → ⊥) → RowClaim row f 0 table table
+single-met row table f c e taken = rw e (claim-none (c ∷ []) f table (omega (arith, met-one table c, taken)))
+
+pub single-claimed : (row table : List ℕ) (f c : ℕ) → row ≡ c ∷ [] → c < length table → getD table c 0 ≡ 0 → RowClaim row f 1 table (set table c (f + 1))
+single-claimed row table f c e h none =
+    rw e
+    (claim-all (c ∷ []) f 1 table (set table c (f + 1)) within (omega arith) (met-one table c ∙ none) refl
+    (omega (arith, occupied-set table c (f + 1) h, ap taken none, taken-owned (f + 1) (omega arith))))
+  where
+    within : Within (c ∷ []) table
+    within zero below = h
+    within (suc r) below = absurd (omega arith)
+
+-- the cells of an element that has one copy
+pub single-row : (card : Card) (flat : ℕ) → copies card ≡ 1 → copyCells card flat ≡ cellOf (spot card flat 0) ∷ []
+unfolding copyCells
+single-row card flat e = ap (cellsOf (spot card flat)) e

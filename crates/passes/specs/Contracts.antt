@@ -1,20 +1,26 @@
 -- What the functions inside promise each other: an admitted card, packed, and a row for the copies of one element.
 use mathlib.Core.Path.{_≡_}
 use mathlib.Core.List.{List}
-use Prim.Native.Nat.{ℕ, _<_}
-use lib.IntN.{ℤ}
+use Prim.Native.Nat.{ℕ, _+_, _*_, _≤_, _<_}
+use lib.IntN.{ℤ, pos, natAbs, _+ℤ_, _*ℤ_}
 use lib.ListN.{length}
+use lib.Seq.{slice}
 use Rattle.card.specs.Card.{elements, copies, cells}
-use Rattle.card.specs.Packed.{cardOf, Whole}
+use Rattle.card.specs.Packed.{cardOf, Whole, Admits}
 use Rattle.card.specs.declared.Card.{Card}
 use Rattle.card.specs.declared.Admission.the-variants.{Admitted}
+use Rattle.rules.specs.Rules.{part}
 use Rattle.rules.specs.Copies.{copyCells}
+use Rattle.linear.specs.Levels.{base}
+use Rattle.runs.specs.Contracts.{roomy, Adds, CopiesTo}
+use Rattle.runs.specs.declared.Place.{Place}
 use Rattle.rules.specs.Reuse.{leader}
 use Rattle.idle.specs.Admission.{fullAdmission}
-use Rattle.claims.specs.Rows.{RowClaim}
-use Rattle.judgement.specs.Judgement.{AllInside, FirstOutside}
-use Rattle.passes.specs.declared.Search.{Search}
-use Rattle.passes.specs.declared.Search.the-variants.{Outside, NoneOutside}
+use Rattle.claims.specs.Claims.{OwnedTable, occupied}
+use Rattle.claims.specs.Rows.{entryMet}
+use Rattle.judgement.specs.Judgement.{placed, AllInside}
+use Rattle.passes.specs.declared.Run.{Run}
+use Rattle.passes.specs.declared.Claimed.{Claimed}
 
 -- what a pass over the elements is lent: an admitted card, packed, how many elements it has, and a row as long as its copies
 pub record Pass (numbers : List ℕ) (strides : List ℤ) (count : ℕ) (row : List ℕ) : Type 0 where
@@ -23,11 +29,6 @@ pub record Pass (numbers : List ℕ) (strides : List ℤ) (count : ℕ) (row : L
   pub all-elements : count ≡ elements (cardOf numbers strides)
   pub one-each : length row ≡ copies (cardOf numbers strides)
 
--- what the first pass finds
-abbrev pub Finds : Card → Search → Type 0
-Finds card (Outside flat axis) = FirstOutside card (flat .0) axis
-Finds card NoneOutside = AllInside card
-
 -- an element can be claimed: every copy of every element lies in the space, the element leads, and the table has exactly the cells
 pub record Claimable (card : Card) (flat : ℕ) (table : List ℕ) : Type 0 where
   pub inside : AllInside card
@@ -35,7 +36,48 @@ pub record Claimable (card : Card) (flat : ℕ) (table : List ℕ) : Type 0 wher
   pub leads : leader card flat ≡ flat
   pub size : length table ≡ cells card
 
--- one element's claim: its row is placed, and claimed or not
-pub record ElementClaim (card : Card) (flat newly : ℕ) (row before after : List ℕ) : Type 0 where
-  pub placed : row ≡ copyCells card flat
-  pub claim : RowClaim row flat newly before after
+-- a packed card whose element begins at a place and can be claimed
+pub record Begun (numbers : List ℕ) (strides : List ℤ) (place : Place) (flat : ℕ) (table : List ℕ) : Type 0 where
+  pub admits : Admits numbers strides
+  pub claimable : Claimable (cardOf numbers strides) flat table
+  pub begins : Adds (slice 32 40 numbers) (base (cardOf numbers strides) flat) place
+
+-- what each copy adds, and a row as long as the copies
+pub record Rows (card : Card) (levels ms : List ℤ) (row : List ℕ) : Type 0 where
+  pub adds : CopiesTo card (copies card) (copies card) levels ms
+  pub one-each : length row ≡ copies card
+
+-- a run of elements that lead, each of which begins by so many steps after the first, and the table of the smaller elements
+pub record Running (numbers : List ℕ) (strides : List ℤ) (start step : Place) (run : Run) (table : List ℕ) : Type 0 where
+  pub admits : Admits numbers strides
+  pub inside : AllInside (cardOf numbers strides)
+  pub element : (c : ℕ) → c < run .length → run .first + c < elements (cardOf numbers strides)
+  pub leads : (c : ℕ) → c < run .length → leader (cardOf numbers strides) (run .first + c) ≡ run .first + c
+  pub begins : (c : ℕ) → c < run .length
+      → Adds (slice 32 40 numbers) (base (cardOf numbers strides) (run .first + c))
+      (record { level = start .level +ℤ pos c *ℤ step .level; m = start .m +ℤ pos c *ℤ step .m })
+  pub near : (natAbs (step .level) ≤ roomy) × (natAbs (step .m) ≤ roomy)
+  pub owned : OwnedTable (placed (cardOf numbers strides)) (run .first) (cells (cardOf numbers strides)) table (occupied table)
+
+-- what claiming it comes to: the table of the elements claimed too, and if one was not, it meets an owner
+pub record RunClaim (card : Card) (run : Run) (claimed : Claimed) (before after : List ℕ) : Type 0 where
+  pub most : claimed .elements ≤ run .length
+  pub owned : OwnedTable (placed card) (run .first + claimed .elements) (cells card) after (occupied before + claimed .cells)
+  pub met : claimed .elements < run .length → 0 < entryMet after (copyCells card (run .first + claimed .elements))
+
+-- an element that meets an owner
+pub record Met (numbers : List ℕ) (strides : List ℤ) (flat : ℕ) (row table : List ℕ) : Type 0 where
+  pub admits : Admits numbers strides
+  pub one-each : length row ≡ copies (cardOf numbers strides)
+  pub claimable : Claimable (cardOf numbers strides) flat table
+  pub meets : 0 < entryMet table (copyCells (cardOf numbers strides) flat)
+
+-- the elements are runs of this length, in each of which every sum grows by one step, and all elements of a run lead if the first does
+pub record RunsBy (card : Card) (length : ℕ) : Type 0 where
+  pub some : 1 ≤ length
+  pub few : length ≤ elements card
+  pub runs : ℕ
+  pub whole-runs : elements card ≡ runs * length
+  pub goes-on : (q c axis : ℕ) → c < length → base card (q * length + c) axis ≡ base card (q * length) axis +ℤ pos c *ℤ part (card .shard) 1 axis
+  pub lead : (q c : ℕ) → c < length → q * length + c < elements card → leader card (q * length) ≡ q * length → leader card (q * length + c) ≡ q * length + c
+  pub alone : (q : ℕ) → q * length < elements card → (leader card (q * length) ≡ q * length → ⊥) → length ≡ 1

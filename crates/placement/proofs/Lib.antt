@@ -1,3 +1,4 @@
 pub mod Elements
 pub mod Placings
+pub mod Rows
 pub mod Theorems

@@ -6,12 +6,12 @@ use card::Admission;
 use card::Card;
 use rules::Position;
 ghost use mathlib.Core.Path.{_≡_};
-ghost use Prim.Native.Nat.{_<_};
+ghost use Prim.Native.Nat.{_≤_, _<_};
+ghost use lib.ListN.{length, take};
 ghost use Rattle.card.specs.Packed.{beyond, cardOf, Whole, Admits};
 ghost use Rattle.card.specs.Card.{copies};
-ghost use Rattle.rules.specs.Copies.{outsideAxis};
 ghost use Rattle.placement.specs.Placement.{shapeAdmitted, Placing, placementNumbers};
-ghost use Rattle.placement.specs.Contracts.{Shaped, element};
+ghost use Rattle.placement.specs.Contracts.{Shaped, element, Placed};
 
 // The most dimensions of a shape.
 const MOST_DIMENSIONS: u64 = 8;
@@ -64,17 +64,35 @@ fn flatten(shape: Tuple, coordinates: Tuple) -> Found
     }
 }
 
-// Check 7 for one element: the smallest axis on which a copy lies outside, or AXES. The row is the
-// function's own, since a refusal touches nothing.
-fn outside_axis(numbers: &[u64; 56], strides: &[i64; 24], flat: Flat, end: usize) -> u64
-    requires { ⌜ Admits (now numbers) (now strides) × (end ≡ copies (cardOf (now numbers) (now strides))) ⌝ }
-    ensures { λ r. ⌜ r ≡ outsideAxis (cardOf (now (numbers .entry)) (now (strides .entry))) (flat .0) ⌝ }
+// Writes the first cells of a row.
+fn write(row: &[u32; 64], memory: &mut [u32])
+    requires { ⌜ (length (now row) ≡ 64) × (length (now memory) ≤ 64) ⌝ }
+    ensures { λ r. ⌜ now (memory .exit) ≡ take (length (now (memory .entry))) (now (row .entry)) ⌝ }
 {
-    let mut row = [0u32; card::MOST_COPIES as usize];
-    copies::place_row(numbers, strides, flat, &mut row[..end])
+    let mut k: usize = 0;
+    while k < memory.len() {
+        memory[k] = row[k];
+        k += 1;
+    }
 }
 
-// The placement of one element of a packed card. All copies are judged before the first is written.
+// Check 7 for one element, and its cells where it is passed: the smallest axis on which a copy lies
+// outside, or AXES. The row is the function's own, since a refusal touches nothing.
+fn place_copies(numbers: &[u64; 56], strides: &[i64; 24], flat: Flat, memory: &mut [u32]) -> u64
+    requires { ⌜ Admits (now numbers) (now strides) × (length (now memory) ≡ copies (cardOf (now numbers) (now strides))) ⌝ }
+    ensures { λ r. ⌜ Placed (cardOf (now (numbers .entry)) (now (strides .entry))) (flat .0) (now (memory .entry)) (now (memory .exit)) r ⌝ }
+{
+    let mut row = [0u32; card::MOST_COPIES as usize];
+    let end = memory.len();
+    let outside = copies::place_row(numbers, strides, flat, &mut row[..end]);
+    if outside < copies::AXES {
+        return outside;
+    }
+    write(&row, memory);
+    outside
+}
+
+// The placement of one element of a packed card.
 fn place_packed(
     numbers: &[u64; 56],
     strides: &[i64; 24],
@@ -102,11 +120,10 @@ fn place_packed(
         return Placement::Refused(Refusal::TooShort { needed: copies });
     }
     let end = copies as usize;
-    let axis = outside_axis(numbers, strides, flat, end);
+    let axis = place_copies(numbers, strides, flat, &mut memory[..end]);
     if axis < copies::AXES {
         return Placement::Refused(Refusal::CopyOutside { flat, axis });
     }
-    copies::place_row(numbers, strides, flat, &mut memory[..end]);
     Placement::Copies(copies)
 }
 

@@ -5,17 +5,24 @@ ghost use lib.ListN.{take};
 ghost use Rattle.card.specs.Lists.{product};
 ghost use Rattle.card.specs.Packed.{beyond};
 
-// A whole product, told apart below BEYOND: no factor is too large, and nothing wraps.
+// A whole product, told apart below BEYOND: no factor is too large, and nothing wraps. Two factors of
+// 32 bits fit a word, so that nothing has to be divided.
 fn times(a: u64, b: u64) -> u64
+    requires { ⌜ a ≤ beyond ⌝ }
     ensures { λ r. ⌜ r ≡ min (a * b) beyond ⌝ }
 {
-    if b == 0 {
-        return 0;
-    }
-    if card::BEYOND / b < a {
+    if card::BEYOND <= b {
+        if a == 0 {
+            return 0;
+        }
         return card::BEYOND;
     }
-    a * b
+    let whole = a * b;
+    if whole < card::BEYOND {
+        whole
+    } else {
+        card::BEYOND
+    }
 }
 
 // The whole product of the first `count` numbers, told apart below BEYOND. Public, with a

@@ -1,7 +1,6 @@
 -- A card whose far ends lie inside lies inside: every coordinate is from 0 to below its length, and on m the swizzle keeps the block of each address.
-use mathlib.Core.Path.{_≡_, refl, sym, ap, _∙_}
+use mathlib.Core.Path.{_≡_, refl, sym, _∙_}
 use mathlib.Core.Bool.{Bool, true, false}
-use mathlib.Core.List.{List, map}
 use Prim.Native.Nat.{ℕ, _+_, _*_, _/_, _^_, _≤_, _<_}
 use native.Mathlib.Nat.{div-lt-iff-lt-mul, div-add-mod'}
 use lib.Pow.{pow-pos}
@@ -25,7 +24,7 @@ use Rattle.rules.proofs.Theorems.{coordinate-at}
 use Rattle.judgement.specs.Judgement.{LiesInside, AllInside}
 use Rattle.reach.specs.Ends.{endSum, wholeBlocks}
 use Rattle.reach.specs.Stays.{Stays}
-use Rattle.reach.proofs.Parts.{parts-sum, whole}
+use Rattle.laws.proofs.Parts.{parts-sum, whole}
 use Rattle.reach.proofs.Reach.{part-most, part-least}
 
 -- the two parts of a sum further up, the sum further up
@@ -52,7 +51,7 @@ coordinate-below (pos m) n l h = omega whole
 coordinate-below (negsuc m) n l h = absurd (omega whole)
 
 -- and a swizzled one below whole blocks stays below them
-blocks-kept : (M B S m length : ℕ) → m < wholeBlocks length (2 ^ (M + B)) → swizzled M B S m < length
+pub blocks-kept : (M B S m length : ℕ) → m < wholeBlocks length (2 ^ (M + B)) → swizzled M B S m < length
 blocks-kept M B S m length h =
     let b = 2 ^ (M + B) in
     let some : 0 < b = pow-pos (M + B) in

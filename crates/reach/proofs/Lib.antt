@@ -1,4 +1,3 @@
-pub mod Parts
 pub mod Reach
 pub mod Inside
 pub mod Packed

@@ -2,23 +2,27 @@
 use mathlib.Core.Path.{_≡_, sym}
 use mathlib.Core.Bool.{true, false, and-eq-true-iff}
 use mathlib.Core.List.{List}
-use Prim.Native.Nat.{ℕ, _+_, _≤_, _<_}
+use Prim.Native.Nat.{ℕ, _+_, _^_, _≤_, _<_}
+use native.Mathlib.Nat.{div-add-mod'}
 use native.Mathlib.Decide.{ℕ-discrete}
 use native.Mathlib.Omega.{arith}
 use lib.Dec.{leb}
 use lib.IntN.{ℤ}
 use lib.ListN.{getD}
-use lib.Seq.{slice}
 use Rattle.swizzle.proofs.Laws.{permitted-numbers}
 use Rattle.card.specs.Lists.{all, within, product}
 use Rattle.card.specs.Limits.{lastAxis, mostLength, mostCells}
-use Rattle.card.specs.Packed.{cardOf, Admits}
+use Rattle.card.specs.Packed.{beyond, cardOf, Admits}
 use Rattle.card.specs.declared.Card.{Card}
 use Rattle.card.proofs.Lists.{all-at, within-numbers}
 use Rattle.card.proofs.Admitted.{Checked, checked}
 use Rattle.card.proofs.ReadBack.{slice-at, eight-lengths}
 use Rattle.reach.specs.Stays.{Stays}
-use Rattle.reach.specs.Contracts.{EndSums, Between, Spaced}
+use Rattle.reach.specs.Contracts.{EndSums, blocksOf, Between, Spaced}
+
+-- whole blocks are no more than their length
+pub few-blocks : {numbers : List ℕ} → Spaced numbers → blocksOf numbers ≤ beyond
+few-blocks {numbers} s = omega (arith, div-add-mod' (getD numbers 39 0) (2 ^ (getD numbers 42 0 + getD numbers 43 0)), s .short 7 (omega arith))
 
 module _ (numbers : List ℕ) (strides : List ℤ) (a : Admits numbers strides) where
   abbrev card : Card
@@ -27,10 +31,10 @@ module _ (numbers : List ℕ) (strides : List ℤ) (a : Admits numbers strides) 
   passed : Checked card
   passed = checked card (a .admitted)
 
-  length-at : (axis : ℕ) → axis < 8 → getD (card .lengths) axis 0 ≡ getD numbers (32 + axis) 0
+  pub length-at : (axis : ℕ) → axis < 8 → getD (card .lengths) axis 0 ≡ getD numbers (32 + axis) 0
   length-at axis h = slice-at numbers 32 40 0 axis (omega arith)
 
-  length-short : (axis : ℕ) → axis < 8 → getD (card .lengths) axis 0 ≤ mostLength
+  pub length-short : (axis : ℕ) → axis < 8 → getD (card .lengths) axis 0 ≤ mostLength
   length-short axis h =
       let both = and-eq-true-iff (all (within 1 mostLength) (card .lengths)) (leb (product (card .lengths)) mostCells) .0 (passed .space) in
       within-numbers 1 mostLength (getD (card .lengths) axis 0)

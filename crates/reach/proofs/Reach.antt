@@ -7,7 +7,7 @@ use Prim.Native.Nat.{ℕ, suc, _+_, _*_, _-_, _≤_, _<_}
 use native.Mathlib.Nat.{mul-le-mul-right}
 use native.Mathlib.Omega.{arith}
 use borrow.Author.Tests.{lt-ltb, le-leb}
-use lib.Dec.{eqb, ltb}
+use lib.Dec.{eqb}
 use lib.IntN.{ℤ, pos, negsuc, _+ℤ_, _*ℤ_}
 use lib.Signed.{_≤ℤ_, leZ, ≤ℤ-refl}
 use Rattle.card.specs.Lists.{all, within, product}
@@ -21,7 +21,7 @@ use Rattle.rules.specs.Rules.{added, part}
 use Rattle.rules.proofs.RowMajor.{inside-parts, components-inside}
 use Rattle.rules.proofs.Reuse.{components-back}
 use Rattle.reach.specs.Ends.{farEnd, ends, endIndex}
-use Rattle.reach.proofs.Parts.{parts-sum, parts-times, whole}
+use Rattle.laws.proofs.Parts.{parts-sum, parts-times, whole}
 
 -- one component
 times-most : (c : ℕ) (iter : Iter) → c < iter .extent → (pos c *ℤ iter .stride) ≤ℤ (pos (farEnd true iter) *ℤ iter .stride)

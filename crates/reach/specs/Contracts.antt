@@ -22,10 +22,14 @@ pub record EndSums (card : Card) (up : Bool) (sums : List ℤ) : Type 0 where
   pub eight : length sums ≡ 8
   pub there : (axis : ℕ) → axis < 8 → getD sums axis (pos 0) ≡ endSum up card axis
 
+-- the whole blocks of m's length
+abbrev pub blocksOf : List ℕ → ℕ
+blocksOf numbers = wholeBlocks (getD numbers 39 0) (2 ^ (getD numbers 42 0 + getD numbers 43 0))
+
 -- m from 0 to below whole blocks
 pub record MBetween (low high : ℤ) (numbers : List ℕ) : Type 0 where
   pub from-zero : pos 0 ≤ℤ low
-  pub below : high <ℤ pos (wholeBlocks (getD numbers 39 0) (2 ^ (getD numbers 42 0 + getD numbers 43 0)))
+  pub below : high <ℤ pos (blocksOf numbers)
 
 -- the sums low and high lie inside the lengths of a packed card, on m inside whole blocks
 pub record Between (low high : List ℤ) (numbers : List ℕ) : Type 0 where

@@ -1,12 +1,11 @@
-// Whether a card's far ends lie inside the space: then all of it does.
+// The far ends of a card, and whether they lie inside the space: then all of it does.
 ghost use mathlib.Core.Path.{_≡_};
 ghost use mathlib.Core.Bool.{true};
 ghost use Prim.Native.Nat.{_≤_};
 ghost use lib.ListN.{length};
 ghost use Rattle.card.specs.Packed.{itersOf, cardOf, Admits};
-ghost use Rattle.judgement.specs.Judgement.{AllInside};
 ghost use Rattle.reach.specs.Ends.{farEnd, endIndex};
-ghost use Rattle.reach.specs.Contracts.{Indexed, EndSums, MBetween, Between, Spaced};
+ghost use Rattle.reach.specs.Contracts.{Indexed, EndSums, blocksOf, MBetween, Between, Spaced};
 
 // The axis m, the last.
 const M: usize = card::LAST_AXIS as usize;
@@ -41,8 +40,9 @@ fn end_index(numbers: &[u64; 56], strides: &[i64; 24], list: usize, up: bool) ->
     index
 }
 
-// The sums at a far end of a card: those of the copy that lies there, before the swizzle.
-fn end_sums(numbers: &[u64; 56], strides: &[i64; 24], up: bool) -> [i64; 8]
+// The sums at a far end of a card: those of the copy that lies there, before the swizzle. Public, with a
+// requires, for the crate above.
+pub fn end_sums(numbers: &[u64; 56], strides: &[i64; 24], up: bool) -> [i64; 8]
     requires { ⌜ Admits (now numbers) (now strides) ⌝ }
     ensures { λ r. ⌜ EndSums (cardOf (now (numbers .entry)) (now (strides .entry))) up r ⌝ }
 {
@@ -54,18 +54,27 @@ fn end_sums(numbers: &[u64; 56], strides: &[i64; 24], up: bool) -> [i64; 8]
     sums
 }
 
-// Whether m between two sums lies inside whole blocks, which no swizzle leaves.
+// The whole blocks of m's length, which no swizzle leaves. Public, with a requires, for the crate above.
+pub fn whole_blocks(numbers: &[u64; 56]) -> u64
+    requires { ⌜ Spaced (now numbers) ⌝ }
+    ensures { λ r. ⌜ r ≡ blocksOf (now (numbers .entry)) ⌝ }
+{
+    let bits = numbers[card::M] + numbers[card::B];
+    (numbers[card::LENGTHS + M] >> bits) << bits
+}
+
+// Whether m between two sums lies inside whole blocks.
 fn m_between(low: i64, high: i64, numbers: &[u64; 56]) -> bool
     requires { ⌜ Spaced (now numbers) ⌝ }
     ensures { λ r. ⌜ (r ≡ true → MBetween low high (now (numbers .entry))) ⌝ }
 {
-    let bits = numbers[card::M] + numbers[card::B];
-    let whole = (numbers[card::LENGTHS + M] >> bits) << bits;
+    let whole = whole_blocks(numbers);
     (0 <= low) & (high < whole as i64)
 }
 
-// Whether the far ends lie inside the lengths.
-fn between(low: &[i64; 8], high: &[i64; 8], numbers: &[u64; 56]) -> bool
+// Whether the far ends lie inside the lengths: then all of the card does. Public, with a requires, for the
+// crate above.
+pub fn between(low: &[i64; 8], high: &[i64; 8], numbers: &[u64; 56]) -> bool
     requires { ⌜ (length (now low) ≡ 8) × (length (now high) ≡ 8) × Spaced (now numbers) ⌝ }
     ensures { λ r. ⌜ (r ≡ true → Between (now (low .entry)) (now (high .entry)) (now (numbers .entry))) ⌝ }
 {
@@ -78,15 +87,4 @@ fn between(low: &[i64; 8], high: &[i64; 8], numbers: &[u64; 56]) -> bool
         axis += 1;
     }
     m_between(low[M], high[M], numbers)
-}
-
-// Whether the far ends of an admitted card lie inside, so that no copy lies outside. Public, with a
-// requires, for the crate above.
-pub fn stays_inside(numbers: &[u64; 56], strides: &[i64; 24]) -> bool
-    requires { ⌜ Admits (now numbers) (now strides) ⌝ }
-    ensures { λ r. ⌜ (r ≡ true → AllInside (cardOf (now (numbers .entry)) (now (strides .entry)))) ⌝ }
-{
-    let low = end_sums(numbers, strides, false);
-    let high = end_sums(numbers, strides, true);
-    between(&low, &high, numbers)
 }

@@ -1,12 +1,11 @@
 -- What a walk over a list of a packed card's iters relies on. Nothing here has to be believed.
-use Prim.Native.Nat.{ℕ, _*_, _^_, _≤_}
+use Prim.Native.Nat.{ℕ, _+_, _*_, _^_, _≤_}
 use mathlib.Core.Path.{_≡_}
 use mathlib.Core.Bool.{true}
 use mathlib.Core.List.{List}
 use lib.IntN.{ℤ, pos, natAbs}
 use lib.ListN.{length, getD}
-use Rattle.card.specs.Limits.{mostExtent}
-use Rattle.card.specs.Packed.{farthest, itersOf, ListOf}
+use Rattle.card.specs.Packed.{itersOf, ListOf}
 use Rattle.card.specs.Admission.{itersFit, itersOnAxes}
 
 -- how far from zero the sums before a walk are at most, with room to spare
@@ -25,6 +24,5 @@ pub record Sums (sums : List ℤ) : Type 0 where
 
 -- a sum, a component and a stride whose product can be added to the sum
 pub record Steps (sum : ℤ) (component : ℕ) (stride : ℤ) : Type 0 where
-  pub small-sum : natAbs sum ≤ 2 * roomy
-  pub small-component : component ≤ mostExtent
-  pub small-stride : natAbs stride ≤ farthest
+  pub small-component : component ≤ 2 ^ 32
+  pub room : natAbs sum + component * natAbs stride ≤ 2 ^ 62

@@ -5,8 +5,9 @@ ghost use Rattle.card.specs.Packed.{itersOf};
 ghost use Rattle.rules.specs.Walked.{walked};
 ghost use Rattle.sums.specs.Walks.{Walkable, Sums, Steps};
 
-// A sum with a component times its stride.
-fn step(sum: i64, component: u64, stride: i64) -> i64
+// A sum with a component times its stride, or a weight times a number. Public, with a requires, for the
+// crates above.
+pub fn step(sum: i64, component: u64, stride: i64) -> i64
     requires { ⌜ Steps sum component stride ⌝ }
     ensures { λ r. ⌜ r ≡ sum +ℤ pos component *ℤ stride ⌝ }
 {

@@ -1,21 +1,22 @@
--- `passes::judge_passes` is the first pass and then the second, in the cleared cells.
+-- `passes::judge_passes` looks for what lies outside, and then makes the pass, in the cleared cells.
 use Prim.Native.Nat.{ℕ}
 use mathlib.Core.Path.{_≡_, ap, _∙_}
 use lib.ListN.{replicate}
 use Rattle.card.specs.Card.{cells}
 use Rattle.card.specs.declared.Card.{Card}
 use Rattle.card.specs.Packed.{cardOf}
+use Rattle.passes.proofs.Laws.{admits}
 use Rattle.passes.proofs.Promises.{outside-promise, cells-anew}
 use borrow.Author.Needs.{needs}
 use Rattle.passes.proofs.judge_passes.Statement.{statement}
 use Rattle.passes.proofs.judge_passes.Tie as tie
 
--- the function's start from the first pass, and the card
+-- the function's start from the search, and the card
 abbrev start : tie.After-clear → tie.Start
 start k = k .before .before .before .before
 
 abbrev clearing : tie.After-find-outside → tie.After-clear
-clearing p = p .before .before .before .before
+clearing p = p .before .before .before
 
 abbrev card : tie.Start → Card
 card s =
@@ -28,7 +29,7 @@ is-cleared k = k .clear .ensures ∙ ap (λ (n : ℕ). replicate n 0) (start k .
 
 returns : tie.Need-returns
 returns c =
-    let p = c .before .before .before .before .before in
+    let p = c .before .before .before in
     let k = clearing p in
     let s = start k in
     let first = rw (c .before .search .given .1) at (p .find-outside .ensures) in
@@ -36,27 +37,19 @@ returns c =
 
 claim-all-requires : tie.Need-claim-all-requires
 claim-all-requires c κs =
-    let p = c .before .before .before .before .before .before in
+    let p = c .before .before .before .before in
     let k = clearing p in
-    let s = start k in (
-      record {
-        whole = s .pre .0 .whole;
-        admitted = s .pre .0 .admitted;
-        all-elements = s .pre .0 .all-elements;
-        one-each = p .find-outside .kept .1 .1 .1 .0 ∙ s .pre .0 .one-each;
-      },
-      (rw (c .before .before .enum-told .given .1) at (p .find-outside .ensures), is-cleared k),
-    )
+    (start k .pre .0, (rw (c .before .before .enum-told .given .1) at (p .find-outside .ensures), is-cleared k))
 
 returns-2 : tie.Need-returns-2
 returns-2 c =
     let m = c .before .before .before .before in
-    let k = clearing (m .before .before .before .before .before .before .before) in
+    let k = clearing (m .before .before .before .before .before) in
     let s = start k in
     cells-anew (card s) (s .args .table .now) (k .clear .last .0) (s .pre .0 .admitted) (s .pre .1) (k .clear .kept .0 ∙ s .pre .1) (m .claim-all .ensures)
 
 pub judge-passes-spec : {M : Type 1} → statement M
 judge-passes-spec =
     tie.close
-    (tie.spec (λ c κs. search needs) (λ c κs. search needs) (λ c. search needs) (λ c. search needs) (λ c. search needs) returns (λ c. search needs)
+    (tie.spec (λ c κs. search needs) (λ c κs. admits (start (c .before .before) .pre .0)) (λ c. search needs) (λ c. search needs) returns (λ c. search needs)
     claim-all-requires (λ c. search needs) (λ c. search needs) returns-2)

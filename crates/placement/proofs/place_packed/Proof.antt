@@ -6,7 +6,7 @@ use mathlib.Core.Bool.{true}
 use mathlib.Core.List.{List, _++_}
 use borrow.Author.Needs.{needs}
 use borrow.Author.Tests.{not-true, not-false}
-use lib.ListN.{length, getD, take, drop}
+use lib.ListN.{getD, drop, take-append-drop}
 use lib.Seq.{length-take-le}
 use Rattle.answers.specs.declared.Flat.{Flat}
 use Rattle.card.specs.Card.{elements, copies}
@@ -14,8 +14,6 @@ use Rattle.card.specs.Packed.{cardOf, Admits}
 use Rattle.card.specs.declared.Card.{Card}
 use Rattle.card.specs.declared.Admission.the-variants.{Admitted}
 use Rattle.card.proofs.Admitted.{sized, measured}
-use Rattle.rules.specs.Rules.{spot}
-use Rattle.rules.specs.Copies.{cellsOf, copyCells}
 use Rattle.idle.specs.Admission.{fullAdmission}
 use Rattle.idle.proofs.Theorems.{checks-passed}
 use Rattle.placement.specs.Placement.{shapeAdmitted, coordinatesFit, flatten}
@@ -111,45 +109,45 @@ returns-4 c =
     too-short (asked s) (s .args .shape) (s .args .coordinates) (s .args .memory .now) (admitted e) (shape-fits (shape-of k)) (flat-of k) (name-it k)
     _ (is-copies e) (c .if2 .taken)
 
-outside-axis-requires : tie.Need-outside-axis-requires
-outside-axis-requires c κs = let e = told (c .before .before) in (admits e, is-copies e)
+slice-aggregate-place-copies : tie.Need-slice-aggregate-place-copies
+slice-aggregate-place-copies c =
+    let two = c .before in
+    sym (length-take-le _ (start (told (two .before .before)) .args .memory .now) (two .if2 .left))
+
+place-copies-requires : tie.Need-place-copies-requires
+place-copies-requires c κs =
+    let two = c .before in
+    let e = told (two .before .before) in
+    (admits e, length-take-le _ (start e .args .memory .now) (two .if2 .left) ∙ is-copies e)
 
 returns-5 : tie.Need-returns-5
 returns-5 c =
-    let two = c .before .before in
-    let k = two .before .before in
-    let e = told k in
-    let s = start e in
-    lies-outside (asked s) (s .args .shape) (s .args .coordinates) (s .args .memory .now) (admitted e) (shape-fits (shape-of k)) (flat-of k) (name-it k)
-    _ (c .before .outside-axis .result) (is-copies e) (two .if2 .left) (c .before .outside-axis .ensures) (c .if3 .taken)
-
-slice-aggregate-place-row : tie.Need-slice-aggregate-place-row
-slice-aggregate-place-row c =
-    let two = c .before .before .before in
-    sym (length-take-le _ (start (told (two .before .before)) .args .memory .now) (two .if2 .left))
-
-place-row-requires : tie.Need-place-row-requires
-place-row-requires c κs = admits (told (c .before .before .before .before .before))
-
-returns-6 : tie.Need-returns-6
-unfolding copyCells
-returns-6 c =
-    let p = c .before .before in
-    let d = p .before .before in
-    let two = d .before .before in
+    let p = c .before .before .before in
+    let two = p .before .before in
     let k = two .before .before in
     let e = told k in
     let s = start e in
     let n = getD (s .args .numbers .now) 46 0 in
-    let long : length (take n (s .args .memory .now)) ≡ n = length-take-le n (s .args .memory .now) (two .if2 .left) in
+    let memory = s .args .memory .now in
+    rw (ap (λ (l : List ℕ). l ++ drop n memory) (p .place-copies .ensures .refused (c .if3 .taken)) ∙ take-append-drop n memory)
+    (lies-outside (asked s) (s .args .shape) (s .args .coordinates) memory (admitted e) (shape-fits (shape-of k)) (flat-of k) (name-it k)
+    n (p .place-copies .result) (is-copies e) (two .if2 .left) (p .place-copies .ensures .smallest-axis) (c .if3 .taken))
+
+returns-6 : tie.Need-returns-6
+returns-6 c =
+    let p = c .before .before .before in
+    let two = p .before .before in
+    let k = two .before .before in
+    let e = told k in
+    let s = start e in
+    let n = getD (s .args .numbers .now) 46 0 in
     copied (asked s) (s .args .shape) (s .args .coordinates) (s .args .memory .now) (admitted e) (shape-fits (shape-of k)) (flat-of k) (name-it k)
-    n (d .before .outside-axis .result) (is-copies e) (two .if2 .left) (d .before .outside-axis .ensures) (d .if3 .left)
-    (ap (λ (l : List ℕ). l ++ drop n (s .args .memory .now))
-    (p .place-row .ensures .cells ∙ ap (cellsOf (spot (asked s) (flat-of k .0))) (long ∙ is-copies e)))
+    n (p .place-copies .result) (is-copies e) (two .if2 .left) (p .place-copies .ensures .smallest-axis) (c .if3 .left)
+    (ap (λ (l : List ℕ). l ++ drop n (s .args .memory .now)) (p .place-copies .ensures .placed (c .if3 .left)))
 
 pub place-packed-spec : {M : Type 1} → statement M
 place-packed-spec =
     tie.close
     (tie.spec (λ c κs. search needs) (λ c. search needs) returns (λ c. search needs) (λ c. search needs) is-admitted-requires returns-2
-    flatten-requires (λ c. search needs) (λ c. search needs) returns-3 (λ c. search needs) returns-4 outside-axis-requires returns-5
-    (λ c. search needs) slice-aggregate-place-row place-row-requires (λ c. search needs) returns-6)
+    flatten-requires (λ c. search needs) (λ c. search needs) returns-3 (λ c. search needs) returns-4 (λ c. search needs)
+    slice-aggregate-place-copies place-copies-requires (λ c. search needs) returns-5 (λ c. search needs) returns-6)

@@ -1,23 +1,27 @@
--- `products::times` is the capped product: what goes into the cap fewer than a times is beyond it, and the rest does not wrap.
-use Prim.Native.Nat.{ℕ, _*_, min}
+-- `products::times` is the capped product: a factor from the cap on makes a product from the cap on, unless the other is 0, and two below fit a word.
+use Prim.Native.Nat.{ℕ, _*_, _-_, min}
 use mathlib.Core.Path.{ap}
+use native.Mathlib.Nat.{mul-le-mul}
 use native.Mathlib.Omega.{arith}
-use Rattle.laws.proofs.Capped.{capped-above, capped-within}
+use borrow.Author.Needs.{needs}
 use Rattle.card.specs.Packed.{beyond}
 use Rattle.products.proofs.times.Statement.{statement}
 use Rattle.products.proofs.times.Tie as tie
 
 returns : tie.Need-returns
-returns c = let b = c .before .args in omega (arith, ap (λ (n : ℕ). min (b .a * n) beyond) (c .if1 .taken))
+returns c = let a = c .before .before .args in omega (arith, ap (λ (n : ℕ). min (n * a .b) beyond) (c .if2 .taken))
 
 returns-2 : tie.Need-returns-2
-returns-2 c = capped-above beyond (c .before .before .args .a) (c .before .before .args .b) (omega arith) (c .if2 .taken)
+returns-2 c =
+    let a = c .before .before .args in
+    let more = mul-le-mul {n₁ = 1} {m₁ = beyond} {n₂ = a .a} {m₂ = a .b} (omega arith) (omega arith) in
+    omega arith
 
-mul-result : tie.Need-mul-result
-mul-result c = omega (arith, capped-within beyond (c .before .before .args .a) (c .before .before .args .b) (c .if2 .left))
-
-returns-3 : tie.Need-returns-3
-returns-3 c = omega (arith, capped-within beyond (c .before .before .args .a) (c .before .before .args .b) (c .if2 .left))
+mul-whole : tie.Need-mul-whole
+mul-whole c =
+    let a = c .before .args in
+    let few = mul-le-mul {n₁ = a .a} {m₁ = a .b} {n₂ = beyond} {m₂ = beyond - 1} (c .before .pre) (omega arith) in
+    omega arith
 
 pub times-spec : {M : Type 1} → statement M
-times-spec = tie.close (tie.spec returns (λ c. omega arith) returns-2 mul-result returns-3)
+times-spec = tie.close (tie.spec returns returns-2 mul-whole (λ c. search needs) (λ c. search needs))

@@ -13,7 +13,7 @@ use mir.Syntax.{w64}
 use mir.Val.{toZ}
 use mir.Facts.{toZ-ofZ, toZ-pos}
 use Rattle.laws.proofs.Signed.{far-fits}
-use Rattle.reach.proofs.Parts.{leZ-false, ltZ-false}
+use Rattle.laws.proofs.Parts.{leZ-false, ltZ-false}
 use Rattle.reach.proofs.between.Statement.{statement}
 use Rattle.reach.proofs.between.Tie as tie
 

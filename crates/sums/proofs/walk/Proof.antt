@@ -1,6 +1,6 @@
 -- `sums::walk` adds to each axis what the iters add there: each turn passes one iter more, from the last.
 use Prim.Native.Nat.{ℕ, _+_, _*_, _-_, _≤_}
-use native.Mathlib.Nat.{le-refl}
+use native.Mathlib.Nat.{le-refl, mul-le-mul}
 use native.Mathlib.Omega.{arith}
 use mathlib.Core.Path.{_≡_, _∙_, subst}
 use mathlib.Core.List.{List, map}
@@ -12,7 +12,8 @@ use mir.Val.{toZ, ofZ}
 use mir.Facts.{toZ-ofZ}
 use Rattle.laws.proofs.Signed.{sum-far}
 use Rattle.card.specs.declared.Iter.{Iter}
-use Rattle.card.specs.Packed.{slots, iterAt}
+use Rattle.card.specs.Limits.{mostExtent}
+use Rattle.card.specs.Packed.{farthest, slots, iterAt}
 use Rattle.rules.specs.Walked.{walked}
 use Rattle.sums.specs.Walks.{roomy}
 use Rattle.rules.proofs.Along.{along, Walking, walking-none, walking-more, walked-all}
@@ -86,8 +87,12 @@ rem-step c = turn (c .before .before .before) .some-extent
 step-requires : tie.Need-step-requires Inv-loop μ-loop
 step-requires c κs =
     let d = called c in
+    let small = component-small (d .before .loop .rest) (met d) (turn d) in
     rw (sum-back c, stride-back c)
-    (record { small-sum = sum-so-far d; small-component = component-small (d .before .loop .rest) (met d) (turn d); small-stride = turn d .most-stride })
+    (record {
+      small-component = omega (arith, small);
+      room = omega (arith, sum-so-far d, mul-le-mul {n₂ = mostExtent} {m₂ = farthest} small (turn d .most-stride));
+    })
 
 mul-sum : tie.Need-mul-sum Inv-loop μ-loop
 mul-sum c = let t = turn (c .before .before .before .before .before) in omega (arith, t .an-axis)

@@ -1,0 +1,4 @@
+pub mod Ends
+pub mod Straying
+pub mod Steps
+pub mod Packed

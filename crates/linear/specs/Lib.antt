@@ -1,0 +1,4 @@
+pub mod Runs
+pub mod Levels
+pub mod Reaching
+pub mod Leaving

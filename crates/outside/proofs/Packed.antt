@@ -1,0 +1,49 @@
+-- The far ends of a packed card are those that the search on an axis asks for.
+use mathlib.Core.List.{List}
+use Prim.Native.Nat.{ℕ, _+_, _≤_, _<_}
+use native.Mathlib.Omega.{arith}
+use lib.IntN.{ℤ, pos}
+use lib.ListN.{length, getD}
+use Rattle.card.specs.Limits.{lastAxis}
+use Rattle.card.specs.Card.{elements}
+use Rattle.card.specs.Packed.{beyond, cardOf}
+use Rattle.card.proofs.Admitted.{Sized, sized}
+use Rattle.linear.specs.Leaving.{Sought, Leaves}
+use Rattle.reach.specs.Contracts.{blocksOf}
+use Rattle.reach.proofs.Packed.{length-at, spaced}
+use Rattle.extremes.specs.Straying.{Strays}
+use Rattle.extremes.specs.Contracts.{Ended as EndedOn}
+use Rattle.doubt.specs.Contracts.{Between}
+use Rattle.outside.specs.Outside.{Ended}
+use Rattle.outside.proofs.Words.{strays-leaves, leaves-strays}
+
+module _ {numbers : List ℕ} {strides low high : List ℤ} (e : Ended numbers strides low high) where
+  pub ended-on : (axis bound : ℕ) → axis < 8 → bound ≤ beyond → EndedOn numbers strides axis bound (getD low axis (pos 0)) (getD high axis (pos 0))
+  ended-on axis bound h short = record {
+    admits = e .admits;
+    short = short;
+    low-there = e .low-there .there axis h;
+    high-there = e .high-there .there axis h;
+  }
+
+  pub short-length : (axis : ℕ) → axis < 8 → getD numbers (32 + axis) 0 ≤ beyond
+  short-length axis h = spaced numbers strides (e .admits) .short axis h
+
+  pub sizes : Sized (cardOf numbers strides)
+  sizes = sized (cardOf numbers strides) (e .admits .admitted)
+
+  -- on an axis other than m the first that strays from its length is the first that leaves
+  pub leaves-on : (axis flat : ℕ) → axis < lastAxis → Sought (Strays (cardOf numbers strides) axis (getD numbers (32 + axis) 0)) (elements (cardOf numbers strides)) flat
+      → Sought (λ f. Leaves (cardOf numbers strides) f axis) (elements (cardOf numbers strides)) flat
+  leaves-on axis flat h s =
+      strays-leaves (cardOf numbers strides) axis (elements (cardOf numbers strides)) flat h (rw (length-at numbers strides (e .admits) axis (omega arith)) s)
+
+  -- and on m none leaves before the first that strays from the whole blocks
+  pub none-before : (from limit : ℕ) → limit ≤ elements (cardOf numbers strides)
+      → Sought (Strays (cardOf numbers strides) lastAxis (blocksOf numbers)) (elements (cardOf numbers strides)) from → Between numbers strides from limit
+  none-before from limit few s = record {
+    most = few;
+    none-before = λ f h l.
+        let strays = rw (length-at numbers strides (e .admits) lastAxis (omega arith)) at (leaves-strays (cardOf numbers strides) f l) in
+        omega (arith, s .least f (omega (arith, s .most)) strays);
+  }

@@ -1,0 +1,69 @@
+-- `outside::first_of_all` looks at m before the element found so far, from the first on that reaches beyond the whole blocks.
+use mathlib.Core.Path.{subst}
+use Prim.Native.Nat.{ℕ, _/_, _≤_}
+use native.Mathlib.Omega.{arith}
+use borrow.Author.Needs.{needs}
+use lib.IntN.{pos}
+use lib.ListN.{getD}
+use mir.Syntax.{w64}
+use mir.Facts.{toZ-ofZ}
+use Rattle.card.specs.Limits.{lastAxis}
+use Rattle.card.specs.Card.{elements}
+use Rattle.card.specs.Packed.{cardOf}
+use Rattle.card.specs.declared.Card.{Card}
+use Rattle.linear.specs.Leaving.{Sought}
+use Rattle.reach.proofs.Packed.{spaced, few-blocks}
+use Rattle.extremes.specs.Straying.{Strays}
+use Rattle.outside.proofs.Words.{word-m}
+use Rattle.outside.proofs.Packed.{ended-on, sizes, none-before}
+use Rattle.outside.proofs.first_of_all.Statement.{statement}
+use Rattle.outside.proofs.first_of_all.Tie as tie
+
+abbrev start : tie.After-whole-blocks → tie.Start
+start c = c .before .before
+
+abbrev card : tie.Start → Card
+card s = cardOf (s .args .numbers .now) (s .args .strides .now)
+
+first-astray-requires : tie.Need-first-astray-requires
+first-astray-requires c κs =
+    let w = c .before .before in
+    let s = start w in
+    let a = s .args in
+    rw (
+      toZ-ofZ {w = w64} {z = getD (a .low .now) lastAxis (pos 0)} (record { sfits = c .before .first-astray-arg .given }),
+      toZ-ofZ {w = w64} {z = getD (a .high .now) lastAxis (pos 0)} (record { sfits = c .first-astray-arg2 .given }),
+    )
+    (ended-on (s .pre) lastAxis (w .whole-blocks .result) (omega arith)
+    (omega (arith, w .whole-blocks .ensures, few-blocks (spaced (a .numbers .now) (a .strides .now) (s .pre .admits)))))
+
+-- the elements before the one found so far
+few : (w : tie.After-whole-blocks) → w .before .first-on-axes .result / 8 ≤ elements (card (start w))
+few w = omega (arith, w .before .first-on-axes .ensures .most)
+
+first-leaving-requires : tie.Need-first-leaving-requires
+first-leaving-requires c κs =
+    let w = c .before .before .before in
+    let s = start w in (
+      s .pre .admits,
+      none-before (s .pre) (c .first-astray .result) (w .before .first-on-axes .result / 8) (few w)
+          (subst (λ (n : ℕ). Sought (Strays (card s) lastAxis n) (elements (card s)) (c .first-astray .result)) (w .whole-blocks .ensures) (c .first-astray .ensures)),
+    )
+
+small : (c : tie.After-first-leaving) → c .first-leaving .result ≤ 65536
+small c =
+    let w = c .before .before .before .before in
+    omega (arith, c .first-leaving .ensures .most, few w, sizes (start w .pre) .most-elements)
+
+returns : tie.Need-returns
+returns c =
+    let f = c .before in
+    let w = f .before .before .before .before in
+    rw (c .smaller .ensures)
+    (word-m (card (start w)) (w .before .first-on-axes .result) (f .first-leaving .result) (w .before .first-on-axes .ensures) (f .first-leaving .ensures))
+
+pub first-of-all-spec : {M : Type 1} → statement M
+first-of-all-spec =
+    tie.close
+    (tie.spec (λ c κs. search needs) (λ c κs. let s = c .before in spaced (s .args .numbers .now) (s .args .strides .now) (s .pre .admits)) (λ c. search needs) (λ c. search needs) first-astray-requires
+    first-leaving-requires (λ c. omega (arith, small c)) (λ c. omega (arith, small c)) (λ c κs. search needs) returns)

@@ -1,0 +1,70 @@
+// The first element of which a copy lies outside the space, and the smallest axis for it, without a pass
+// over the elements.
+use answers::Flat;
+ghost use Rattle.card.specs.Packed.{cardOf, Admits};
+ghost use Rattle.outside.specs.Outside.{Finds, FirstWord, Ended};
+
+// What a search for the first element outside finds.
+pub enum Search {
+    Outside { flat: Flat, axis: u64 },
+    NoneOutside,
+}
+
+// The axis m, the last.
+const M: usize = card::LAST_AXIS as usize;
+
+// The first element that leaves on an axis other than m, and the smallest such axis for it, as one number.
+fn first_on_axes(numbers: &[u64; 56], strides: &[i64; 24], low: &[i64; 8], high: &[i64; 8]) -> u64
+    requires { ⌜ Ended (now numbers) (now strides) (now low) (now high) ⌝ }
+    ensures { λ r. ⌜ FirstWord (cardOf (now (numbers .entry)) (now (strides .entry))) 7 r ⌝ }
+{
+    let mut word = copies::AXES * numbers[card::ELEMENTS];
+    let mut axis: usize = 0;
+    while axis < M {
+        let flat = extremes::first_astray(
+            numbers,
+            strides,
+            axis as u64,
+            numbers[card::LENGTHS + axis],
+            low[axis],
+            high[axis],
+        );
+        word = extremes::smaller(word, copies::AXES * flat + axis as u64);
+        axis += 1;
+    }
+    word
+}
+
+// The same on all axes: m is looked at only before the element found so far, from the first on that
+// reaches beyond the whole blocks of its length.
+fn first_of_all(numbers: &[u64; 56], strides: &[i64; 24], low: &[i64; 8], high: &[i64; 8]) -> u64
+    requires { ⌜ Ended (now numbers) (now strides) (now low) (now high) ⌝ }
+    ensures { λ r. ⌜ FirstWord (cardOf (now (numbers .entry)) (now (strides .entry))) 8 r ⌝ }
+{
+    let word = first_on_axes(numbers, strides, low, high);
+    let whole = reach::whole_blocks(numbers);
+    let from = extremes::first_astray(numbers, strides, card::LAST_AXIS, whole, low[M], high[M]);
+    let flat = doubt::first_leaving(numbers, strides, from, word / copies::AXES);
+    extremes::smaller(word, copies::AXES * flat + card::LAST_AXIS)
+}
+
+// What lies outside the space: nothing where the card's far ends lie inside, and else the first element
+// that leaves. Public, with a requires, for the crate above.
+pub fn find_outside(numbers: &[u64; 56], strides: &[i64; 24]) -> Search
+    requires { ⌜ Admits (now numbers) (now strides) ⌝ }
+    ensures { λ r. ⌜ Finds (cardOf (now (numbers .entry)) (now (strides .entry))) r ⌝ }
+{
+    let low = reach::end_sums(numbers, strides, false);
+    let high = reach::end_sums(numbers, strides, true);
+    if reach::between(&low, &high, numbers) {
+        return Search::NoneOutside;
+    }
+    let word = first_of_all(numbers, strides, &low, &high);
+    if copies::AXES * numbers[card::ELEMENTS] <= word {
+        return Search::NoneOutside;
+    }
+    Search::Outside {
+        flat: Flat(word / copies::AXES),
+        axis: word % copies::AXES,
+    }
+}

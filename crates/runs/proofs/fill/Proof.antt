@@ -1,0 +1,105 @@
+-- `runs::fill` writes one cell after the other: with the loop's index in the place of the copies, the row is filled so far.
+use mathlib.Core.Path.{_≡_}
+use Prim.Native.Nat.{ℕ, _-_, _≤_, _<_}
+use native.Mathlib.Omega.{arith}
+use lib.IntN.{pos, _+ℤ_}
+use lib.ListN.{length, getD}
+use mir.Syntax.{w64}
+use mir.Val.{toZ, ofZ}
+use mir.Facts.{toZ-ofZ}
+use Rattle.runs.specs.Contracts.{FilledTo}
+use Rattle.runs.proofs.Cells.{sum-fits, sum-back, filled-none, filled-more}
+use Rattle.runs.proofs.fill.Statement.{statement}
+use Rattle.runs.proofs.fill.Tie as tie
+
+abbrev Inv-loop : tie.InvT-loop
+Inv-loop numbers level m levels ms row₀ combination₀ row combination =
+    (combination ≤ length row₀) × FilledTo numbers (toZ w64 level) (toZ w64 m) levels ms row₀ row combination
+
+abbrev μ-loop : tie.MeasureT-loop
+μ-loop numbers level m levels ms row₀ combination₀ row combination = length row₀ - combination
+
+abbrev start : tie.In-loop Inv-loop μ-loop → tie.Start Inv-loop μ-loop
+start t = t .before .before .before
+
+-- a turn is at a copy of the row
+below : (t : tie.In-loop Inv-loop μ-loop) → t .before .loop .combination < length (start t .args .row .now)
+below t = omega (arith, t .loop-test .taken, t .before .loop .inv .1 .size)
+
+loop-holds : tie.Need-loop-holds Inv-loop μ-loop
+loop-holds c =
+    let a = c .before .args in
+    (omega arith, filled-none (a .numbers .now) _ _ (a .levels .now) (a .ms .now) (a .row .now))
+
+-- a level and an m with those of a copy
+module _ (c : tie.After-cell-at-arg2 Inv-loop μ-loop) where
+  abbrev turn : tie.In-loop Inv-loop μ-loop
+  turn = c .before .before
+
+  abbrev k : ℕ
+  k = turn .before .loop .combination
+
+  abbrev s : tie.Start Inv-loop μ-loop
+  s = start turn
+
+  level-back : toZ w64 (ofZ w64 (toZ w64 (ofZ w64 (s .args .level)) +ℤ toZ w64 (ofZ w64 (getD (s .args .levels .now) k (pos 0)))))
+      ≡ s .args .level +ℤ getD (s .args .levels .now) k (pos 0)
+  level-back =
+      sum-back (s .args .level) (getD (s .args .levels .now) k (pos 0)) (s .fits .level) (record { sfits = c .before .cell-at-arg .given })
+      (s .pre .near) (s .pre .levels-near k (below turn))
+
+  m-back : toZ w64 (ofZ w64 (toZ w64 (ofZ w64 (s .args .m)) +ℤ toZ w64 (ofZ w64 (getD (s .args .ms .now) k (pos 0)))))
+      ≡ s .args .m +ℤ getD (s .args .ms .now) k (pos 0)
+  m-back =
+      sum-back (s .args .m) (getD (s .args .ms .now) k (pos 0)) (s .fits .m) (record { sfits = c .cell-at-arg2 .given })
+      (s .pre .m-near) (s .pre .ms-near k (below turn))
+
+add-cell-at : tie.Need-add-cell-at Inv-loop μ-loop
+add-cell-at c =
+    let t = c .before in
+    let s = start t in
+    let k = t .before .loop .combination in
+    sum-fits (s .args .level) (getD (s .args .levels .now) k (pos 0)) (s .fits .level) (record { sfits = c .cell-at-arg .given })
+    (s .pre .near) (s .pre .levels-near k (below t))
+
+add-cell-at-2 : tie.Need-add-cell-at-2 Inv-loop μ-loop
+add-cell-at-2 c =
+    let t = c .before .before in
+    let s = start t in
+    let k = t .before .loop .combination in
+    sum-fits (s .args .m) (getD (s .args .ms .now) k (pos 0)) (s .fits .m) (record { sfits = c .cell-at-arg2 .given })
+    (s .pre .m-near) (s .pre .ms-near k (below t))
+
+cell-at-requires : tie.Need-cell-at-requires Inv-loop μ-loop
+cell-at-requires c κs =
+    let t = c .before .before in
+    rw (level-back c, m-back c) (start t .pre .cells (t .before .loop .combination) (below t))
+
+loop-again : tie.Need-loop-again Inv-loop μ-loop
+loop-again c =
+    let d = c .before in
+    let t = d .before .before in
+    let s = start t in
+    let l = t .before .loop in
+    let a = s .args in
+    let new = rw (level-back d, m-back d) at (c .cell-at .ensures) in
+    let level-is = toZ-ofZ (s .fits .level) in
+    let m-is = toZ-ofZ (s .fits .m) in (
+      omega (arith, below t),
+      filled-more (a .numbers .now) (toZ w64 (ofZ w64 (a .level))) (toZ w64 (ofZ w64 (a .m))) (a .levels .now) (a .ms .now) (a .row .now) (l .row) (l .combination) (c .cell-at .result)
+          (below t) (l .inv .1) (rw (level-is, m-is) new),
+    )
+
+returns : tie.Need-returns Inv-loop μ-loop
+returns c =
+    let l = c .before .loop in
+    let s = c .before .before .before in
+    let end : l .combination ≡ length (s .args .row .now) = omega (arith, l .inv .1 .size) in
+    rw (toZ-ofZ (s .fits .level), toZ-ofZ (s .fits .m), end) at (l .inv .1)
+
+pub fill-spec : {M : Type 1} → statement M
+fill-spec =
+    tie.close
+    (tie.spec Inv-loop μ-loop loop-holds (λ c. omega arith) (λ c. omega (arith, below c, start c .pre .levels-size)) add-cell-at
+    (λ c. omega arith) (λ c. omega (arith, below (c .before), start (c .before) .pre .ms-size)) add-cell-at-2 cell-at-requires (λ c. omega arith)
+    (λ c. omega arith) (λ c. omega arith) (λ c. omega arith) loop-again (λ c. c .before .loop .inv .1 .size) returns)

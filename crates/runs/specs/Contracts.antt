@@ -1,0 +1,55 @@
+-- What the functions here promise: a cell by level and m, what copies add to them, and a row of cells. Nothing here has to be believed.
+use Prim.Native.Nat.{ℕ, _^_, _≤_, _<_}
+use mathlib.Core.Path.{_≡_}
+use mathlib.Core.List.{List}
+use lib.IntN.{ℤ, pos, natAbs, _+ℤ_}
+use lib.ListN.{length, getD}
+use Rattle.card.specs.Limits.{lastAxis}
+use Rattle.card.specs.Packed.{beyond, swizzleOf}
+use Rattle.card.specs.declared.Card.{Card}
+use Rattle.rules.specs.Rules.{part, swizzledZ}
+use Rattle.linear.specs.Levels.{levelAt}
+use Rattle.copies.specs.Contracts.{Permits}
+use Rattle.runs.specs.declared.Place.{Place}
+
+-- how far from zero a level or an m is at most, with room to spare
+abbrev pub roomy : ℕ
+roomy = 2 ^ 60
+
+-- a level and an m come to a cell
+pub record CellThere (numbers : List ℕ) (level m : ℤ) : Type 0 where
+  pub whole : length numbers ≡ 56
+  pub permits : Permits numbers
+  pub cell : ℕ
+  pub on-m : ℕ
+  pub few : cell < beyond
+  pub short : on-m < beyond
+  pub m-there : swizzledZ (swizzleOf numbers) m ≡ pos on-m
+  pub there : pos cell ≡ level +ℤ pos on-m
+
+-- what sums come to as level and m
+pub record Adds (lengths : List ℕ) (sums : ℕ → ℤ) (place : Place) : Type 0 where
+  pub level-is : place .level ≡ levelAt lengths sums
+  pub m-is : place .m ≡ sums lastAxis
+
+-- what each of the first k of n combinations adds to level and m
+pub record CopiesTo (card : Card) (n k : ℕ) (levels ms : List ℤ) : Type 0 where
+  pub levels-size : length levels ≡ n
+  pub ms-size : length ms ≡ n
+  pub levels-at : (r : ℕ) → r < k → getD levels r (pos 0) ≡ levelAt (card .lengths) (part (card .replica) r)
+  pub ms-at : (r : ℕ) → r < k → getD ms r (pos 0) ≡ part (card .replica) r lastAxis
+
+-- a row of copies whose cells are there
+pub record Fillable (numbers : List ℕ) (level m : ℤ) (levels ms : List ℤ) (row : List ℕ) : Type 0 where
+  pub levels-size : length levels ≡ length row
+  pub ms-size : length ms ≡ length row
+  pub near : natAbs level ≤ roomy
+  pub m-near : natAbs m ≤ roomy
+  pub levels-near : (r : ℕ) → r < length row → natAbs (getD levels r (pos 0)) ≤ roomy
+  pub ms-near : (r : ℕ) → r < length row → natAbs (getD ms r (pos 0)) ≤ roomy
+  pub cells : (r : ℕ) → r < length row → CellThere numbers (level +ℤ getD levels r (pos 0)) (m +ℤ getD ms r (pos 0))
+
+-- the first k of them are written
+pub record FilledTo (numbers : List ℕ) (level m : ℤ) (levels ms : List ℤ) (before after : List ℕ) (k : ℕ) : Type 0 where
+  pub size : length after ≡ length before
+  pub cells : (r : ℕ) → r < k → pos (getD after r 0) ≡ level +ℤ getD levels r (pos 0) +ℤ swizzledZ (swizzleOf numbers) (m +ℤ getD ms r (pos 0))

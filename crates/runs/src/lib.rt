@@ -1,0 +1,125 @@
+// The cells of a packed card's copies in runs: an element begins at a level, the number of its sums
+// without m, and at an m; in a run both grow by one step, and each copy adds its own.
+ghost use mathlib.Core.Path.{_≡_};
+ghost use mathlib.Core.Bool.{true};
+ghost use mathlib.Core.List.{List};
+ghost use lib.IntN.{ℤ, pos, _+ℤ_};
+ghost use Prim.Native.Nat.{_≤_};
+ghost use lib.ListN.{length};
+ghost use lib.Seq.{slice};
+ghost use Rattle.card.specs.Card.{listed};
+ghost use Rattle.card.specs.Packed.{itersOf, swizzleOf, cardOf, ListOf, Admits};
+ghost use Rattle.card.specs.Admission.{spaceFits};
+ghost use Rattle.rules.specs.Rules.{part, swizzledZ};
+ghost use Rattle.sums.specs.Walks.{Sums};
+ghost use Rattle.linear.specs.Runs.{run};
+ghost use Rattle.linear.specs.Levels.{level, base};
+ghost use Rattle.runs.specs.Contracts.{Adds, CellThere, CopiesTo, Fillable, FilledTo};
+
+// The axis m, the last.
+const M: usize = card::LAST_AXIS as usize;
+
+// A level and an m.
+pub struct Place {
+    pub level: i64,
+    pub m: i64,
+}
+
+// How many elements of the shard differ in one component alone: the extent of its last iter whose
+// extent is not 1. Public, with a requires, for the crate above.
+pub fn run_length(numbers: &[u64; 56]) -> u64
+    requires { ⌜ ListOf (now numbers) 0 ⌝ }
+    ensures { λ r. ⌜ ((strides : List ℤ) → r ≡ run (listed (itersOf (now (numbers .entry)) strides 0))) ⌝ }
+{
+    let mut k = numbers[card::COUNTS + card::SHARD] as usize;
+    while 0 < k {
+        k -= 1;
+        let extent = numbers[k];
+        if extent != 1 {
+            return extent;
+        }
+    }
+    1
+}
+
+// The level of sums: their row-major number, m left out. Public, with a requires, for the crate above.
+pub fn weigh(numbers: &[u64; 56], sums: &[i64; 8]) -> i64
+    requires { ⌜ (length (now numbers) ≡ 56) × (spaceFits (slice 32 40 (now numbers)) ≡ true) × Sums (now sums) ⌝ }
+    ensures { λ r. ⌜ r ≡ level (slice 32 40 (now (numbers .entry))) (now (sums .entry)) ⌝ }
+{
+    let mut weight = numbers[card::LENGTHS + M];
+    let mut sum: i64 = 0;
+    let mut axis: usize = M;
+    while 0 < axis {
+        axis -= 1;
+        sum = sums::step(sum, weight, sums[axis]);
+        weight = weight * numbers[card::LENGTHS + axis];
+    }
+    sum
+}
+
+// The cell of a copy inside the space by its level and its m. Public, with a requires, for the crate above.
+pub fn cell_at(numbers: &[u64; 56], level: i64, m: i64) -> u32
+    requires { ⌜ CellThere (now numbers) level m ⌝ }
+    ensures { λ r. ⌜ pos r ≡ level +ℤ swizzledZ (swizzleOf (now (numbers .entry))) m ⌝ }
+{
+    let on_m = swizzle::swizzle_permitted(
+        numbers[card::M],
+        numbers[card::B],
+        numbers[card::S],
+        m as u64,
+    );
+    (level + on_m as i64) as u32
+}
+
+// What a list of iters adds to level and m at an index. Public, with a requires, for the crate above.
+pub fn added(numbers: &[u64; 56], strides: &[i64; 24], list: usize, index: u64) -> Place
+    requires { ⌜ Admits (now numbers) (now strides) × (list ≤ 1) ⌝ }
+    ensures { λ r. ⌜ Adds (slice 32 40 (now (numbers .entry))) (part (itersOf (now (numbers .entry)) (now (strides .entry)) list) index) r ⌝ }
+{
+    let mut sums = [0i64; 8];
+    sums::walk(numbers, strides, list, index, &mut sums);
+    let level = weigh(numbers, &sums);
+    Place { level, m: sums[M] }
+}
+
+// Where an element begins: level and m of its base, shard and offset. Public, with a requires, for the
+// crate above.
+pub fn begin(numbers: &[u64; 56], strides: &[i64; 24], flat: u64) -> Place
+    requires { ⌜ Admits (now numbers) (now strides) ⌝ }
+    ensures { λ r. ⌜ Adds (slice 32 40 (now (numbers .entry))) (base (cardOf (now (numbers .entry)) (now (strides .entry))) flat) r ⌝ }
+{
+    let mut sums = copies::offset(strides);
+    sums::walk(numbers, strides, card::SHARD, flat, &mut sums);
+    let level = weigh(numbers, &sums);
+    Place { level, m: sums[M] }
+}
+
+// What each replica combination adds to level and m. Public, with a requires, for the crate above.
+pub fn put_copies(numbers: &[u64; 56], strides: &[i64; 24], levels: &mut [i64], ms: &mut [i64])
+    requires { ⌜ Admits (now numbers) (now strides) × (length (now ms) ≡ length (now levels)) ⌝ }
+    ensures { λ r. ⌜ CopiesTo (cardOf (now (numbers .entry)) (now (strides .entry))) (length (now (levels .entry))) (length (now (levels .entry))) (now (levels .exit)) (now (ms .exit)) ⌝ }
+{
+    let mut combination: usize = 0;
+    while combination < levels.len() {
+        let copy = added(numbers, strides, card::REPLICA, combination as u64);
+        let level = copy.level;
+        let m = copy.m;
+        levels[combination] = level;
+        ms[combination] = m;
+        combination += 1;
+    }
+}
+
+// Writes the cells of all copies of an element that begins at a level and an m. Public, with a
+// requires, for the crate above.
+pub fn fill(numbers: &[u64; 56], level: i64, m: i64, levels: &[i64], ms: &[i64], row: &mut [u32])
+    requires { ⌜ Fillable (now numbers) level m (now levels) (now ms) (now row) ⌝ }
+    ensures { λ r. ⌜ FilledTo (now (numbers .entry)) level m (now (levels .entry)) (now (ms .entry)) (now (row .entry)) (now (row .exit)) (length (now (row .entry))) ⌝ }
+{
+    let mut combination: usize = 0;
+    while combination < row.len() {
+        row[combination] = cell_at(numbers, level + levels[combination], m + ms[combination]);
+        combination += 1;
+    }
+}
