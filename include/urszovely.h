@@ -36,7 +36,7 @@ enum urszovely_refusal {
     URSZOVELY_TOO_SHORT = 11,  /* lent memory too short: the length needed */
     URSZOVELY_CELL = 12,       /* asked cell coordinate outside the space: axis */
     URSZOVELY_MASK_SIZE = 13,  /* mask M or N not allowed */
-    URSZOVELY_FRAGMENT = 14,   /* unknown fragment kind, or a number outside it */
+    URSZOVELY_FRAGMENT = 14,   /* unknown fragment kind, or a number outside it; or a value of the wrong sort: lane, register */
     URSZOVELY_RESERVED = 15,   /* reserved descriptor bits set */
     URSZOVELY_SHIFT = 16,      /* mask shift above its limit: the limit */
     URSZOVELY_IDLE = 17        /* two replica combinations give the same sum on every axis: a, b */
@@ -57,6 +57,20 @@ void urszovely_fragment(uint64_t kind, uint64_t lane, uint64_t reg, uint64_t ans
 
 /* Which register holds a place: 0 with lane and register, or 14. */
 void urszovely_holder(uint64_t kind, uint64_t computation, uint64_t row, uint64_t column, uint64_t answer[4]);
+
+/* Values. A register is three numbers at one place of three arrays: its sort, 0 empty, 1 a single, 2 a double, any other is a wrong sort;
+ * a float, read and written where the sort is 1; a double, where it is 2. A tile has 64, place 8 row + column, the lanes 256, entry
+ * 8 lane + register. Values are moved bit for bit, not-a-number patterns too.
+ *
+ * Deal a computation's matrix of kind 5, 6, 7 or 8 to its lanes, or collect it from them: 0, or 14 where there is no such kind or
+ * computation, and with the smallest lane and register where a value is not of the kind's sort, 1 for kind 5, else 2. What is not the
+ * computation's stays as given, and where refused all of it. */
+void urszovely_deal(uint64_t kind, uint64_t computation, const uint8_t tile_sorts[64], const float tile_singles[64], const double tile_doubles[64], uint8_t sorts[256], float singles[256], double doubles[256], uint64_t answer[4]);
+void urszovely_collect(uint64_t kind, uint64_t computation, const uint8_t lane_sorts[256], const float lane_singles[256], const double lane_doubles[256], uint8_t sorts[64], float singles[64], double doubles[64], uint64_t answer[4]);
+
+/* The same for kinds 6 to 8 over the lanes' holdings, four doubles each, entry 4 lane + field: A, B, the two accumulators. */
+void urszovely_deal_f64(uint64_t kind, uint64_t computation, const uint8_t tile_sorts[64], const float tile_singles[64], const double tile_doubles[64], double holdings[128], uint64_t answer[4]);
+void urszovely_collect_f64(uint64_t kind, uint64_t computation, const double holdings[128], uint8_t sorts[64], float singles[64], double doubles[64], uint64_t answer[4]);
 
 /* The fields of a descriptor, read: 0, or 15 with all fields 0. Four start counts, four first spans, the non-zero mask, the skip span,
  * the use span, the shift. */
@@ -105,7 +119,7 @@ static inline const char *urszovely_refusal_text(uint64_t number)
     case 11: return "lent memory too short";
     case 12: return "asked cell coordinate outside the space";
     case 13: return "mask M or N not allowed";
-    case 14: return "unknown fragment kind, or a number outside it";
+    case 14: return "unknown fragment kind, a number outside it, or a value of the wrong sort";
     case 15: return "reserved descriptor bits set";
     case 16: return "mask shift above its limit";
     case 17: return "two replica combinations give the same sum on every axis";

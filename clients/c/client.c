@@ -1,5 +1,5 @@
-/* The lines of docs/PROTOCOL.md answered through urszovely.h: the same questions, limits and answers as the program desk. Of the C library
- * it takes read and write alone. */
+/* The lines of docs/PROTOCOL.md answered through urszovely.h: the same questions, limits and answers as the program desk, and those with
+ * values, which desk leaves. Of the C library it takes read and write alone. */
 #include "urszovely.h"
 
 long read(int file, void *bytes, size_t length);
@@ -257,6 +257,107 @@ static int descriptor(void)
     return 1;
 }
 
+/* values: a register's sort, and its bits where the sort has some, in arrays of a tile's size and of the lanes'; holdings as doubles */
+enum { TILE = 64, LANES = 256, HOLDINGS = 128 };
+
+struct registers {
+    uint8_t sorts[LANES];
+    union { uint32_t bits[LANES]; float values[LANES]; } singles;
+    union { uint64_t bits[LANES]; double values[LANES]; } doubles;
+};
+
+static struct registers tile, lanes;
+static union { uint64_t bits[HOLDINGS]; double values[HOLDINGS]; } holdings;
+
+/* what is left unnamed by the sort is a pattern of its own */
+static void set(struct registers *r, uint64_t i, uint64_t sort, uint64_t bits)
+{
+    r->sorts[i] = (uint8_t)sort;
+    r->singles.bits[i] = sort == 1 ? (uint32_t)bits : 0xffc00001u;
+    r->doubles.bits[i] = sort == 2 ? bits : 0x7ff0000000000001u;
+}
+
+/* all of the kind's own sort, but for one that is stated and one that is empty */
+static void state(struct registers *r, uint64_t size, uint64_t kind, uint64_t one, const uint64_t *sort_bits_other)
+{
+    uint64_t i, other = sort_bits_other[2];
+    for (i = 0; i < size; i++) set(r, i, kind == 5 ? 1 : 2, (kind == 5 ? 1065353216u : 4607182418800017408u) + i);
+    if (one < size) set(r, one, sort_bits_other[0], sort_bits_other[1]);
+    if (other < size && other != one) set(r, other, 0, 0);
+}
+
+/* what is to be filled */
+static void fill(struct registers *r, uint64_t size)
+{
+    uint64_t i;
+    for (i = 0; i < size; i++) set(r, i, i % 3, 1000000 + i);
+}
+
+static void hold(void)
+{
+    uint64_t i;
+    for (i = 0; i < HOLDINGS; i++) holdings.bits[i] = 4611686018427387904u + i;
+}
+
+static uint64_t add(uint64_t sum, uint64_t i, uint64_t entry) { return (sum + (i + 1) * (entry % 4294967291u)) % 4294967291u; }
+
+static void put_registers(const struct registers *r, uint64_t size)
+{
+    uint64_t i, bits, sum = 0;
+    for (i = 0; i < size; i++) {
+        bits = r->sorts[i] == 1 ? r->singles.bits[i] : r->sorts[i] == 2 ? r->doubles.bits[i] : 0;
+        sum = add(sum, i, bits % 4294967291u * 3 + r->sorts[i]);
+    }
+    put_answer();
+    put_text(" |");
+    put_value(sum);
+}
+
+static void put_holdings(void)
+{
+    uint64_t i, sum = 0;
+    for (i = 0; i < HOLDINGS; i++) sum = add(sum, i, holdings.bits[i]);
+    put_answer();
+    put_text(" |");
+    put_value(sum);
+}
+
+/* a sort, and bits that such a register can have */
+static int is_register(uint64_t sort, uint64_t bits) { return sort == 2 || (sort == 1 && bits >> 32 == 0) || (sort == 0 && bits == 0); }
+
+static int values(void)
+{
+    uint64_t one;
+    if (is("deal") || is("deal-f64")) {
+        if (!fits(6, 0) || !is_register(numbers[3], numbers[4])) return 0;
+        state(&tile, TILE, numbers[0], numbers[2], numbers + 3);
+        if (is("deal")) {
+            fill(&lanes, LANES);
+            urszovely_deal(numbers[0], numbers[1], tile.sorts, tile.singles.values, tile.doubles.values, lanes.sorts, lanes.singles.values, lanes.doubles.values, answer);
+            put_registers(&lanes, LANES);
+        } else {
+            hold();
+            urszovely_deal_f64(numbers[0], numbers[1], tile.sorts, tile.singles.values, tile.doubles.values, holdings.values, answer);
+            put_holdings();
+        }
+        return 1;
+    }
+    fill(&tile, TILE);
+    if (is("collect")) {
+        if (!fits(7, 0) || !is_register(numbers[4], numbers[5])) return 0;
+        one = numbers[2] < 32 && numbers[3] < 8 ? 8 * numbers[2] + numbers[3] : LANES;
+        state(&lanes, LANES, numbers[0], one, numbers + 4);
+        urszovely_collect(numbers[0], numbers[1], lanes.sorts, lanes.singles.values, lanes.doubles.values, tile.sorts, tile.singles.values, tile.doubles.values, answer);
+    } else {
+        if (!fits(5, 0)) return 0;
+        hold();
+        if (numbers[2] < 32 && numbers[3] < 4) holdings.bits[4 * numbers[2] + numbers[3]] = numbers[4];
+        urszovely_collect_f64(numbers[0], numbers[1], holdings.values, tile.sorts, tile.singles.values, tile.doubles.values, answer);
+    }
+    put_registers(&tile, TILE);
+    return 1;
+}
+
 static int plain(void)
 {
     if (is("swizzle") && fits(4, 0)) urszovely_swizzle(numbers[0], numbers[1], numbers[2], numbers[3], answer);
@@ -273,6 +374,7 @@ static int ask(void)
 {
     if (!parse() || !take_marks()) return 0;
     if (is("verdict") || is("owner") || is("place") || is("stretch")) return layout();
+    if (is("deal") || is("collect") || is("deal-f64") || is("collect-f64")) return values();
     if (is("mask")) return mask();
     if (is("fields")) return fields();
     if (is("descriptor")) return descriptor();

@@ -13,7 +13,7 @@ void _exit(int status) __attribute__((noreturn));
 
 enum { READ = 1, READ_WRITE = 3, PRIVATE_ANONYMOUS = 0x22 };
 enum { EDGE = 65536, ROOM = 262144, SLOT = EDGE + ROOM + EDGE };
-enum { FIRST, SECOND, THIRD, LENT, ANSWER, SLOTS };
+enum { FIRST, SECOND, THIRD, LENT, LENT_SINGLES, LENT_DOUBLES, ANSWER, SLOTS };
 
 static void stop(const char *why)
 {
@@ -187,6 +187,96 @@ static void guarded_stretch(const uint32_t *table, size_t length, const uint64_t
     settle(ANSWER, answer, 32);
 }
 
+/* Registers: sorts, singles, doubles in three slots from one on, so many; on the second side an empty register's sort is 3 or 255, which is
+ * wrong as 0 is and stays where it is not written. */
+enum { MOST_REGISTERS = 256 };
+
+static const uint8_t *sorts_on(int side, const uint8_t *sorts, size_t count)
+{
+    static uint8_t other[MOST_REGISTERS];
+    size_t i;
+    if (!side) return sorts;
+    for (i = 0; i < count; i++) other[i] = sorts[i] ? sorts[i] : i % 2 ? 3 : 255;
+    return other;
+}
+
+static void give_registers(int side, const uint8_t *sorts, const float *singles, const double *doubles, size_t count)
+{
+    given(FIRST, side, sorts_on(side, sorts, count), count);
+    given(SECOND, side, singles, 4 * count);
+    given(THIRD, side, doubles, 8 * count);
+}
+
+static void lend_registers(int side, const uint8_t *sorts, const float *singles, const double *doubles, size_t count)
+{
+    memcpy(slot(LENT, side, count), sorts_on(side, sorts, count), count);
+    memcpy(slot(LENT_SINGLES, side, 4 * count), singles, 4 * count);
+    memcpy(slot(LENT_DOUBLES, side, 8 * count), doubles, 8 * count);
+}
+
+static void settle_registers(uint8_t *sorts, float *singles, double *doubles, size_t count)
+{
+    uint8_t *second = slot(LENT, 1, count);
+    size_t i;
+    for (i = 0; i < count; i++)
+        if (second[i] == (i % 2 ? 3 : 255)) second[i] = 0;
+    settle(LENT, sorts, count);
+    settle(LENT_SINGLES, singles, 4 * count);
+    settle(LENT_DOUBLES, doubles, 8 * count);
+}
+
+#define GIVEN(side, count) (const uint8_t *)slot(FIRST, side, count), (const float *)(void *)slot(SECOND, side, 4 * (count)), (const double *)(void *)slot(THIRD, side, 8 * (count))
+#define LENT_TO(side, count) slot(LENT, side, count), (float *)(void *)slot(LENT_SINGLES, side, 4 * (count)), (double *)(void *)slot(LENT_DOUBLES, side, 8 * (count))
+
+static void guarded_deal(uint64_t kind, uint64_t computation, const uint8_t *tile_sorts, const float *tile_singles, const double *tile_doubles,
+                         uint8_t *sorts, float *singles, double *doubles, uint64_t *answer)
+{
+    int side;
+    for (side = 0; side < 2; side++) {
+        give_registers(side, tile_sorts, tile_singles, tile_doubles, 64);
+        lend_registers(side, sorts, singles, doubles, 256);
+        urszovely_deal(kind, computation, GIVEN(side, 64), LENT_TO(side, 256), blank(side));
+    }
+    settle_registers(sorts, singles, doubles, 256);
+    settle(ANSWER, answer, 32);
+}
+
+static void guarded_collect(uint64_t kind, uint64_t computation, const uint8_t *lane_sorts, const float *lane_singles, const double *lane_doubles,
+                            uint8_t *sorts, float *singles, double *doubles, uint64_t *answer)
+{
+    int side;
+    for (side = 0; side < 2; side++) {
+        give_registers(side, lane_sorts, lane_singles, lane_doubles, 256);
+        lend_registers(side, sorts, singles, doubles, 64);
+        urszovely_collect(kind, computation, GIVEN(side, 256), LENT_TO(side, 64), blank(side));
+    }
+    settle_registers(sorts, singles, doubles, 64);
+    settle(ANSWER, answer, 32);
+}
+
+static void guarded_deal_f64(uint64_t kind, uint64_t computation, const uint8_t *tile_sorts, const float *tile_singles, const double *tile_doubles,
+                             double *holdings, uint64_t *answer)
+{
+    int side;
+    for (side = 0; side < 2; side++) {
+        give_registers(side, tile_sorts, tile_singles, tile_doubles, 64);
+        urszovely_deal_f64(kind, computation, GIVEN(side, 64), lent(side, holdings, 8 * 128), blank(side));
+    }
+    settle(LENT, holdings, 8 * 128);
+    settle(ANSWER, answer, 32);
+}
+
+static void guarded_collect_f64(uint64_t kind, uint64_t computation, const double *holdings, uint8_t *sorts, float *singles, double *doubles, uint64_t *answer)
+{
+    int side;
+    for (side = 0; side < 2; side++) {
+        lend_registers(side, sorts, singles, doubles, 64);
+        urszovely_collect_f64(kind, computation, given(FIRST, side, holdings, 8 * 128), LENT_TO(side, 64), blank(side));
+    }
+    settle_registers(sorts, singles, doubles, 64);
+    settle(ANSWER, answer, 32);
+}
+
 #define MOST_TABLE 65536
 #define urszovely_swizzle guarded_swizzle
 #define urszovely_mode guarded_mode
@@ -200,6 +290,10 @@ static void guarded_stretch(const uint32_t *table, size_t length, const uint64_t
 #define urszovely_verdict guarded_verdict
 #define urszovely_owner guarded_owner
 #define urszovely_stretch guarded_stretch
+#define urszovely_deal guarded_deal
+#define urszovely_collect guarded_collect
+#define urszovely_deal_f64 guarded_deal_f64
+#define urszovely_collect_f64 guarded_collect_f64
 #define main answer_all
 #include "client.c"
 #undef main

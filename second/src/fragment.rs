@@ -6,7 +6,7 @@ use crate::lines::Answer;
 /// Refusal: unknown kind, or something outside it.
 pub const OUTSIDE_FRAGMENT: u64 = 14;
 
-const LANES: u64 = 32;
+pub const LANES: u64 = 32;
 
 /// Where a lane's register lies.
 #[derive(Clone, Copy, Debug, PartialEq, Eq, PartialOrd, Ord)]
@@ -17,7 +17,7 @@ pub struct Place {
 }
 
 /// How many registers a lane has of this kind; none for an unknown kind.
-fn registers(kind: u64) -> Option<u64> {
+pub fn registers(kind: u64) -> Option<u64> {
     match kind {
         0..=3 => Some(4),
         4 | 5 => Some(8),

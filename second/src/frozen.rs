@@ -1,6 +1,6 @@
 //! The committed lines as they landed, a file for each landing and, where it
-//! has lines of full size, one for these. A later landing appends its own
-//! and leaves the earlier ones alone, whatever limits it moves.
+//! has lines of full size or lines about values, one for these. A later landing
+//! appends its own and leaves the earlier ones alone, whatever limits it moves.
 
 /// The lines of `crates/desk/stdin`.
 const BLOCKS: &[&[u8]] = &[
@@ -23,6 +23,9 @@ const LARGE: &[&[u8]] = &[
     include_bytes!("../loads/large/06-ask-11.txt"),
 ];
 
+/// The lines about values, which only the client answers.
+const VALUES: &[&[u8]] = &[include_bytes!("../loads/values/08-ask-01.txt")];
+
 pub fn blocks() -> Vec<u8> {
     BLOCKS.concat()
 }
@@ -31,13 +34,17 @@ pub fn large() -> Vec<u8> {
     LARGE.concat()
 }
 
+pub fn values() -> Vec<u8> {
+    VALUES.concat()
+}
+
 #[cfg(test)]
 mod tests {
     use super::*;
     use crate::lines::{answers, reached};
     use crate::loads::random::seed_of;
     use crate::verdict::MOST_ENTRIES;
-    use crate::words::NUMBERS;
+    use crate::words::{NUMBERS, VALUE_NUMBERS};
     use std::fs;
 
     /// The checks of the files: one that is changed later is noticed here.
@@ -57,12 +64,14 @@ mod tests {
         0x5b14_d33b_47c5_2648,
         0x299b_0b55_97ab_889d,
     ];
+    const VALUES_CHECKS: &[u64] = &[0x57eb_6585_6908_3b30];
 
     #[test]
     fn files_are_as_they_landed() {
         let checks = |files: &[&[u8]]| Vec::from_iter(files.iter().map(|file| seed_of(file)));
         assert_eq!(checks(BLOCKS), CHECKS);
         assert_eq!(checks(LARGE), LARGE_CHECKS);
+        assert_eq!(checks(VALUES), VALUES_CHECKS);
     }
 
     /// The files of a folder one after the other, by name.
@@ -81,21 +90,40 @@ mod tests {
     fn every_file_is_listed_and_ends_its_last_line() {
         assert!(folder("blocks") == blocks());
         assert!(folder("large") == large());
-        let mut files = BLOCKS.iter().chain(LARGE);
+        assert!(folder("values") == values());
+        let mut files = BLOCKS.iter().chain(LARGE).chain(VALUES);
         assert!(files.all(|file| file.ends_with(b"\n")));
     }
 
-    #[test]
-    fn blocks_reach_every_number() {
-        let blocks = blocks();
-        let lines: Vec<&[u8]> = blocks.split(|byte| *byte == b'\n').collect();
-        for (word, numbers) in NUMBERS {
-            let beginning = format!("{word} ");
-            let mut own = lines.clone();
-            own.retain(|line| line.starts_with(beginning.as_bytes()));
-            let reached = reached(&own.join(&b'\n'), MOST_ENTRIES);
+    /// The lines that begin with a word.
+    fn of_word<'a>(all: &'a [u8], word: &str) -> Vec<&'a [u8]> {
+        let beginning = format!("{word} ");
+        let lines = all.split(|byte| *byte == b'\n');
+        let own = |line: &&[u8]| line.starts_with(beginning.as_bytes());
+        lines.filter(own).collect()
+    }
+
+    /// The lines reach every number of these words and no other.
+    fn reach_every_number(lines: &[u8], words: &[(&str, &[u64])]) {
+        for (word, numbers) in words {
+            let own = of_word(lines, word).join(&b'\n');
+            let reached = reached(&own, MOST_ENTRIES);
             assert_eq!(Vec::from_iter(reached.into_keys()), *numbers, "{word}");
         }
+    }
+
+    #[test]
+    fn blocks_and_values_reach_every_number() {
+        reach_every_number(&blocks(), NUMBERS);
+        reach_every_number(&values(), VALUE_NUMBERS);
+    }
+
+    #[test]
+    fn blocks_have_no_line_about_values_and_values_are_none_for_desk() {
+        for (word, _) in VALUE_NUMBERS {
+            assert!(of_word(&blocks(), word).is_empty(), "{word}");
+        }
+        assert!(answers(&values(), MOST_ENTRIES).all(|said| said == "?\n"));
     }
 
     #[test]

@@ -1,7 +1,7 @@
 //! The line protocol: splitting the input, the rule for numbers, and how an
 //! answer is printed.
 
-use crate::words::{Word, WORDS};
+use crate::words::{Word, CLIENT, DESK};
 use std::fmt::Write;
 
 /// A line of more bytes than this is no question.
@@ -44,6 +44,17 @@ impl Answer {
     }
 }
 
+/// A digest is given modulo this.
+const DIGEST_MODULUS: u128 = 4_294_967_291;
+
+/// The sum of (i + 1) times entry i. Entries below 2^66, of which there are
+/// fewer than 2^30, are far from the end of 128 bits.
+pub fn digest<Entry: Copy + Into<u128>>(entries: &[Entry]) -> u64 {
+    let weighed = |(i, entry): (usize, &Entry)| (i as u128 + 1) * (*entry).into();
+    let sum: u128 = entries.iter().enumerate().map(weighed).sum();
+    (sum % DIGEST_MODULUS) as u64
+}
+
 /// A number as it stands on a line: from -2^63 to 2^64 - 1.
 pub type Number = i128;
 
@@ -83,8 +94,11 @@ pub fn whole(numbers: &[u64]) -> Vec<Number> {
     numbers.iter().copied().map(Number::from).collect()
 }
 
+/// The words that a program answers.
+type Words = &'static [&'static [Word]];
+
 /// The word and the numbers of a line, if it is a question at all.
-fn question(line: &[u8]) -> Option<(&'static Word, Vec<Number>)> {
+fn question(line: &[u8], words: Words) -> Option<(&'static Word, Vec<Number>)> {
     if line.len() > LONGEST_LINE {
         return None;
     }
@@ -92,31 +106,50 @@ fn question(line: &[u8]) -> Option<(&'static Word, Vec<Number>)> {
     // one space too many, and an empty piece is no number.
     let mut pieces = line.split(|byte| *byte == b' ');
     let name = pieces.next()?;
-    let word = WORDS.iter().find(|word| word.name.as_bytes() == name)?;
+    let mut words = words.iter().copied().flatten();
+    let word = words.find(|word| word.name.as_bytes() == name)?;
     let numbers = pieces.map(signed_number).collect::<Option<Vec<_>>>()?;
     (numbers.len() == word.count).then_some((word, numbers))
 }
 
-/// The answer to one line without its line feed, with so many entries at most
-/// lent to a table; an empty line gets none.
-pub fn answer_line(line: &[u8], most: u64) -> Option<String> {
+/// The answer of the program with these words to one line without its line
+/// feed; an empty line gets none.
+fn answer_among(words: Words, line: &[u8], most: u64) -> Option<String> {
     if line.is_empty() {
         return None;
     }
-    let answer = question(line).and_then(|(word, numbers)| (word.answer)(&numbers, most));
+    let answer = question(line, words).and_then(|(word, numbers)| (word.answer)(&numbers, most));
     Some(match answer {
         Some(answer) => answer.print(),
         None => NO_QUESTION.to_string(),
     })
 }
 
-/// The answers to a whole input, each ending in a line feed.
-pub fn answers(input: &[u8], most: u64) -> impl Iterator<Item = String> + '_ {
+/// What a program says to one line, with so many entries at most lent to a
+/// table.
+pub type AnswerLine = fn(&[u8], u64) -> Option<String>;
+
+/// What `desk` says to one line.
+pub fn answer_line(line: &[u8], most: u64) -> Option<String> {
+    answer_among(DESK, line, most)
+}
+
+/// What the C client says to one line.
+pub fn client_answer_line(line: &[u8], most: u64) -> Option<String> {
+    answer_among(CLIENT, line, most)
+}
+
+/// The answers of a program to a whole input, each ending in a line feed.
+pub fn answers_of(
+    program: AnswerLine,
+    input: &[u8],
+    most: u64,
+) -> impl Iterator<Item = String> + '_ {
     // What follows the last line feed is a line if there is anything in it;
     // if there is nothing it counts as an empty line, which gets no answer.
     input
         .split(|byte| *byte == b'\n')
-        .filter_map(move |line| answer_line(line, most))
+        .filter_map(move |line| program(line, most))
         .map(|mut text| {
             text.push('\n');
             text
@@ -125,6 +158,12 @@ pub fn answers(input: &[u8], most: u64) -> impl Iterator<Item = String> + '_ {
 
 #[cfg(test)]
 use crate::verdict::MOST_ENTRIES;
+
+/// For the tests: what `desk` says to a whole input.
+#[cfg(test)]
+pub fn answers(input: &[u8], most: u64) -> impl Iterator<Item = String> + '_ {
+    answers_of(answer_line, input, most)
+}
 
 /// For the tests: a line has this answer.
 #[cfg(test)]
@@ -136,12 +175,23 @@ pub fn says(line: &str, answer: &str) {
     );
 }
 
-/// For the tests: how often each number stands in the answers to lines.
+/// For the tests: the client has this answer to a line.
+#[cfg(test)]
+pub fn client_says(line: &str, answer: &str) {
+    assert_eq!(
+        client_answer_line(line.as_bytes(), MOST_ENTRIES).as_deref(),
+        Some(answer),
+        "{line}"
+    );
+}
+
+/// For the tests: how often each number stands in the client's answers to
+/// lines; where `desk` has one it is the same.
 #[cfg(test)]
 pub fn reached(lines: &[u8], most: u64) -> std::collections::BTreeMap<u64, u64> {
     let number = |text: String| text.split(' ').next()?.parse().ok();
     let mut reached = std::collections::BTreeMap::new();
-    for number in answers(lines, most).filter_map(number) {
+    for number in answers_of(client_answer_line, lines, most).filter_map(number) {
         *reached.entry(number).or_default() += 1;
     }
     reached
@@ -202,6 +252,15 @@ mod tests {
     }
 
     #[test]
+    fn digests() {
+        assert_eq!(digest::<u64>(&[]), 0);
+        assert_eq!(digest(&[5u64, 7]), 19);
+        assert_eq!(digest(&[4_294_967_291u64, 1]), 2);
+        assert_eq!(digest(&[165u8; 3]), 990);
+        assert_eq!(digest(&[3 * u128::from(u64::MAX) + 2]), 74);
+    }
+
+    #[test]
     fn lines_end_at_a_line_feed_and_a_last_one_counts() {
         assert_eq!(all(b""), "");
         assert_eq!(all(b"\n\n\n"), "");
@@ -255,7 +314,7 @@ mod tests {
     #[test]
     fn no_numbers_make_it_panic() {
         let mut random = Random::new(0x6e75_6d62);
-        for word in WORDS {
+        for word in CLIENT.iter().copied().flatten() {
             for _ in 0..2_000 {
                 let numbers: Vec<Number> = (0..word.count).map(|_| random.any_sign()).collect();
                 (word.answer)(&numbers, MOST_ENTRIES);

@@ -14,6 +14,7 @@ pub mod random;
 pub mod reuse;
 pub mod signed;
 pub mod small;
+pub mod values;
 
 use crate::lines::Number;
 use cards::random_card;
@@ -30,7 +31,8 @@ const SPOILED_ONE_IN: u64 = 6;
 /// A word, and random numbers for a question of it.
 type Maker = (&'static str, fn(&mut Random) -> Vec<Number>);
 
-/// What random lines are made of; every word has a maker.
+/// What random lines are made of; every word that both programs answer has a
+/// maker.
 const MAKERS: &[Maker] = &[
     ("swizzle", small::swizzle),
     ("mode", small::mode),
@@ -59,6 +61,14 @@ const MAKERS: &[Maker] = &[
     ("verdict*", |random| reuse::verdict(random, meeting_card)),
     ("owner*", |random| reuse::owner(random, meeting_card)),
     ("bank", small::bank),
+];
+
+/// Questions about values, which only the client answers.
+const VALUE_MAKERS: &[Maker] = &[
+    ("deal", values::deal),
+    ("collect", values::collect),
+    ("deal-f64", values::deal_f64),
+    ("collect-f64", values::collect_f64),
 ];
 
 /// Questions of full size, which would slow the others down.
@@ -108,7 +118,8 @@ pub fn random_lines(seed: &[u8], count: u64) -> impl Iterator<Item = Vec<u8>> {
 /// So many random lines of one word; none where it is no word.
 pub fn block(word: &[u8], seed: &[u8], count: u64) -> Option<impl Iterator<Item = Vec<u8>>> {
     let of_word = |maker: &&Maker| maker.0.as_bytes() == word;
-    let makers: Vec<Maker> = MAKERS.iter().filter(of_word).copied().collect();
+    let all = MAKERS.iter().chain(VALUE_MAKERS);
+    let makers: Vec<Maker> = all.filter(of_word).copied().collect();
     let mut random = Random::new(seed_of(seed));
     (!makers.is_empty()).then(|| (0..count).map(move |_| ended(line(&mut random, &makers))))
 }
@@ -133,7 +144,7 @@ mod tests {
     use super::*;
     use crate::lines::{answers, reached};
     use crate::verdict::MOST_ENTRIES;
-    use crate::words::{NUMBERS, WORDS};
+    use crate::words::{NUMBERS, VALUE_NUMBERS, VALUE_WORDS, WORDS};
 
     fn lines(seed: &str, count: u64) -> Vec<Vec<u8>> {
         random_lines(seed.as_bytes(), count).collect()
@@ -157,7 +168,8 @@ mod tests {
     #[test]
     fn blocks_have_their_lines_and_reach_every_number() {
         assert_eq!(NUMBERS.len(), WORDS.len());
-        for (word, numbers) in NUMBERS {
+        assert_eq!(VALUE_NUMBERS.len(), VALUE_WORDS.len());
+        for (word, numbers) in NUMBERS.iter().chain(VALUE_NUMBERS) {
             let lines: Vec<Vec<u8>> = block(word.as_bytes(), b"block", 2_000).unwrap().collect();
             assert!(lines.iter().all(|line| line.ends_with(b"\n")));
             assert_eq!(lines.len(), 2_000);

@@ -1,6 +1,6 @@
-//! An independent second program for the line protocol of `desk`: it answers
-//! the same lines straight from the documents, and it keeps and makes the
-//! loads on which the two programs are compared.
+//! An independent second program for the line protocol of `desk` and of the C
+//! client: it answers the same lines straight from the documents, and it keeps
+//! and makes the loads on which the programs are compared.
 
 mod bank;
 mod fragment;
@@ -10,10 +10,11 @@ mod lines;
 mod loads;
 mod mask;
 mod swizzle;
+mod values;
 mod verdict;
 mod words;
 
-use lines::number;
+use lines::{answer_line, answers_of, client_answer_line, number, AnswerLine};
 use loads::every;
 use std::env;
 use std::io::{self, BufWriter, Read, Write};
@@ -21,8 +22,11 @@ use std::process::ExitCode;
 use verdict::MOST_ENTRIES;
 
 const USAGE: &str = "usage: second answer [MOST]
+       second client [MOST]
        second blocks
        second large
+       second values
+       second values-all
        second exhaustive
        second masks SEED
        second random SEED COUNT
@@ -34,15 +38,19 @@ const USAGE: &str = "usage: second answer [MOST]
 /// More than this may not be asked for: a line could ask for all of it.
 const MOST_ASKED: u64 = 1 << 20;
 
-/// Answers standard input to its end, with so many entries at most lent to a
-/// table.
-fn answer(out: &mut impl Write, most: u64) -> io::Result<()> {
+/// Answers standard input to its end as a program does, with so many entries
+/// at most lent to a table.
+fn answer(program: AnswerLine, out: &mut impl Write, most: u64) -> io::Result<()> {
     let mut input = Vec::new();
     io::stdin().lock().read_to_end(&mut input)?;
-    for text in lines::answers(&input, most) {
+    for text in answers_of(program, &input, most) {
         out.write_all(text.as_bytes())?;
     }
     Ok(())
+}
+
+fn most_asked(text: &[u8]) -> Option<u64> {
+    number(text).filter(|most| *most <= MOST_ASKED)
 }
 
 fn print(out: &mut impl Write, lines: impl Iterator<Item = Vec<u8>>) -> io::Result<()> {
@@ -55,10 +63,14 @@ fn print(out: &mut impl Write, lines: impl Iterator<Item = Vec<u8>>) -> io::Resu
 /// Does what the arguments ask; none when they ask nothing known.
 fn run(arguments: &[&[u8]], out: &mut impl Write) -> Option<io::Result<()>> {
     Some(match *arguments {
-        [b"answer"] => answer(out, MOST_ENTRIES),
-        [b"answer", most] => answer(out, number(most).filter(|most| *most <= MOST_ASKED)?),
+        [b"answer"] => answer(answer_line, out, MOST_ENTRIES),
+        [b"answer", most] => answer(answer_line, out, most_asked(most)?),
+        [b"client"] => answer(client_answer_line, out, MOST_ENTRIES),
+        [b"client", most] => answer(client_answer_line, out, most_asked(most)?),
         [b"blocks"] => out.write_all(&frozen::blocks()),
         [b"large"] => out.write_all(&frozen::large()),
+        [b"values"] => out.write_all(&frozen::values()),
+        [b"values-all"] => out.write_all(&loads::values::all()),
         [b"exhaustive"] => out.write_all(&every::fragments()),
         [b"masks", seed] => out.write_all(&every::masks(seed)),
         [b"random", seed, count] => print(out, loads::random_lines(seed, number(count)?)),

@@ -6,7 +6,7 @@ use crate::layout::{
     lent_entries, space_permitted, whole_product, Card, Coordinates, Flat, Marks, Refusal, AXES,
     TOO_SHORT, WRONG_AXIS, WRONG_SPACE,
 };
-use crate::lines::{plain, Answer, Number};
+use crate::lines::{digest, plain, Answer, Number};
 use std::collections::{BTreeMap, BTreeSet};
 
 /// Refusals: two elements that are not one share a cell, an asked cell outside
@@ -18,17 +18,8 @@ const ASKED_OUTSIDE: u64 = 12;
 /// otherwise.
 pub const MOST_ENTRIES: u64 = 16_384;
 
-/// The sum of (i + 1) times entry i is printed modulo this.
-const DIGEST_MODULUS: u128 = 4_294_967_291;
-
 /// All elements that have a copy in a cell, for each cell.
 type Holders = Vec<BTreeSet<Flat>>;
-
-fn digest(entries: &[u64]) -> u64 {
-    let weighed = |(i, entry): (usize, &u64)| (i as u128 + 1) * u128::from(*entry);
-    let sum: u128 = entries.iter().enumerate().map(weighed).sum();
-    (sum % DIGEST_MODULUS) as u64
-}
 
 fn flats(card: &Card) -> impl Iterator<Item = Flat> {
     (0..card.elements() as u64).map(Flat)
@@ -511,13 +502,6 @@ mod tests {
             "stretch 1 1 1 1 1 1 1 1 7 0 0 0 0 0 0 0 0 1",
             "0 0 1 0 | 1000000",
         );
-    }
-
-    #[test]
-    fn digests() {
-        assert_eq!(digest(&[]), 0);
-        assert_eq!(digest(&[5, 7]), 19);
-        assert_eq!(digest(&[4_294_967_291, 1]), 2);
     }
 
     /// Demand 3's words, on whatever the random cards give.

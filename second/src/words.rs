@@ -1,4 +1,5 @@
-//! The words of the protocol, in the order in which they arrived.
+//! The words of the protocol, in the order in which they arrived, and which
+//! program answers them.
 
 use crate::bank;
 use crate::fragment;
@@ -6,6 +7,7 @@ use crate::layout::{self, Marks, NO_MARKS};
 use crate::lines::{plain, Answer, Number};
 use crate::mask;
 use crate::swizzle;
+use crate::values;
 use crate::verdict;
 
 /// Above this, MARKS is past what the programs take.
@@ -29,6 +31,7 @@ pub struct Word {
     pub answer: fn(&[Number], u64) -> Option<Answer>,
 }
 
+/// The words that both programs answer.
 pub const WORDS: &[Word] = &[
     Word {
         name: "swizzle",
@@ -114,6 +117,44 @@ pub const WORDS: &[Word] = &[
         count: 2,
         answer: |numbers, _| bank::answer_bank(&plain(numbers)?),
     },
+];
+
+/// The words about values, whose bits only the C client moves.
+pub const VALUE_WORDS: &[Word] = &[
+    Word {
+        name: "deal",
+        count: 6,
+        answer: |numbers, _| values::answer_deal(&plain(numbers)?),
+    },
+    Word {
+        name: "collect",
+        count: 7,
+        answer: |numbers, _| values::answer_collect(&plain(numbers)?),
+    },
+    Word {
+        name: "deal-f64",
+        count: 6,
+        answer: |numbers, _| values::answer_deal_f64(&plain(numbers)?),
+    },
+    Word {
+        name: "collect-f64",
+        count: 5,
+        answer: |numbers, _| values::answer_collect_f64(&plain(numbers)?),
+    },
+];
+
+/// What each program answers.
+pub const DESK: &[&[Word]] = &[WORDS];
+pub const CLIENT: &[&[Word]] = &[WORDS, VALUE_WORDS];
+
+/// For the tests: the numbers that the answers to the words about values can
+/// have.
+#[cfg(test)]
+pub const VALUE_NUMBERS: &[(&str, &[u64])] = &[
+    ("deal", &[0, 14]),
+    ("collect", &[0, 14]),
+    ("deal-f64", &[0, 14]),
+    ("collect-f64", &[0, 14]),
 ];
 
 /// For the tests: the numbers that a word's answers can have.

@@ -26,7 +26,7 @@ refusalOf n r =
     (cond (eqb n 11) (TooShort (r .a))
     (cond (eqb n 12) (CellOutside (r .a))
     (cond (eqb n 13) MaskSize
-    (cond (eqb n 14) Fragment
+    (cond (eqb n 14) (Fragment (r .a) (r .b))
     (cond (eqb n 15) Reserved
     (cond (eqb n 16) (Shift (r .a))
     (Idle (r .a) (r .b)))))))))))))))))
@@ -46,7 +46,7 @@ back Coordinate = (refl, refl)
 back (TooShort needed) = (refl, refl)
 back (CellOutside axis) = (refl, refl)
 back MaskSize = (refl, refl)
-back Fragment = (refl, refl)
+back (Fragment lane register) = (refl, refl)
 back Reserved = (refl, refl)
 back (Shift limit) = (refl, refl)
 back (Idle a b) = (refl, refl)

@@ -37,8 +37,8 @@ pub enum Refusal {
     CellOutside { axis: u64 },
     // 13: mask M or N not allowed
     MaskSize,
-    // 14: unknown fragment kind, or a number outside it
-    Fragment,
+    // 14: unknown fragment kind, or a number outside it; or a value of the wrong sort, in this register of this lane
+    Fragment { lane: u64, register: u64 },
     // 15: reserved descriptor bits set
     Reserved,
     // 16: mask shift above its limit
@@ -80,7 +80,7 @@ pub fn refusal_numbers(refusal: Refusal) -> Numbers
         Refusal::TooShort { needed } => answer(11, needed, 0, 0),
         Refusal::CellOutside { axis } => answer(12, axis, 0, 0),
         Refusal::MaskSize => answer(13, 0, 0, 0),
-        Refusal::Fragment => answer(14, 0, 0, 0),
+        Refusal::Fragment { lane, register } => answer(14, lane, register, 0),
         Refusal::Reserved => answer(15, 0, 0, 0),
         Refusal::Shift { limit } => answer(16, limit, 0, 0),
         Refusal::Idle { a, b } => answer(17, a, b, 0),

@@ -6,7 +6,6 @@ use Prim.Native.Nat.{ℕ}
 use native.Mathlib.Omega.{arith}
 use Rattle.answers.specs.Refusals.{answer}
 use Rattle.answers.specs.declared.Numbers.{Numbers}
-use Rattle.answers.specs.declared.Refusal.the-variants.{Fragment}
 use Rattle.answers.proofs.OneToOne.{readBack, refused-back, pinned, rung}
 use Rattle.laws.proofs.Rungs.{apart, ended-at}
 use Rattle.fragment.specs.declared.Place.{Place}
@@ -16,7 +15,7 @@ use Rattle.fragment.specs.declared.Held.the-variants.{Place as Holds, Re
 use Rattle.fragment.specs.declared.Holder.{Holder}
 use Rattle.fragment.specs.declared.Holder.the-variants.{Slot as HeldBy, Refused as HeldByNone}
 use Rattle.fragment.specs.Kinds.{place}
-use Rattle.fragment.specs.Fragment.{isSlot, isPlace, heldAnswer, HolderAnswer, heldNumbers, holderNumbers}
+use Rattle.fragment.specs.Fragment.{isSlot, isPlace, outside, heldAnswer, HolderAnswer, heldNumbers, holderNumbers}
 use Rattle.fragment.proofs.Back.{by, back, slot-back, place-back}
 
 -- the first question answers that a register holds a place
@@ -24,18 +23,18 @@ abbrev pub Answers : ℕ → Slot → Place → Type 0
 Answers kind s p = heldAnswer kind (s .lane) (s .register) ≡ Holds p
 
 -- then there is such a register, and the place is its own
-answered : (kind : ℕ) (s : Slot) (p : Place) → Answers kind s p → (isSlot kind (s .lane) (s .register) ≡ true) × (place kind (s .lane) (s .register) ≡ p)
+pub answered : (kind : ℕ) (s : Slot) (p : Place) → Answers kind s p → (isSlot kind (s .lane) (s .register) ≡ true) × (place kind (s .lane) (s .register) ≡ p)
 answered kind s p e =
     let held = ended-at (isSlot kind (s .lane) (s .register)) e (λ q. apart (cc)) in
     let same = held .1 in
     (held .0, cc)
 
 -- so the place lies inside the kind and leads back to the register
-stays-inside : (kind : ℕ) (s : Slot) (p : Place) → Answers kind s p → isPlace kind p ≡ true
+pub stays-inside : (kind : ℕ) (s : Slot) (p : Place) → Answers kind s p → isPlace kind p ≡ true
 stays-inside kind s p e =
     let a = answered kind s p e in rw (sym (a .1)) (slot-back kind (s .lane) (s .register) (a .0) .0)
 
-leads-back : (kind : ℕ) (s : Slot) (p : Place) → Answers kind s p → back kind p ≡ s
+pub leads-back : (kind : ℕ) (s : Slot) (p : Place) → Answers kind s p → back kind p ≡ s
 leads-back kind s p e =
     let a = answered kind s p e in
     sym (ap (back kind) (a .1)) ∙ slot-back kind (s .lane) (s .register) (a .0) .1
@@ -126,7 +125,7 @@ holder-in-numbers kind p r h = record {
     λ e. ap holderNumbers (holder-settled kind p r (HeldBy (by lane i)) h (held-one-to-one (heldAnswer kind lane i) (Holds p) e)),
   );
   refused = (
-    λ e. subst (HolderAnswer kind p) (holder-one-to-one r (HeldByNone Fragment) e) h .0,
-    λ e. ap holderNumbers (holder-settled kind p r (HeldByNone Fragment) h (e, refl)),
+    λ e. subst (HolderAnswer kind p) (holder-one-to-one r (HeldByNone outside) e) h .0,
+    λ e. ap holderNumbers (holder-settled kind p r (HeldByNone outside) h (e, refl)),
   );
 }

@@ -5,6 +5,7 @@ use mathlib.Core.Bool.{Bool, false, cond, _&&_}
 use lib.Dec.{ltb}
 use Rattle.answers.specs.Refusals.{answer, refusalNumbers}
 use Rattle.answers.specs.declared.Numbers.{Numbers}
+use Rattle.answers.specs.declared.Refusal.{Refusal}
 use Rattle.answers.specs.declared.Refusal.the-variants.{Fragment}
 use Rattle.fragment.specs.declared.Place.{Place}
 use Rattle.fragment.specs.declared.Held.{Held}
@@ -21,14 +22,18 @@ isSlot kind lane i = ltb kind 9 && ltb lane 32 && ltb i (registers kind)
 abbrev pub isPlace : ℕ → Place → Bool
 isPlace kind p = ltb kind 9 && ltb (p .computation) (computations kind) && ltb (p .row) (rows kind) && ltb (p .column) (columns kind)
 
+-- refusal 14 where it names no register: its details are 0
+abbrev pub outside : Refusal
+outside = Fragment 0 0
+
 -- what a register holds: refusal 14 exactly when there is no such register
 abbrev pub heldAnswer : ℕ → ℕ → ℕ → Held
-heldAnswer kind lane i = cond (isSlot kind lane i) (Holds (place kind lane i)) (HoldsNot Fragment)
+heldAnswer kind lane i = cond (isSlot kind lane i) (Holds (place kind lane i)) (HoldsNot outside)
 
 -- which register holds a place: the one of which the first question answers this place; refusal 14 exactly when there is no such place
 abbrev pub HolderAnswer : ℕ → Place → Holder → Type 0
 HolderAnswer kind p (HeldBy s) = heldAnswer kind (s .lane) (s .register) ≡ Holds p
-HolderAnswer kind p (HeldByNone refusal) = (isPlace kind p ≡ false) × (refusal ≡ Fragment)
+HolderAnswer kind p (HeldByNone refusal) = (isPlace kind p ≡ false) × (refusal ≡ outside)
 
 -- at number 0 computation, row, column
 abbrev pub heldNumbers : Held → Numbers

@@ -6,8 +6,8 @@ use answers::Refusal;
 ghost use mathlib.Core.Path.{_≡_};
 ghost use mathlib.Core.Bool.{true};
 ghost use Prim.Native.Nat.{_+_, _*_, _<_};
-ghost use Rattle.fragment.specs.Kinds.{high, at, place};
-ghost use Rattle.fragment.specs.Fragment.{isSlot, isPlace, heldAnswer, HolderAnswer, heldNumbers, holderNumbers};
+ghost use Rattle.fragment.specs.Kinds.{computations, high, at, place};
+ghost use Rattle.fragment.specs.Fragment.{isSlot, isPlace, outside, heldAnswer, HolderAnswer, heldNumbers, holderNumbers};
 
 // The kinds, and the lanes of a warp.
 const KINDS: u64 = 9;
@@ -46,6 +46,17 @@ pub enum Held {
 pub enum Holder {
     Slot(Slot),
     Refused(Refusal),
+}
+
+// The computations of a kind; an unknown one has none.
+pub fn computations(kind: u64) -> u64
+    ensures { λ r. ⌜ r ≡ computations kind ⌝ }
+{
+    if kind < KINDS {
+        COMPUTATIONS[kind as usize]
+    } else {
+        0
+    }
 }
 
 // Whether there is such a kind, such a lane and such a register.
@@ -119,6 +130,16 @@ fn place_held(kind: u64, lane: u64, i: u64) -> Place
     }
 }
 
+// Refusal 14 where it names no register.
+pub fn outside() -> Refusal
+    ensures { λ r. ⌜ r ≡ outside ⌝ }
+{
+    Refusal::Fragment {
+        lane: 0,
+        register: 0,
+    }
+}
+
 // What a register of a lane holds, for any numbers.
 pub fn held_by(kind: u64, lane: u64, register: u64) -> Held
     ensures { λ r. ⌜ r ≡ heldAnswer kind lane register ⌝ }
@@ -126,7 +147,7 @@ pub fn held_by(kind: u64, lane: u64, register: u64) -> Held
     if is_slot(kind, lane, register) {
         Held::Place(place_held(kind, lane, register))
     } else {
-        Held::Refused(Refusal::Fragment)
+        Held::Refused(outside())
     }
 }
 
@@ -172,7 +193,7 @@ pub fn holder_of(kind: u64, computation: u64, row: u64, column: u64) -> Holder
     if is_place(kind, computation, row, column) {
         Holder::Slot(slot_holding(kind, computation, row, column))
     } else {
-        Holder::Refused(Refusal::Fragment)
+        Holder::Refused(outside())
     }
 }
 

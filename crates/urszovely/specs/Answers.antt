@@ -1,7 +1,9 @@
--- What the exported questions promise where the library's promise is a record: some answer that the library allows, in its numbers.
+-- What the exported questions promise where the library's promise is a record: some answer that the library allows, in its numbers; and
+-- what is left in arrays of registers.
 use Prim.Native.Nat.{ℕ}
 use mathlib.Core.Path.{_≡_}
 use mathlib.Core.List.{List}
+use lib.Ieee.{Float}
 use Rattle.fragment.specs.Fragment.{HolderAnswer, holderNumbers}
 use Rattle.fragment.specs.declared.Place.{Place}
 use Rattle.fragment.specs.declared.Holder.{Holder}
@@ -10,6 +12,8 @@ use Rattle.placement.specs.declared.Placement.{Placement}
 use Rattle.judgement.specs.Verdict.{VerdictPromise, OwnerPromise, verdictNumbers, ownerNumbers}
 use Rattle.judgement.specs.declared.Verdict.{Verdict}
 use Rattle.judgement.specs.declared.Owner.{Owner}
+use Rattle.values.specs.declared.Register.{Register}
+use Rattle.lent.specs.Lent.{sortAfter, singleAfter, doubleAfter, after}
 use Rattle.plain.specs.Plain.{cardFrom, tupleFrom, four}
 
 pub record AsHolder (kind : ℕ) (place : Place) (answer : List ℕ) : Type 0 where
@@ -31,3 +35,9 @@ pub record AsOwner (card : List ℕ) (marks : ℕ) (coordinates before after ans
   pub owner : Owner
   pub allowed : OwnerPromise (cardFrom card marks) coordinates before after owner
   pub numbers : answer ≡ four (ownerNumbers owner)
+
+-- registers written back to three arrays, as they were and as they are after
+pub record Written (registers : List (List Register)) (sorts : List ℕ) (singles doubles : List Float) (sorts′ : List ℕ) (singles′ doubles′ : List Float) : Type 0 where
+  pub of-sorts : sorts′ ≡ after sortAfter registers sorts
+  pub of-singles : singles′ ≡ after singleAfter registers singles
+  pub of-doubles : doubles′ ≡ after doubleAfter registers doubles

@@ -11,8 +11,11 @@ ghost use Rattle.mask.specs.Mask.{maskAnswer, maskMemory, maskNumbers};
 ghost use Rattle.card.specs.Admission.{admissionNumbers};
 ghost use Rattle.idle.specs.Admission.{fullAdmission};
 ghost use Rattle.stretch.specs.Stretch.{stretchAnswer, stretchNumbers};
+ghost use Rattle.values.specs.Registers.{dealAnswer, collectAnswer, dealtLanes, collectedTile, movedNumbers};
+ghost use Rattle.values.specs.Holdings.{dealHoldingsAnswer, collectHoldingsAnswer, dealtHoldings, collectedFromHoldings};
+ghost use Rattle.lent.specs.Lent.{rowsFrom, holdingsFrom, numbersOf};
 ghost use Rattle.plain.specs.Plain.{cardFrom, fieldsFrom, bytesOf, four};
-ghost use Rattle.urszovely.specs.Answers.{AsHolder, AsPlacement, AsVerdict, AsOwner};
+ghost use Rattle.urszovely.specs.Answers.{AsHolder, AsPlacement, AsVerdict, AsOwner, Written};
 
 // The swizzle of an address.
 #[no_mangle]
@@ -67,6 +70,102 @@ pub extern "C" fn urszovely_holder(
 {
     let holder = fragment::holder_of(kind, computation, row, column);
     let numbers = fragment::holder_numbers(holder);
+    *answer = plain::four(numbers);
+}
+
+// A computation's matrix dealt to its lanes.
+#[no_mangle]
+pub extern "C" fn urszovely_deal(
+    kind: u64,
+    computation: u64,
+    tile_sorts: &[u8; 64],
+    tile_singles: &[f32; 64],
+    tile_doubles: &[f64; 64],
+    sorts: &mut [u8; 256],
+    singles: &mut [f32; 256],
+    doubles: &mut [f64; 256],
+    answer: &mut [u64; 4],
+)
+    ensures { λ r. ⌜ now (answer .exit) ≡ four (movedNumbers (dealAnswer kind computation (rowsFrom 8 (now («tile_sorts» .entry)) (now («tile_singles» .entry)) (now («tile_doubles» .entry))))) ⌝ }
+    ensures { λ r. ⌜ Written (dealtLanes kind computation (rowsFrom 8 (now («tile_sorts» .entry)) (now («tile_singles» .entry)) (now («tile_doubles» .entry))) (rowsFrom 32 (now (sorts .entry)) (now (singles .entry)) (now (doubles .entry)))) (now (sorts .entry)) (now (singles .entry)) (now (doubles .entry)) (now (sorts .exit)) (now (singles .exit)) (now (doubles .exit)) ⌝ }
+{
+    let tile = lent::tile(tile_sorts, tile_singles, tile_doubles);
+    let lanes = lent::lanes(sorts, singles, doubles);
+    let dealt = dealing::deal(kind, computation, tile, lanes);
+    lent::put_lanes(dealt, sorts, singles, doubles);
+    let told = dealing::judge_dealing(kind, computation, tile);
+    let numbers = dealing::moved_numbers(told);
+    *answer = plain::four(numbers);
+}
+
+// And collected from them.
+#[no_mangle]
+pub extern "C" fn urszovely_collect(
+    kind: u64,
+    computation: u64,
+    lane_sorts: &[u8; 256],
+    lane_singles: &[f32; 256],
+    lane_doubles: &[f64; 256],
+    sorts: &mut [u8; 64],
+    singles: &mut [f32; 64],
+    doubles: &mut [f64; 64],
+    answer: &mut [u64; 4],
+)
+    ensures { λ r. ⌜ now (answer .exit) ≡ four (movedNumbers (collectAnswer kind computation (rowsFrom 32 (now («lane_sorts» .entry)) (now («lane_singles» .entry)) (now («lane_doubles» .entry))))) ⌝ }
+    ensures { λ r. ⌜ Written (collectedTile kind computation (rowsFrom 32 (now («lane_sorts» .entry)) (now («lane_singles» .entry)) (now («lane_doubles» .entry))) (rowsFrom 8 (now (sorts .entry)) (now (singles .entry)) (now (doubles .entry)))) (now (sorts .entry)) (now (singles .entry)) (now (doubles .entry)) (now (sorts .exit)) (now (singles .exit)) (now (doubles .exit)) ⌝ }
+{
+    let lanes = lent::lanes(lane_sorts, lane_singles, lane_doubles);
+    let tile = lent::tile(sorts, singles, doubles);
+    let collected = dealing::collect(kind, computation, lanes, tile);
+    lent::put_tile(collected, sorts, singles, doubles);
+    let told = dealing::judge_collecting(kind, computation, lanes);
+    let numbers = dealing::moved_numbers(told);
+    *answer = plain::four(numbers);
+}
+
+// A matrix of an .f64 kind dealt to the lanes' holdings.
+#[no_mangle]
+pub extern "C" fn urszovely_deal_f64(
+    kind: u64,
+    computation: u64,
+    tile_sorts: &[u8; 64],
+    tile_singles: &[f32; 64],
+    tile_doubles: &[f64; 64],
+    holdings: &mut [f64; 128],
+    answer: &mut [u64; 4],
+)
+    ensures { λ r. ⌜ now (answer .exit) ≡ four (movedNumbers (dealHoldingsAnswer kind computation (rowsFrom 8 (now («tile_sorts» .entry)) (now («tile_singles» .entry)) (now («tile_doubles» .entry))))) ⌝ }
+    ensures { λ r. ⌜ now (holdings .exit) ≡ numbersOf (dealtHoldings kind computation (rowsFrom 8 (now («tile_sorts» .entry)) (now («tile_singles» .entry)) (now («tile_doubles» .entry))) (holdingsFrom (now (holdings .entry)))) ⌝ }
+{
+    let tile = lent::tile(tile_sorts, tile_singles, tile_doubles);
+    let held = lent::holdings(holdings);
+    let dealt = holdings::deal(kind, computation, tile, held);
+    lent::put_holdings(dealt, holdings);
+    let told = holdings::judge_dealing(kind, computation, tile);
+    let numbers = dealing::moved_numbers(told);
+    *answer = plain::four(numbers);
+}
+
+// And collected from them.
+#[no_mangle]
+pub extern "C" fn urszovely_collect_f64(
+    kind: u64,
+    computation: u64,
+    holdings: &[f64; 128],
+    sorts: &mut [u8; 64],
+    singles: &mut [f32; 64],
+    doubles: &mut [f64; 64],
+    answer: &mut [u64; 4],
+)
+    ensures { λ r. ⌜ now (answer .exit) ≡ four (movedNumbers (collectHoldingsAnswer kind computation)) ⌝ }
+    ensures { λ r. ⌜ Written (collectedFromHoldings kind computation (holdingsFrom (now (holdings .entry))) (rowsFrom 8 (now (sorts .entry)) (now (singles .entry)) (now (doubles .entry)))) (now (sorts .entry)) (now (singles .entry)) (now (doubles .entry)) (now (sorts .exit)) (now (singles .exit)) (now (doubles .exit)) ⌝ }
+{
+    let held = lent::holdings(holdings);
+    let tile = lent::tile(sorts, singles, doubles);
+    let collected = holdings::collect(kind, computation, held, tile);
+    lent::put_tile(collected, sorts, singles, doubles);
+    let told = holdings::judge_collecting(kind, computation);
+    let numbers = dealing::moved_numbers(told);
     *answer = plain::four(numbers);
 }
 

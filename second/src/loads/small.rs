@@ -102,7 +102,7 @@ pub fn mode(random: &mut Random) -> Vec<Number> {
 }
 
 /// Mostly inside, sometimes at the edge, now and then anything.
-fn near(random: &mut Random, inside: u64) -> u64 {
+pub fn near(random: &mut Random, inside: u64) -> u64 {
     match random.below(20) {
         0..=16 => random.below(inside),
         17 | 18 => random.around(inside),

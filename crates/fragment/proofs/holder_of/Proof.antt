@@ -1,10 +1,10 @@
 -- `fragment::holder_of` answers any numbers: the branch taken is the one that `isPlace` picks.
-use mathlib.Core.Path.{refl, sym, _∙_}
+use mathlib.Core.Path.{sym, _∙_}
 use Rattle.fragment.proofs.holder_of.Statement.{statement}
 use Rattle.fragment.proofs.holder_of.Tie as tie
 
 pub holder-of-spec : {M : Type 1} → statement M
 holder-of-spec =
     tie.close
-    (tie.spec (λ c κs. tt) (λ c κs. sym (c .before .is-place .ensures) ∙ c .if1 .taken) (λ c. c .slot-holding .ensures)
-    (λ c. (sym (c .before .is-place .ensures) ∙ c .if1 .left, refl)))
+    (tie.spec (λ c κs. tt) (λ c κs. sym (c .before .is-place .ensures) ∙ c .if1 .taken) (λ c κs. tt) (λ c. c .slot-holding .ensures)
+    (λ c. (sym (c .before .before .is-place .ensures) ∙ c .before .if1 .left, c .outside .ensures)))

@@ -1,0 +1,12 @@
+-- `dealing::deal` fills or leaves as given, as the answer says.
+use mathlib.Core.Path.{sym, _∙_}
+use borrow.Author.Needs.{needs}
+use Rattle.dealing.proofs.deal.Statement.{statement}
+use Rattle.dealing.proofs.deal.Tie as tie
+
+pub deal-spec : {M : Type 1} → statement M
+deal-spec =
+    tie.close
+    (tie.spec (λ c κs. search needs) (λ c. search needs) (λ c κs. search needs) (λ c. search needs)
+    (λ c. rw (sym (c .before .before .before .judge-dealing .ensures) ∙ c .before .enum-told .given .1) (c .dealt-lanes .ensures))
+    (λ c. rw (sym (c .before .before .judge-dealing .ensures) ∙ c .enum-told2 .given .1)))

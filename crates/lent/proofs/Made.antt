@@ -1,0 +1,21 @@
+-- Values made from their numbers: a list each of whose entries is made anew without looking at what was there. By induction on the list.
+use mathlib.Core.Path.{_≡_, refl, ap, _∙_}
+use mathlib.Core.List.{List, [], _∷_}
+use Prim.Native.Nat.{ℕ, suc, _/_, _%_}
+use lib.ListN.{length}
+use Rattle.values.specs.declared.Register.{Register}
+use Rattle.values.specs.declared.Register.the-variants.{Empty}
+use Rattle.values.specs.Rows.{each, entry}
+use Rattle.lent.specs.Lent.{made}
+
+each-made : {A : Type 0} (f : ℕ → A) (l : List A) → each (λ k given. f k) l ≡ made (length l) f
+unfolding each made
+each-made f [] = refl
+each-made f (x ∷ l) = ap (λ t. f 0 ∷ t) (each-made (λ k. f (suc k)) l)
+
+pub made-anew : {A : Type 0} (f : ℕ → A) (l : List A) (n : ℕ) → length l ≡ n → each (λ k given. f k) l ≡ made n f
+made-anew f l n e = each-made f l ∙ ap (λ (m : ℕ). made m f) e
+
+-- what writing a register back makes of entry j
+abbrev pub written : {A : Type 0} → (Register → A → A) → List (List Register) → ℕ → A → A
+written write rows j = write (entry Empty rows (j / 8) (j % 8))

@@ -1,0 +1,11 @@
+-- `lent::field` is the definition: the branch taken is the one that the number picks.
+use borrow.Author.Tests.{eq-eqb, ne-eqb}
+use Rattle.lent.proofs.field.Statement.{statement}
+use Rattle.lent.proofs.field.Tie as tie
+
+pub field-spec : {M : Type 1} → statement M
+field-spec =
+    tie.close
+    (tie.spec (λ c. rw (eq-eqb _ _ (c .if1 .taken))) (λ c. rw (ne-eqb _ _ (c .before .if1 .left), eq-eqb _ _ (c .if2 .taken)))
+    (λ c. rw (ne-eqb _ _ (c .before .before .if1 .left), ne-eqb _ _ (c .before .if2 .left), eq-eqb _ _ (c .if3 .taken)))
+    (λ c. rw (ne-eqb _ _ (c .before .before .if1 .left), ne-eqb _ _ (c .before .if2 .left), ne-eqb _ _ (c .if3 .left))))

@@ -1,0 +1,33 @@
+-- `urszovely::urszovely_collect` answers what the library's question answers, over the values that the arrays hold.
+use mathlib.Core.Path.{ap, ap₂, _∙_}
+use mathlib.Core.List.{List}
+use borrow.Author.Needs.{needs}
+use Rattle.values.specs.declared.Register.{Register}
+use Rattle.values.specs.Registers.{movedNumbers, collectAnswer, collectedTile}
+use Rattle.lent.specs.Lent.{sortAfter, singleAfter, doubleAfter, after}
+use Rattle.plain.specs.Plain.{four}
+use Rattle.urszovely.proofs.urszovely_collect.Statement.{statement}
+use Rattle.urszovely.proofs.urszovely_collect.Tie as tie
+
+returns : tie.Need-returns
+returns c =
+    let m = c .before in
+    let j = m .before in
+    let p = j .before in
+    let d = p .before .before .before .before in
+    let t = d .before in
+    let l = t .before .before .before .before .before .before .before in
+    let a = l .before .before .before .before .args in
+    let whole = d .collect .ensures ∙ ap₂ (collectedTile (a .kind) (a .computation)) (l .lanes .ensures) (t .tile .ensures) in (
+      c .four .ensures ∙ ap four (m .moved-numbers .ensures ∙ ap movedNumbers (j .judge-collecting .ensures ∙ ap (collectAnswer (a .kind) (a .computation)) (l .lanes .ensures))),
+      record {
+        of-sorts = p .put-tile .ensures .0 ∙ ap (λ (r : List (List Register)). after sortAfter r (a .sorts .now)) whole;
+        of-singles = p .put-tile .ensures .1 .0 ∙ ap (λ (r : List (List Register)). after singleAfter r (a .singles .now)) whole;
+        of-doubles = p .put-tile .ensures .1 .1 ∙ ap (λ (r : List (List Register)). after doubleAfter r (a .doubles .now)) whole;
+      },
+    )
+
+pub urszovely-collect-spec : {M : Type 1} → statement M
+urszovely-collect-spec =
+    tie.close
+    (tie.spec (λ c κs. search needs) (λ c κs. search needs) (λ c κs. search needs) (λ c κs. search needs) (λ c κs. search needs) (λ c κs. search needs) (λ c κs. search needs) returns)
