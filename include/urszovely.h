@@ -39,7 +39,8 @@ enum urszovely_refusal {
     URSZOVELY_FRAGMENT = 14,   /* unknown fragment kind, or a number outside it; or a value of the wrong sort: lane, register */
     URSZOVELY_RESERVED = 15,   /* reserved descriptor bits set */
     URSZOVELY_SHIFT = 16,      /* mask shift above its limit: the limit */
-    URSZOVELY_IDLE = 17        /* two replica combinations give the same sum on every axis: a, b */
+    URSZOVELY_IDLE = 17,       /* two replica combinations give the same sum on every axis: a, b */
+    URSZOVELY_NOTATION = 18    /* a text that is not correct: the bytes of its longest beginning that some correct text also has */
 };
 
 /* The swizzle M, B, S of an address: 0 with the new address, or 6. */
@@ -101,6 +102,15 @@ void urszovely_owner(const uint64_t card[57], uint64_t marks, const uint64_t coo
 /* The cells of a table under the coordinates of all axes up to one: 0 with the first cell and how many; or 3, 4, 12, 11. */
 void urszovely_stretch(const uint32_t *table, size_t length, const uint64_t lengths[8], uint64_t axis, const uint64_t coordinates[8], uint64_t answer[4]);
 
+/* A text of the layout notation, any bytes, read: 0, or 18 with the bytes of its longest beginning that some correct text also has. Shard,
+ * replica and offsets go to the first 46 numbers of the card, refused 46 zeros, and the marks to one number; the card's lengths and
+ * M, B, S stay as they are. */
+void urszovely_read(const uint8_t *text, size_t length, uint64_t card[57], uint64_t marks[1], uint64_t answer[4]);
+
+/* And written, the card's lengths and M, B, S aside, into lent bytes: 0 with the length of the text, bytes past it stay; or 1 to 3, 11 with
+ * the length needed. No text is longer than 473 bytes. */
+void urszovely_write(const uint64_t card[57], uint64_t marks, uint8_t *text, size_t length, uint64_t answer[4]);
+
 /* A refusal's number in words. */
 static inline const char *urszovely_refusal_text(uint64_t number)
 {
@@ -123,6 +133,7 @@ static inline const char *urszovely_refusal_text(uint64_t number)
     case 15: return "reserved descriptor bits set";
     case 16: return "mask shift above its limit";
     case 17: return "two replica combinations give the same sum on every axis";
+    case 18: return "a text that is not correct in the layout notation";
     default: return "no refusal";
     }
 }

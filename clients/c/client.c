@@ -6,7 +6,7 @@ long read(int file, void *bytes, size_t length);
 long write(int file, const void *bytes, size_t length);
 
 /* the program's own limits; another program over this file may lend longer tables */
-enum { CARD = URSZOVELY_CARD, MOST_LINE = 4096, MOST_NUMBERS = 80, MOST_LENT = 64 };
+enum { CARD = URSZOVELY_CARD, MOST_LINE = 4096, MOST_NUMBERS = 80, MOST_LENT = 64, LAYOUT = 46, MOST_TEXT = 1024 };
 #ifndef MOST_TABLE
 #define MOST_TABLE 16384
 #endif
@@ -115,7 +115,7 @@ static int take_marks(void)
     marks = 0;
     if (!word_length || word[word_length - 1] != '*') return 1;
     word_length--;
-    if (!(is("verdict") || is("owner") || is("place")) || !count || signs[0] || numbers[0] > 255) return 0;
+    if (!(is("verdict") || is("owner") || is("place") || is("write")) || !count || signs[0] || numbers[0] > 255) return 0;
     marks = numbers[0];
     count--;
     for (i = 0; i < count; i++) {
@@ -145,17 +145,17 @@ static int fits(int wanted, int with_card)
 /* the card: strides and offsets in two's complement, from 2^63 on without a minus the largest */
 static uint64_t card[CARD];
 
-static void take_card(void)
+static void take_card(int length)
 {
     int i;
-    for (i = 0; i < CARD; i++) {
+    for (i = 0; i < length; i++) {
         card[i] = signs[i] ? 0 - numbers[i] : numbers[i];
         if (is_signed(i) && !signs[i] && numbers[i] >> 63) card[i] = UINT64_MAX >> 1;
     }
 }
 
 static uint32_t table[MOST_TABLE];
-static uint8_t bytes[MOST_LENT];
+static uint8_t bytes[MOST_LENT], text[MOST_TEXT];
 static uint64_t answer[4];
 
 static void lend(uint64_t length)
@@ -192,7 +192,7 @@ static int layout(void)
     uint64_t length = count ? numbers[count - 1] : 0, i;
     if (is("verdict") || is("owner")) {
         if (!fits(is("verdict") ? CARD + 1 : CARD + 9, 1) || length > MOST_TABLE) return 0;
-        take_card();
+        take_card(CARD);
         lend(length);
         if (is("verdict")) urszovely_verdict(card, marks, table, (size_t)length, answer);
         else urszovely_owner(card, marks, numbers + CARD, table, (size_t)length, answer);
@@ -203,7 +203,7 @@ static int layout(void)
     }
     if (is("place")) {
         if (!fits(CARD + 19, 1) || length > MOST_LENT) return 0;
-        take_card();
+        take_card(CARD);
         lend(length);
         urszovely_place(card, marks, numbers + CARD, numbers + CARD + 9, table, (size_t)length, answer);
         put_answer();
@@ -217,6 +217,50 @@ static int layout(void)
     put_answer();
     put_text(" |");
     put_value(answer[0] ? 0 : digest(table + answer[1], answer[2]));
+    return 1;
+}
+
+/* a text after the one space: the card's other numbers are not the text's, so they have to stay */
+static int read_text(void)
+{
+    uint64_t read_marks[1] = { 0 }, n;
+    size_t length = line_length - 5, i;
+    int k;
+    if (length > MOST_TEXT) return 0;
+    for (i = 0; i < length; i++) text[i] = (uint8_t)line[5 + i];
+    for (k = 0; k < CARD; k++) card[k] = 1000000 + (uint64_t)k;
+    urszovely_read(text, length, card, read_marks, answer);
+    put_answer();
+    put_text(" |");
+    for (k = 0; k < LAYOUT; k++) {
+        n = card[k];
+        put(' ');
+        if (is_signed(k) && n >> 63) {
+            put('-');
+            n = 0 - n;
+        }
+        put_number(n);
+    }
+    for (k = 0; k < 8; k++) put_value(read_marks[0] >> k & 1);
+    for (k = LAYOUT; k < CARD; k++)
+        if (card[k] != 1000000 + (uint64_t)k) put_text(" a number that had to stay");
+    return 1;
+}
+
+static int write_text(void)
+{
+    uint64_t length = count ? numbers[count - 1] : 0, i, sum = 0;
+    if (!fits(LAYOUT + 1, 1) || length > MOST_TEXT) return 0;
+    take_card(LAYOUT);
+    for (i = 0; i < length; i++) text[i] = 165;
+    urszovely_write(card, marks, text, (size_t)length, answer);
+    for (i = 0; i < length; i++) sum = (sum + (i + 1) * text[i]) % 4294967291u;
+    put_answer();
+    put_text(" |");
+    put_value(sum);
+    if (answer[0]) return 1;
+    put(' ');
+    for (i = 0; i < answer[1]; i++) put((char)text[i]);
     return 1;
 }
 
@@ -370,11 +414,23 @@ static int plain(void)
     return 1;
 }
 
+/* the word read and one space, and then any bytes */
+static int is_read(void)
+{
+    int i;
+    if (line_length < 5) return 0;
+    for (i = 0; i < 5; i++)
+        if (line[i] != "read "[i]) return 0;
+    return 1;
+}
+
 static int ask(void)
 {
+    if (is_read()) return read_text();
     if (!parse() || !take_marks()) return 0;
     if (is("verdict") || is("owner") || is("place") || is("stretch")) return layout();
     if (is("deal") || is("collect") || is("deal-f64") || is("collect-f64")) return values();
+    if (is("write")) return write_text();
     if (is("mask")) return mask();
     if (is("fields")) return fields();
     if (is("descriptor")) return descriptor();

@@ -187,6 +187,36 @@ static void guarded_stretch(const uint32_t *table, size_t length, const uint64_t
     settle(ANSWER, answer, 32);
 }
 
+/* what stands where the layout goes, and for the marks, is unlike on the two sides */
+static void guarded_read(const uint8_t *text, size_t length, uint64_t *card, uint64_t *marks, uint64_t *answer)
+{
+    int side;
+    uint64_t *own;
+    for (side = 0; side < 2; side++) {
+        own = lent(side, card, 57 * 8);
+        memset(own, side ? 0x5a : 0xa5, 46 * 8);
+        memset(slot(LENT_DOUBLES, side, 8), side ? 0x5a : 0xa5, 8);
+        urszovely_read(given(FIRST, side, text, length), length, own, (uint64_t *)(void *)slot(LENT_DOUBLES, side, 8), blank(side));
+    }
+    settle(LENT, card, 57 * 8);
+    settle(LENT_DOUBLES, marks, 8);
+    settle(ANSWER, answer, 32);
+}
+
+/* a card's lengths and M, B, S are not written, so they are unlike on the two sides */
+static void guarded_write(const uint64_t *card, uint64_t marks, uint8_t *text, size_t length, uint64_t *answer)
+{
+    int side;
+    uint64_t own[57];
+    memcpy(own, card, 46 * 8);
+    for (side = 0; side < 2; side++) {
+        memset(own + 46, side ? 0x5a : 0xa5, 11 * 8);
+        urszovely_write(given(FIRST, side, own, 57 * 8), marks, lent(side, text, length), length, blank(side));
+    }
+    settle(LENT, text, length);
+    settle(ANSWER, answer, 32);
+}
+
 /* Registers: sorts, singles, doubles in three slots from one on, so many; on the second side an empty register's sort is 3 or 255, which is
  * wrong as 0 is and stays where it is not written. */
 enum { MOST_REGISTERS = 256 };
@@ -290,6 +320,8 @@ static void guarded_collect_f64(uint64_t kind, uint64_t computation, const doubl
 #define urszovely_verdict guarded_verdict
 #define urszovely_owner guarded_owner
 #define urszovely_stretch guarded_stretch
+#define urszovely_read guarded_read
+#define urszovely_write guarded_write
 #define urszovely_deal guarded_deal
 #define urszovely_collect guarded_collect
 #define urszovely_deal_f64 guarded_deal_f64

@@ -1,6 +1,7 @@
 //! The committed lines as they landed, a file for each landing and, where it
-//! has lines of full size or lines about values, one for these. A later landing
-//! appends its own and leaves the earlier ones alone, whatever limits it moves.
+//! has lines of full size, lines about values or inputs of `judge`, one for
+//! these. A later landing appends its own and leaves the earlier ones alone,
+//! whatever limits it moves.
 
 /// The lines of `crates/desk/stdin`.
 const BLOCKS: &[&[u8]] = &[
@@ -11,6 +12,7 @@ const BLOCKS: &[&[u8]] = &[
     include_bytes!("../loads/blocks/05-ask-04.txt"),
     include_bytes!("../loads/blocks/06-ask-11.txt"),
     include_bytes!("../loads/blocks/07-ask-12.txt"),
+    include_bytes!("../loads/blocks/09-ask-05.txt"),
 ];
 
 /// The lines of full size: 16,384 elements and more, up to 64 copies, tables
@@ -26,6 +28,9 @@ const LARGE: &[&[u8]] = &[
 /// The lines about values, which only the client answers.
 const VALUES: &[&[u8]] = &[include_bytes!("../loads/values/08-ask-01.txt")];
 
+/// The inputs of `judge`, each spelt on a line.
+const JUDGE: &[&[u8]] = &[include_bytes!("../loads/judge/09-ask-05.txt")];
+
 pub fn blocks() -> Vec<u8> {
     BLOCKS.concat()
 }
@@ -38,9 +43,14 @@ pub fn values() -> Vec<u8> {
     VALUES.concat()
 }
 
+pub fn judge_inputs() -> Vec<u8> {
+    JUDGE.concat()
+}
+
 #[cfg(test)]
 mod tests {
     use super::*;
+    use crate::judge::answer_each;
     use crate::lines::{answers, reached};
     use crate::loads::random::seed_of;
     use crate::verdict::MOST_ENTRIES;
@@ -56,6 +66,7 @@ mod tests {
         0x50b8_c06c_a5fb_c750,
         0x9f29_6235_3480_a824,
         0xd8f4_b337_a3c3_10c9,
+        0x03fa_d2d2_c916_7032,
     ];
     const LARGE_CHECKS: &[u64] = &[
         0xa6f5_5d97_af13_b392,
@@ -64,6 +75,7 @@ mod tests {
         0x5b14_d33b_47c5_2648,
         0x299b_0b55_97ab_889d,
     ];
+    const JUDGE_CHECKS: &[u64] = &[0x8cbc_3dca_17c8_f36c];
     const VALUES_CHECKS: &[u64] = &[0x57eb_6585_6908_3b30];
 
     #[test]
@@ -72,6 +84,7 @@ mod tests {
         assert_eq!(checks(BLOCKS), CHECKS);
         assert_eq!(checks(LARGE), LARGE_CHECKS);
         assert_eq!(checks(VALUES), VALUES_CHECKS);
+        assert_eq!(checks(JUDGE), JUDGE_CHECKS);
     }
 
     /// The files of a folder one after the other, by name.
@@ -91,7 +104,8 @@ mod tests {
         assert!(folder("blocks") == blocks());
         assert!(folder("large") == large());
         assert!(folder("values") == values());
-        let mut files = BLOCKS.iter().chain(LARGE).chain(VALUES);
+        assert!(folder("judge") == judge_inputs());
+        let mut files = BLOCKS.iter().chain(LARGE).chain(VALUES).chain(JUDGE);
         assert!(files.all(|file| file.ends_with(b"\n")));
     }
 
@@ -124,6 +138,26 @@ mod tests {
             assert!(of_word(&blocks(), word).is_empty(), "{word}");
         }
         assert!(answers(&values(), MOST_ENTRIES).all(|said| said == "?\n"));
+    }
+
+    #[test]
+    fn what_judge_says() {
+        let said = String::from_utf8(answer_each(&judge_inputs())).unwrap();
+        let wanted = [
+            "accepted 128 256 704",
+            "refused 2 0 0 0",
+            "refused 4 0 0 0",
+            "refused 5 0 0 0",
+            "refused 7 8 1 0",
+            "refused 8 0 8 384",
+            "refused 11 28672 0 0",
+            "refused 17 0 1 0",
+            "refused 18 22 0 0",
+        ];
+        for text in wanted {
+            assert!(said.lines().any(|said| said == text), "{text}");
+        }
+        assert!(!said.lines().any(|said| said == "?"));
     }
 
     #[test]

@@ -239,6 +239,11 @@ impl Card {
 
     /// Checks 1 to 6, each looked at only when those before it hold.
     pub fn refusal(&self) -> Option<Refusal> {
+        self.first_refusal(6)
+    }
+
+    /// The first so many of these checks.
+    pub fn first_refusal(&self, count: usize) -> Option<Refusal> {
         let iters = [self.shard(), self.replica()].concat();
         let counts = (1..=SHARD_SLOTS as u64).contains(&self.shard_count)
             && self.replica_count <= REPLICA_SLOTS as u64;
@@ -261,7 +266,7 @@ impl Card {
             (few, TOO_MANY),
             (self.swizzle.permitted(), NOT_ALLOWED),
         ];
-        let first = checks.iter().find(|(holds, _)| !holds);
+        let first = checks[..count].iter().find(|(holds, _)| !holds);
         first.map(|(_, number)| Refusal::plain(*number))
     }
 
@@ -419,11 +424,7 @@ pub fn answer_place(marks: Marks, numbers: &[Number]) -> Option<Answer> {
         }
         Err(refusal) => (refusal.number, refusal.details),
     };
-    Some(Answer {
-        number,
-        details,
-        after_bar: Some(entries),
-    })
+    Some(Answer::beside(number, details, &entries))
 }
 
 #[cfg(test)]

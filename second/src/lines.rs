@@ -1,7 +1,7 @@
 //! The line protocol: splitting the input, the rule for numbers, and how an
 //! answer is printed.
 
-use crate::words::{Word, CLIENT, DESK};
+use crate::words::{Word, CLIENT, DESK, TEXT_WORDS};
 use std::fmt::Write;
 
 /// A line of more bytes than this is no question.
@@ -16,7 +16,7 @@ pub const NO_QUESTION: &str = "?";
 pub struct Answer {
     pub number: u64,
     pub details: [u64; 3],
-    pub after_bar: Option<Vec<u64>>,
+    pub after_bar: Option<Vec<String>>,
 }
 
 impl Answer {
@@ -26,6 +26,15 @@ impl Answer {
             number,
             details,
             after_bar: None,
+        }
+    }
+
+    /// An answer with these values after the bar.
+    pub fn beside(number: u64, details: [u64; 3], values: &[impl ToString]) -> Answer {
+        Answer {
+            number,
+            details,
+            after_bar: Some(values.iter().map(ToString::to_string).collect()),
         }
     }
 
@@ -97,11 +106,8 @@ pub fn whole(numbers: &[u64]) -> Vec<Number> {
 /// The words that a program answers.
 type Words = &'static [&'static [Word]];
 
-/// The word and the numbers of a line, if it is a question at all.
+/// The word and the numbers of a line, if it is a question with numbers.
 fn question(line: &[u8], words: Words) -> Option<(&'static Word, Vec<Number>)> {
-    if line.len() > LONGEST_LINE {
-        return None;
-    }
     // Splitting at every single space leaves an empty piece wherever there is
     // one space too many, and an empty piece is no number.
     let mut pieces = line.split(|byte| *byte == b' ');
@@ -112,14 +118,36 @@ fn question(line: &[u8], words: Words) -> Option<(&'static Word, Vec<Number>)> {
     (numbers.len() == word.count).then_some((word, numbers))
 }
 
+/// The answer to a question with a text, if the line is one: all that follows
+/// the one space after the word is the text, whatever bytes it has.
+fn text_answer(line: &[u8]) -> Option<Answer> {
+    let space = line.iter().position(|byte| *byte == b' ')?;
+    let (name, text) = (&line[..space], &line[space + 1..]);
+    let mut words = TEXT_WORDS.iter();
+    let word = words.find(|word| word.name.as_bytes() == name)?;
+    (word.answer)(text)
+}
+
+/// The answer to a question, if the line is one.
+fn answer_question(words: Words, line: &[u8], most: u64) -> Option<Answer> {
+    if line.len() > LONGEST_LINE {
+        return None;
+    }
+    // No word is of both sorts, so a line that is none of the one sort may be
+    // tried as the other.
+    text_answer(line).or_else(|| {
+        let (word, numbers) = question(line, words)?;
+        (word.answer)(&numbers, most)
+    })
+}
+
 /// The answer of the program with these words to one line without its line
 /// feed; an empty line gets none.
 fn answer_among(words: Words, line: &[u8], most: u64) -> Option<String> {
     if line.is_empty() {
         return None;
     }
-    let answer = question(line, words).and_then(|(word, numbers)| (word.answer)(&numbers, most));
-    Some(match answer {
+    Some(match answer_question(words, line, most) {
         Some(answer) => answer.print(),
         None => NO_QUESTION.to_string(),
     })

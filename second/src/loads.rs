@@ -14,6 +14,7 @@ pub mod random;
 pub mod reuse;
 pub mod signed;
 pub mod small;
+pub mod texts;
 pub mod values;
 
 use crate::lines::Number;
@@ -61,6 +62,8 @@ const MAKERS: &[Maker] = &[
     ("verdict*", |random| reuse::verdict(random, meeting_card)),
     ("owner*", |random| reuse::owner(random, meeting_card)),
     ("bank", small::bank),
+    ("write", texts::write),
+    ("write*", texts::starred_write),
 ];
 
 /// Questions about values, which only the client answers.
@@ -102,11 +105,21 @@ fn ended(mut line: Vec<u8>) -> Vec<u8> {
     line
 }
 
+/// One random line in so many has a text in the place of numbers.
+const TEXT_ONE_IN: u64 = 16;
+
+fn any_line(random: &mut Random) -> Vec<u8> {
+    match random.once_in(TEXT_ONE_IN) {
+        true => texts::read_line(random),
+        false => line(random, MAKERS),
+    }
+}
+
 /// So many random lines; every one but the last ends in a line feed.
 pub fn random_lines(seed: &[u8], count: u64) -> impl Iterator<Item = Vec<u8>> {
     let mut random = Random::new(seed_of(seed));
     (1..=count).map(move |at| {
-        let line = line(&mut random, MAKERS);
+        let line = any_line(&mut random);
         if at < count {
             ended(line)
         } else {
@@ -115,13 +128,31 @@ pub fn random_lines(seed: &[u8], count: u64) -> impl Iterator<Item = Vec<u8>> {
     })
 }
 
-/// So many random lines of one word; none where it is no word.
-pub fn block(word: &[u8], seed: &[u8], count: u64) -> Option<impl Iterator<Item = Vec<u8>>> {
+/// What makes a line of one word; none where it is no word.
+fn maker_of(word: &[u8]) -> Option<Box<dyn Fn(&mut Random) -> Vec<u8>>> {
+    if word == b"read" {
+        return Some(Box::new(texts::read_line));
+    }
     let of_word = |maker: &&Maker| maker.0.as_bytes() == word;
     let all = MAKERS.iter().chain(VALUE_MAKERS);
     let makers: Vec<Maker> = all.filter(of_word).copied().collect();
+    match makers.is_empty() {
+        true => None,
+        false => Some(Box::new(move |random| line(random, &makers))),
+    }
+}
+
+/// So many random lines of one word; none where it is no word.
+pub fn block(word: &[u8], seed: &[u8], count: u64) -> Option<impl Iterator<Item = Vec<u8>>> {
+    let make = maker_of(word)?;
     let mut random = Random::new(seed_of(seed));
-    (!makers.is_empty()).then(|| (0..count).map(move |_| ended(line(&mut random, &makers))))
+    Some((0..count).map(move |_| ended(make(&mut random))))
+}
+
+/// So many random inputs of `judge`, each spelt on a line.
+pub fn judge_inputs(seed: &[u8], count: u64) -> impl Iterator<Item = Vec<u8>> {
+    let mut random = Random::new(seed_of(seed));
+    (0..count).map(move |_| ended(texts::judge_input(&mut random)))
 }
 
 /// So many random questions of full size.
@@ -144,7 +175,7 @@ mod tests {
     use super::*;
     use crate::lines::{answers, reached};
     use crate::verdict::MOST_ENTRIES;
-    use crate::words::{NUMBERS, VALUE_NUMBERS, VALUE_WORDS, WORDS};
+    use crate::words::{NUMBERS, TEXT_WORDS, VALUE_NUMBERS, VALUE_WORDS, WORDS};
 
     fn lines(seed: &str, count: u64) -> Vec<Vec<u8>> {
         random_lines(seed.as_bytes(), count).collect()
@@ -167,7 +198,7 @@ mod tests {
 
     #[test]
     fn blocks_have_their_lines_and_reach_every_number() {
-        assert_eq!(NUMBERS.len(), WORDS.len());
+        assert_eq!(NUMBERS.len(), WORDS.len() + TEXT_WORDS.len());
         assert_eq!(VALUE_NUMBERS.len(), VALUE_WORDS.len());
         for (word, numbers) in NUMBERS.iter().chain(VALUE_NUMBERS) {
             let lines: Vec<Vec<u8>> = block(word.as_bytes(), b"block", 2_000).unwrap().collect();

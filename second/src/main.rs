@@ -5,10 +5,12 @@
 mod bank;
 mod fragment;
 mod frozen;
+mod judge;
 mod layout;
 mod lines;
 mod loads;
 mod mask;
+mod notation;
 mod swizzle;
 mod values;
 mod verdict;
@@ -27,6 +29,11 @@ const USAGE: &str = "usage: second answer [MOST]
        second large
        second values
        second values-all
+       second judge
+       second judge-each
+       second judge-inputs
+       second judge-random SEED COUNT
+       second mutations
        second exhaustive
        second masks SEED
        second random SEED COUNT
@@ -38,11 +45,17 @@ const USAGE: &str = "usage: second answer [MOST]
 /// More than this may not be asked for: a line could ask for all of it.
 const MOST_ASKED: u64 = 1 << 20;
 
+/// Standard input to its end.
+fn input() -> io::Result<Vec<u8>> {
+    let mut input = Vec::new();
+    io::stdin().lock().read_to_end(&mut input)?;
+    Ok(input)
+}
+
 /// Answers standard input to its end as a program does, with so many entries
 /// at most lent to a table.
 fn answer(program: AnswerLine, out: &mut impl Write, most: u64) -> io::Result<()> {
-    let mut input = Vec::new();
-    io::stdin().lock().read_to_end(&mut input)?;
+    let input = input()?;
     for text in answers_of(program, &input, most) {
         out.write_all(text.as_bytes())?;
     }
@@ -71,6 +84,11 @@ fn run(arguments: &[&[u8]], out: &mut impl Write) -> Option<io::Result<()>> {
         [b"large"] => out.write_all(&frozen::large()),
         [b"values"] => out.write_all(&frozen::values()),
         [b"values-all"] => out.write_all(&loads::values::all()),
+        [b"judge"] => input().and_then(|input| out.write_all(judge::answer(&input).as_bytes())),
+        [b"judge-each"] => input().and_then(|lines| out.write_all(&judge::answer_each(&lines))),
+        [b"judge-inputs"] => out.write_all(&frozen::judge_inputs()),
+        [b"judge-random", seed, count] => print(out, loads::judge_inputs(seed, number(count)?)),
+        [b"mutations"] => print(out, loads::texts::mutations()),
         [b"exhaustive"] => out.write_all(&every::fragments()),
         [b"masks", seed] => out.write_all(&every::masks(seed)),
         [b"random", seed, count] => print(out, loads::random_lines(seed, number(count)?)),

@@ -113,11 +113,7 @@ pub fn answer_fields(numbers: &[u64]) -> Option<Answer> {
         true => (RESERVED_BITS, Fields::default()),
         false => (0, Fields::read(descriptor)),
     };
-    Some(Answer {
-        number,
-        details: [0; 3],
-        after_bar: Some(fields.numbers()),
-    })
+    Some(Answer::beside(number, [0; 3], &fields.numbers()))
 }
 
 /// M, then the twelve fields: refusals 13, 16.
@@ -188,11 +184,7 @@ pub fn answer_mask(numbers: &[u64]) -> Option<Answer> {
     }
     let mut bytes = vec![LENT_BYTE; length as usize];
     if let Some((number, detail)) = mask_refusal(m, n, descriptor, length) {
-        return Some(Answer {
-            number,
-            details: [detail, 0, 0],
-            after_bar: Some(bytes),
-        });
+        return Some(Answer::beside(number, [detail, 0, 0], &bytes));
     }
     let bits = mask_bits(m, n, &Fields::read(descriptor));
     for (at, eight) in bits.chunks(8).enumerate() {
@@ -200,11 +192,8 @@ pub fn answer_mask(numbers: &[u64]) -> Option<Answer> {
     }
     let zeroed = bits.iter().filter(|bit| **bit).count();
     let first_used = bits.iter().position(|bit| !bit).unwrap_or(bits.len());
-    Some(Answer {
-        number: 0,
-        details: [zeroed as u64, first_used as u64, 0],
-        after_bar: Some(bytes),
-    })
+    let details = [zeroed as u64, first_used as u64, 0];
+    Some(Answer::beside(0, details, &bytes))
 }
 
 #[cfg(test)]

@@ -230,11 +230,7 @@ fn printed(result: Result<(), Refusal>, digest: u64) -> Answer {
         Ok(()) => (0, [0; 3]),
         Err(refusal) => (refusal.number, refusal.details),
     };
-    Answer {
-        number,
-        details,
-        after_bar: Some(vec![digest]),
-    }
+    Answer::beside(number, details, &[digest])
 }
 
 fn digest_of_rows(rows: &[[Register; SIDE]]) -> u64 {

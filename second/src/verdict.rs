@@ -111,7 +111,7 @@ fn fill(card: &Card, table: &mut [u64]) -> Result<[u64; 3], Refusal> {
     Ok([card.elements() as u64, occupied as u64, cells])
 }
 
-fn verdict(card: &Card, table: &mut [u64]) -> Result<[u64; 3], Refusal> {
+pub fn verdict(card: &Card, table: &mut [u64]) -> Result<[u64; 3], Refusal> {
     card.admitted()?;
     fill(card, table)
 }
@@ -159,11 +159,7 @@ fn printed(result: Result<[u64; 3], Refusal>, digested: &[u64]) -> Answer {
         Ok(details) => (0, details),
         Err(refusal) => (refusal.number, refusal.details),
     };
-    Answer {
-        number,
-        details,
-        after_bar: Some(vec![digest(digested)]),
-    }
+    Answer::beside(number, details, &[digest(digested)])
 }
 
 /// A lent table of the last number's length; none beyond what may be lent.

@@ -6,6 +6,7 @@ use crate::fragment;
 use crate::layout::{self, Marks, NO_MARKS};
 use crate::lines::{plain, Answer, Number};
 use crate::mask;
+use crate::notation;
 use crate::swizzle;
 use crate::values;
 use crate::verdict;
@@ -117,7 +118,34 @@ pub const WORDS: &[Word] = &[
         count: 2,
         answer: |numbers, _| bank::answer_bank(&plain(numbers)?),
     },
+    Word {
+        name: "write",
+        count: 47,
+        answer: |numbers, _| notation::answer_write(NO_MARKS, numbers),
+    },
+    Word {
+        name: "write*",
+        count: 48,
+        answer: |numbers, _| {
+            let (marks, numbers) = marked(numbers)?;
+            notation::answer_write(marks, numbers)
+        },
+    },
 ];
+
+/// A word after which a text comes in the place of numbers: all that follows
+/// one space, of any bytes.
+pub struct TextWord {
+    pub name: &'static str,
+    /// The answer to a text; none past the program's own limit.
+    pub answer: fn(&[u8]) -> Option<Answer>,
+}
+
+/// The words with a text, which both programs answer.
+pub const TEXT_WORDS: &[TextWord] = &[TextWord {
+    name: "read",
+    answer: notation::answer_read,
+}];
 
 /// The words about values, whose bits only the C client moves.
 pub const VALUE_WORDS: &[Word] = &[
@@ -175,6 +203,9 @@ pub const NUMBERS: &[(&str, &[u64])] = &[
     ("owner*", &[0, 1, 2, 3, 4, 5, 6, 7, 8, 11, 12, 17]),
     ("place*", &[0, 1, 2, 3, 4, 5, 6, 7, 9, 10, 11, 17]),
     ("bank", &[0, 6, 10]),
+    ("write", &[0, 1, 2, 3, 11]),
+    ("write*", &[0, 1, 2, 3, 11]),
+    ("read", &[0, 18]),
 ];
 
 #[cfg(test)]

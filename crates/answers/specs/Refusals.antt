@@ -2,7 +2,7 @@
 use Prim.Native.Nat.{ℕ}
 use Rattle.answers.specs.declared.Numbers.{Numbers}
 use Rattle.answers.specs.declared.Refusal.{Refusal}
-use Rattle.answers.specs.declared.Refusal.the-variants.{Counts, Limits, Axis, Space, TooMany, Swizzle, CopyOutside, Shared, Shape, Coordinate, TooShort, CellOutside, MaskSize, Fragment, Reserved, Shift, Idle}
+use Rattle.answers.specs.declared.Refusal.the-variants.{Counts, Limits, Axis, Space, TooMany, Swizzle, CopyOutside, Shared, Shape, Coordinate, TooShort, CellOutside, MaskSize, Fragment, Reserved, Shift, Idle, Notation}
 
 -- an answer's number and its details a, b, c
 abbrev pub answer : ℕ → ℕ → ℕ → ℕ → Numbers
@@ -27,3 +27,4 @@ refusalNumbers (Fragment lane register) = answer 14 lane register 0
 refusalNumbers Reserved = answer 15 0 0 0
 refusalNumbers (Shift limit) = answer 16 limit 0 0
 refusalNumbers (Idle a b) = answer 17 a b 0
+refusalNumbers (Notation beginning) = answer 18 beginning 0 0

@@ -9,7 +9,7 @@ pub struct Flat(pub u64);
 // The number of a cell.
 pub struct Cell(pub u64);
 
-// Why the desk says no, in the order of the refusals' numbers, 1 to 17.
+// Why the desk says no, in the order of the refusals' numbers, 1 to 18.
 pub enum Refusal {
     // 1: shard or replica iter count outside limits
     Counts,
@@ -45,6 +45,8 @@ pub enum Refusal {
     Shift { limit: u64 },
     // 17: two replica combinations give the same sum on every axis
     Idle { a: u64, b: u64 },
+    // 18: a text that is not of the notation
+    Notation { beginning: u64 },
 }
 
 // An answer as plain numbers: its number and three details.
@@ -84,5 +86,6 @@ pub fn refusal_numbers(refusal: Refusal) -> Numbers
         Refusal::Reserved => answer(15, 0, 0, 0),
         Refusal::Shift { limit } => answer(16, limit, 0, 0),
         Refusal::Idle { a, b } => answer(17, a, b, 0),
+        Refusal::Notation { beginning } => answer(18, beginning, 0, 0),
     }
 }

@@ -3,6 +3,7 @@
 mod fragments;
 mod layouts;
 mod masks;
+mod notations;
 mod swizzles;
 mod tables;
 
@@ -30,12 +31,16 @@ fn ask(word: Word, numbers: &[u64; 80], below: &[bool; 80], lent: &mut [u32]) ->
         Word::Verdict => tables::verdict(numbers, below, lent),
         Word::Owner => tables::owner(numbers, below, lent),
         Word::Stretch => tables::stretch(numbers, lent),
+        Word::Write => notations::write(numbers, below),
         Word::Unknown => reply::unknown(),
     }
 }
 
 // Answers a line of so many bytes.
 fn answer(line: &[u8; 4096], held: usize, lent: &mut [u32]) -> Reply {
+    if words::is_read(line, held) {
+        return notations::read(line, held);
+    }
     let mut numbers = [0u64; 80];
     let mut below = [false; 80];
     let word = words::question(line, held, &mut numbers, &mut below);

@@ -93,29 +93,12 @@ fn first_of_run(numbers: &[u64; 56], adds: &[i64], base: i64, step: i64, count: 
     }
     count
 }
-
-// How many elements a run has: the extent of the last iter whose extent is not 1.
-fn run_length(numbers: &[u64; 56], strides: &[i64; 24], list: usize) -> u64
-    requires { ⌜ Walkable (now numbers) (now strides) list ⌝ }
-    ensures { λ r. ⌜ r ≡ run (listed (itersOf (now (numbers .entry)) (now (strides .entry)) list)) ⌝ }
-{
-    let mut k = numbers[card::COUNTS + list] as usize;
-    while 0 < k {
-        k -= 1;
-        let extent = numbers[16 * list + k];
-        if extent != 1 {
-            return extent;
-        }
-    }
-    1
-}
-
 // The first element from a place on that leaves on m, or the limit: run by run, by what the copies add.
 fn first_m(numbers: &[u64; 56], strides: &[i64; 24], adds: &[i64], from: u64, limit: u64) -> u64
     requires { ⌜ Doubted (now numbers) (now strides) (now adds) × Between (now numbers) (now strides) from limit × (from ≤ limit) ⌝ }
     ensures { λ r. ⌜ Sought (λ f. Leaves (cardOf (now (numbers .entry)) (now (strides .entry))) f lastAxis) limit r ⌝ }
 {
-    let run = run_length(numbers, strides, card::SHARD);
+    let run = runs::run_length(numbers);
     let step = m_sum(numbers, strides, card::SHARD, 1);
     let mut flat = from;
     while flat < limit {

@@ -35,3 +35,19 @@ pub fn digest(entries: &[u32]) -> u64 {
     }
     sum
 }
+
+// A byte as an entry.
+fn entry(b: u8) -> u32 {
+    b as u32
+}
+
+// The digest of the first lent bytes.
+pub fn digest_bytes(bytes: &[u8; 1024], count: usize) -> u64 {
+    let mut sum: u64 = 0;
+    let mut i: usize = 0;
+    while i < count {
+        sum = (sum + weighted(i as u64 + 1, entry(bytes[i % 1024]))) % DIGEST;
+        i += 1;
+    }
+    sum
+}

@@ -36,6 +36,9 @@ pub const COORDINATES: usize = SHAPE + 9;
 
 pub const PLACE_LENT: usize = COORDINATES + 9;
 
+// After the shard, the replica and the offsets of `write`, which has no lengths and no swizzle.
+pub const WRITE_LENT: usize = LENGTHS;
+
 // After the card of `verdict`.
 pub const VERDICT_LENT: usize = CARD;
 

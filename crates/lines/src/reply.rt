@@ -12,14 +12,20 @@ pub enum Form {
     Plain,
     // these, and after a bar the values
     Barred,
+    // these, and after the values a text
+    Written,
 }
 
-// What a line is answered; the values are the first `count`.
+// What a line is answered; the values are the first `count`, each below zero or not, and the text is the
+// first `length` bytes.
 pub struct Reply {
     pub form: Form,
     pub answer: Numbers,
     pub count: usize,
     pub values: [u64; 64],
+    pub below: [bool; 64],
+    pub text: [u8; 512],
+    pub length: usize,
 }
 
 // The reply to a line that is no question.
@@ -29,6 +35,9 @@ pub fn unknown() -> Reply {
         answer: answers::answer(0, 0, 0, 0),
         count: 0,
         values: [0; 64],
+        below: [false; 64],
+        text: [0; 512],
+        length: 0,
     }
 }
 
@@ -39,6 +48,9 @@ pub fn plain(answer: Numbers) -> Reply {
         answer,
         count: 0,
         values: [0; 64],
+        below: [false; 64],
+        text: [0; 512],
+        length: 0,
     }
 }
 
@@ -49,6 +61,9 @@ fn barred(answer: Numbers, count: usize, values: [u64; 64]) -> Reply {
         answer,
         count,
         values,
+        below: [false; 64],
+        text: [0; 512],
+        length: 0,
     }
 }
 
@@ -92,4 +107,46 @@ pub fn fields(answer: Numbers, counts: [u8; 4], spans: [bool; 4], shared: [u64; 
         i += 1;
     }
     barred(answer, places::FIELDS, values)
+}
+
+// An answer and the numbers of a layout, each with its sign.
+pub fn signed(answer: Numbers, count: usize, values: [u64; 64], below: [bool; 64]) -> Reply {
+    Reply {
+        form: Form::Barred,
+        answer,
+        count,
+        values,
+        below,
+        text: [0; 512],
+        length: 0,
+    }
+}
+
+// The first bytes of a text, at most 512.
+fn first_bytes(from: &[u8; 1024]) -> [u8; 512] {
+    let mut text = [0u8; 512];
+    let mut i: usize = 0;
+    while i < 512 {
+        text[i] = from[i];
+        i += 1;
+    }
+    text
+}
+
+// An answer, the digest of lent bytes, and at number 0 the text in them.
+pub fn written(answer: Numbers, count: usize, from: &[u8; 1024]) -> Reply {
+    let mut values = [0u64; 64];
+    values[0] = lent::digest_bytes(from, count);
+    if answer.number != 0 {
+        return barred(answer, 1, values);
+    }
+    Reply {
+        form: Form::Written,
+        answer,
+        count: 1,
+        values,
+        below: [false; 64],
+        text: first_bytes(from),
+        length: answer.a as usize,
+    }
 }

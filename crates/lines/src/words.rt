@@ -21,6 +21,7 @@ pub enum Word {
     Verdict,
     Owner,
     Stretch,
+    Write,
     Unknown,
 }
 
@@ -52,6 +53,9 @@ fn layout_word(line: &[u8; 4096], end: usize) -> Word {
     }
     if is_named(line, end, b"stretch") {
         return Word::Stretch;
+    }
+    if is_named(line, end, b"write") {
+        return Word::Write;
     }
     Word::Unknown
 }
@@ -105,14 +109,15 @@ fn wanted(word: Word) -> usize {
         Word::Verdict => places::VERDICT_LENT + 1,
         Word::Owner => places::OWNER_LENT + 1,
         Word::Stretch => places::STRETCH_LENT + 1,
+        Word::Write => places::WRITE_LENT + 1,
         Word::Unknown => 0,
     }
 }
 
-// Whether the question of a word begins with a card.
+// Whether the question of a word begins with a card, or with the first numbers of one.
 fn has_card(word: Word) -> bool {
     match word {
-        Word::Place | Word::Verdict | Word::Owner => true,
+        Word::Place | Word::Verdict | Word::Owner | Word::Write => true,
         _ => false,
     }
 }
@@ -188,6 +193,19 @@ fn asked_with_marks(
     }
     set_marks_apart(numbers, below);
     asked(word, count - 1, below)
+}
+
+// How long a word is that a text follows, with its space, and the most bytes of a text.
+pub const READ_SPACE: usize = 5;
+
+pub const MOST_TEXT: usize = 1024;
+
+// Whether a line asks to read a text: the word and one space, and then any bytes.
+pub fn is_read(line: &[u8; 4096], held: usize) -> bool {
+    if held < READ_SPACE {
+        return false;
+    }
+    is_named(line, READ_SPACE, b"read ") & (held - READ_SPACE <= MOST_TEXT)
 }
 
 // What a line of so many bytes asks: a word with all its numbers, which are kept in

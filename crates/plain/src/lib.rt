@@ -1,15 +1,17 @@
-// Plain numbers: the card that 57 numbers are, the fields that bytes are, and an answer as four numbers.
+// Plain numbers: the card that 57 numbers are, the numbers that a layout is, the fields that bytes are, and an answer as four numbers.
 use answers::Numbers;
 use card::Card;
 use card::Iter;
 use card::Iters;
 use descriptor::Fields;
+use notation::Layout;
 use placement::Tuple;
 use swizzle::Swizzle;
 ghost use mathlib.Core.Path.{_≡_};
+ghost use mathlib.Core.Bool.{cond};
 ghost use Prim.Native.Nat.{_+_, _≤_, _<_};
 ghost use Rattle.descriptor.specs.Descriptor.{bit};
-ghost use Rattle.plain.specs.Plain.{signed, iterFrom, shardFrom, replicaFrom, offsetFrom, lengthsFrom, marksFrom, cardFrom, tupleFrom, fieldsFrom, bytesOf, four};
+ghost use Rattle.plain.specs.Plain.{signed, iterFrom, shardFrom, replicaFrom, offsetFrom, lengthsFrom, marksFrom, cardFrom, tupleFrom, fieldsFrom, bytesOf, four, bitsOf, stridesOf, offsetsOf, markBits, cardWith};
 
 // Where the numbers of a card stand, in the order of docs/PROTOCOL.md.
 const REPLICA: usize = 25;
@@ -227,5 +229,144 @@ pub fn field_bytes(fields: Fields) -> [u8; 12]
         fields.skip_span,
         fields.use_span,
         fields.shift as u8,
+    ]
+}
+
+// The 64 bits that a signed number is in two's complement.
+fn bits(z: i64) -> u64
+    ensures { λ r. ⌜ r ≡ bitsOf z ⌝ }
+{
+    if z < 0 {
+        return u64::MAX - (-1 - z) as u64;
+    }
+    z as u64
+}
+
+// The strides of a list's eight slots.
+fn strides(iters: Iters) -> [u64; 8]
+    ensures { λ r. ⌜ r ≡ stridesOf iters ⌝ }
+{
+    let at = iters.at;
+    let a = at[0];
+    let b = at[1];
+    let c = at[2];
+    let d = at[3];
+    let e = at[4];
+    let f = at[5];
+    let g = at[6];
+    let h = at[7];
+    [
+        bits(a.stride),
+        bits(b.stride),
+        bits(c.stride),
+        bits(d.stride),
+        bits(e.stride),
+        bits(f.stride),
+        bits(g.stride),
+        bits(h.stride),
+    ]
+}
+
+// The eight offsets.
+fn offsets(offset: [i64; 8]) -> [u64; 8]
+    ensures { λ r. ⌜ r ≡ offsetsOf offset ⌝ }
+{
+    [
+        bits(offset[0]),
+        bits(offset[1]),
+        bits(offset[2]),
+        bits(offset[3]),
+        bits(offset[4]),
+        bits(offset[5]),
+        bits(offset[6]),
+        bits(offset[7]),
+    ]
+}
+
+// A mark in its bit.
+fn mark(b: bool, weight: u64) -> u64
+    ensures { λ r. ⌜ (r ≡ cond b weight 0) × (r ≤ weight) ⌝ }
+{
+    if b { weight } else { 0 }
+}
+
+// The marks as one number: bit k for shard iter k.
+pub fn mark_bits(marks: [bool; 8]) -> u64
+    ensures { λ r. ⌜ r ≡ markBits marks ⌝ }
+{
+    let low = mark(marks[0], 1) + mark(marks[1], 2) + mark(marks[2], 4) + mark(marks[3], 8);
+    low + mark(marks[4], 16) + mark(marks[5], 32) + mark(marks[6], 64) + mark(marks[7], 128)
+}
+
+// The numbers of a card with the layout that was read; its lengths and its swizzle stay.
+pub fn card_with(layout: Layout, numbers: &[u64; 57]) -> [u64; 57]
+    ensures { λ r. ⌜ r ≡ cardWith layout (now (numbers .entry)) ⌝ }
+{
+    let shard = layout.shard;
+    let replica = layout.replica;
+    let shard_at = shard.at;
+    let replica_at = replica.at;
+    let shard_strides = strides(shard);
+    let replica_strides = strides(replica);
+    let offset = layout.offset;
+    let offsets = offsets(offset);
+    [
+        shard.count,
+        shard_at[0].extent,
+        shard_strides[0],
+        shard_at[0].axis,
+        shard_at[1].extent,
+        shard_strides[1],
+        shard_at[1].axis,
+        shard_at[2].extent,
+        shard_strides[2],
+        shard_at[2].axis,
+        shard_at[3].extent,
+        shard_strides[3],
+        shard_at[3].axis,
+        shard_at[4].extent,
+        shard_strides[4],
+        shard_at[4].axis,
+        shard_at[5].extent,
+        shard_strides[5],
+        shard_at[5].axis,
+        shard_at[6].extent,
+        shard_strides[6],
+        shard_at[6].axis,
+        shard_at[7].extent,
+        shard_strides[7],
+        shard_at[7].axis,
+        replica.count,
+        replica_at[0].extent,
+        replica_strides[0],
+        replica_at[0].axis,
+        replica_at[1].extent,
+        replica_strides[1],
+        replica_at[1].axis,
+        replica_at[2].extent,
+        replica_strides[2],
+        replica_at[2].axis,
+        replica_at[3].extent,
+        replica_strides[3],
+        replica_at[3].axis,
+        offsets[0],
+        offsets[1],
+        offsets[2],
+        offsets[3],
+        offsets[4],
+        offsets[5],
+        offsets[6],
+        offsets[7],
+        numbers[46],
+        numbers[47],
+        numbers[48],
+        numbers[49],
+        numbers[50],
+        numbers[51],
+        numbers[52],
+        numbers[53],
+        numbers[54],
+        numbers[55],
+        numbers[56],
     ]
 }

@@ -1,7 +1,7 @@
 -- Two outcomes that a promise to C allows are equal, memory and all four numbers: the library's own answer is settled.
 use Prim.Native.Nat.{ℕ}
 use mathlib.Core.Path.{_≡_, sym, ap, _∙_}
-use mathlib.Core.List.{List}
+use mathlib.Core.List.{List, [], _∷_}
 use lib.Ieee.{Float}
 use Rattle.fragment.specs.Fragment.{holderNumbers}
 use Rattle.fragment.specs.declared.Place.{Place}
@@ -10,13 +10,16 @@ use Rattle.fragment.proofs.Theorems.{holder-settled}
 use Rattle.placement.specs.Placement.{placementNumbers}
 use Rattle.placement.specs.declared.Placement.{Placement}
 use Rattle.placement.proofs.Theorems.{placement-settled}
+use Rattle.notation.specs.Promise.{readNumbers}
+use Rattle.notation.specs.declared.Reading.{Reading}
+use Rattle.notation.proofs.Theorems.{read-settled}
 use Rattle.judgement.specs.Verdict.{verdictNumbers, ownerNumbers}
 use Rattle.judgement.specs.declared.Verdict.{Verdict}
 use Rattle.judgement.specs.declared.Owner.{Owner}
 use Rattle.judgement.proofs.Theorems.{verdict-settled, owner-settled}
 use Rattle.values.specs.declared.Register.{Register}
-use Rattle.plain.specs.Plain.{cardFrom, tupleFrom, four}
-use Rattle.urszovely.specs.Answers.{AsHolder, AsPlacement, AsVerdict, AsOwner, Written}
+use Rattle.plain.specs.Plain.{cardFrom, cardWith, markBits, tupleFrom, four}
+use Rattle.urszovely.specs.Answers.{AsHolder, AsReading, AsPlacement, AsVerdict, AsOwner, Written}
 
 pub as-holder-settled : (kind : ℕ) (place : Place) (x y : List ℕ) → AsHolder kind place x → AsHolder kind place y → x ≡ y
 as-holder-settled kind place x y h k =
@@ -27,6 +30,14 @@ pub as-placement-settled : (card : List ℕ) (marks : ℕ) (shape coordinates be
 as-placement-settled card marks shape coordinates before a b x y h k =
     let same = placement-settled (cardFrom card marks) (tupleFrom shape) (tupleFrom coordinates) before a b (h .placement) (k .placement) (h .allowed) (k .allowed) in
     (same .1, h .numbers ∙ ap (λ (p : Placement). four (placementNumbers p)) (same .0) ∙ sym (k .numbers))
+
+pub as-reading-settled : (text before a b m n x y : List ℕ) → AsReading text before a m x → AsReading text before b n y → (a ≡ b) × (m ≡ n) × (x ≡ y)
+as-reading-settled text before a b m n x y h k =
+    let same = read-settled text (h .reading) (k .reading) (h .allowed) (k .allowed) in (
+      h .of-card ∙ ap (λ (r : Reading). cardWith (r .layout) before) same ∙ sym (k .of-card),
+      h .of-marks ∙ ap (λ (r : Reading). markBits (r .layout .marks) ∷ []) same ∙ sym (k .of-marks),
+      h .numbers ∙ ap (λ (r : Reading). four (readNumbers (r .answer))) same ∙ sym (k .numbers),
+    )
 
 pub as-verdict-settled : (card : List ℕ) (marks : ℕ) (before a b x y : List ℕ) → AsVerdict card marks before a x → AsVerdict card marks before b y → (a ≡ b) × (x ≡ y)
 as-verdict-settled card marks before a b x y h k =

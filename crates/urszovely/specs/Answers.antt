@@ -2,24 +2,34 @@
 -- what is left in arrays of registers.
 use Prim.Native.Nat.{ℕ}
 use mathlib.Core.Path.{_≡_}
-use mathlib.Core.List.{List}
+use mathlib.Core.List.{List, [], _∷_}
 use lib.Ieee.{Float}
 use Rattle.fragment.specs.Fragment.{HolderAnswer, holderNumbers}
 use Rattle.fragment.specs.declared.Place.{Place}
 use Rattle.fragment.specs.declared.Holder.{Holder}
 use Rattle.placement.specs.Placement.{Placing, placementNumbers}
 use Rattle.placement.specs.declared.Placement.{Placement}
+use Rattle.notation.specs.Promise.{Answered, readNumbers}
+use Rattle.notation.specs.declared.Reading.{Reading}
 use Rattle.judgement.specs.Verdict.{VerdictPromise, OwnerPromise, verdictNumbers, ownerNumbers}
 use Rattle.judgement.specs.declared.Verdict.{Verdict}
 use Rattle.judgement.specs.declared.Owner.{Owner}
 use Rattle.values.specs.declared.Register.{Register}
 use Rattle.lent.specs.Lent.{sortAfter, singleAfter, doubleAfter, after}
-use Rattle.plain.specs.Plain.{cardFrom, tupleFrom, four}
+use Rattle.plain.specs.Plain.{cardFrom, cardWith, markBits, tupleFrom, four}
 
 pub record AsHolder (kind : ℕ) (place : Place) (answer : List ℕ) : Type 0 where
   pub holder : Holder
   pub allowed : HolderAnswer kind place holder
   pub numbers : answer ≡ four (holderNumbers holder)
+
+-- the card with the layout that was read, and its marks
+pub record AsReading (text before card marks answer : List ℕ) : Type 0 where
+  pub reading : Reading
+  pub allowed : Answered text reading
+  pub of-card : card ≡ cardWith (reading .layout) before
+  pub of-marks : marks ≡ markBits (reading .layout .marks) ∷ []
+  pub numbers : answer ≡ four (readNumbers (reading .answer))
 
 pub record AsPlacement (card : List ℕ) (marks : ℕ) (shape coordinates before after answer : List ℕ) : Type 0 where
   pub placement : Placement

@@ -14,8 +14,9 @@ ghost use Rattle.stretch.specs.Stretch.{stretchAnswer, stretchNumbers};
 ghost use Rattle.values.specs.Registers.{dealAnswer, collectAnswer, dealtLanes, collectedTile, movedNumbers};
 ghost use Rattle.values.specs.Holdings.{dealHoldingsAnswer, collectHoldingsAnswer, dealtHoldings, collectedFromHoldings};
 ghost use Rattle.lent.specs.Lent.{rowsFrom, holdingsFrom, numbersOf};
+ghost use Rattle.notation.specs.Writing.{writeAnswer as textAnswer, bytesAfter, writeNumbers as textNumbers};
 ghost use Rattle.plain.specs.Plain.{cardFrom, fieldsFrom, bytesOf, four};
-ghost use Rattle.urszovely.specs.Answers.{AsHolder, AsPlacement, AsVerdict, AsOwner, Written};
+ghost use Rattle.urszovely.specs.Answers.{AsHolder, AsReading, AsPlacement, AsVerdict, AsOwner, Written};
 
 // The swizzle of an address.
 #[no_mangle]
@@ -286,5 +287,41 @@ pub extern "C" fn urszovely_stretch(
 {
     let located = stretch::locate_stretch(table, *lengths, axis, *coordinates);
     let numbers = stretch::stretch_numbers(located);
+    *answer = plain::four(numbers);
+}
+
+// A text of the layout notation, read into a card.
+#[no_mangle]
+pub extern "C" fn urszovely_read(
+    text: &[u8],
+    card: &mut [u64; 57],
+    marks: &mut [u64; 1],
+    answer: &mut [u64; 4],
+)
+    ensures { λ r. ⌜ AsReading (now (text .entry)) (now (card .entry)) (now (card .exit)) (now (marks .exit)) (now (answer .exit)) ⌝ }
+{
+    let reading = reading::read(text);
+    let layout = reading.layout;
+    let marked = layout.marks;
+    *card = plain::card_with(layout, card);
+    *marks = [plain::mark_bits(marked)];
+    let told = reading.answer;
+    let numbers = reading::read_numbers(told);
+    *answer = plain::four(numbers);
+}
+
+// A card written in the layout notation.
+#[no_mangle]
+pub extern "C" fn urszovely_write(
+    card: &[u64; 57],
+    marks: u64,
+    text: &mut [u8],
+    answer: &mut [u64; 4],
+)
+    ensures { λ r. ⌜ now (answer .exit) ≡ four (textNumbers (textAnswer (cardFrom (now (card .entry)) marks) (length (now (text .entry))))) ⌝ }
+    ensures { λ r. ⌜ now (text .exit) ≡ bytesAfter (textAnswer (cardFrom (now (card .entry)) marks) (length (now (text .entry)))) (cardFrom (now (card .entry)) marks) (now (text .entry)) ⌝ }
+{
+    let written = writing::write(plain::card(card, marks), text);
+    let numbers = writing::write_numbers(written);
     *answer = plain::four(numbers);
 }

@@ -5,4 +5,5 @@ pub mod Sorts
 pub mod Held
 pub mod Answers
 pub mod Holdings
+pub mod InNumbers
 pub mod Loads

@@ -40,6 +40,9 @@ pub const LENT_TABLE: u64 = 16_384;
 /// What a caller of the library may have to lend.
 pub const LARGEST_TABLE: u64 = 65_536;
 
+/// The bytes of a text that is read, and of what is lent to a writer.
+pub const TEXT: u64 = 1_024;
+
 /// The bytes of a line.
 pub const LINE: usize = 4_096;
 

@@ -147,7 +147,7 @@ fn other_star(_: &mut Random, question: &Question) -> Vec<u8> {
     let starred = format!("{}*", question.word);
     match question.word.strip_suffix('*') {
         Some(plain) => question.under(plain),
-        None if ["verdict*", "owner*", "place*"].contains(&&starred[..]) => {
+        None if ["verdict*", "owner*", "place*", "write*"].contains(&&starred[..]) => {
             question.under(&starred)
         }
         None => question.under("*"),

@@ -40,8 +40,9 @@ const SPELLINGS: &[&str] = &[
     "18446744073709551616",
 ];
 
-/// So many numbers are a card.
-const CARD: usize = 57;
+/// So many numbers have a card before its lengths. Questions without a card
+/// have fewer numbers.
+const BEFORE_LENGTHS: usize = 46;
 
 /// Where a card's strides and offsets stand.
 fn signed_places() -> Vec<usize> {
@@ -66,7 +67,7 @@ pub fn misspelt(random: &mut Random, question: &Question) -> Vec<u8> {
     if random.once_in(2) {
         return question.with(any, &negated(&question.numbers[any]));
     }
-    let place = match question.numbers.len() > CARD {
+    let place = match question.numbers.len() > BEFORE_LENGTHS {
         // MARKS stands before the card.
         true => random.pick(&signed_places()) + usize::from(question.word.ends_with('*')),
         false => any,
@@ -106,11 +107,15 @@ mod tests {
 
     /// A question of each of a card's words on tile X, turned round, and how
     /// many numbers come before the card.
-    fn card_questions() -> [(Question<'static>, usize); 6] {
+    fn card_questions() -> [(Question<'static>, usize); 8] {
         let mut card = tile_x();
         turn_some(&mut Random::new(0), &mut card, 1);
         let question = |word: &'static str, marks: &[i128], rest: &[i128]| {
-            let numbers = [marks, &card.numbers(), rest].concat();
+            let own = match word.starts_with("write") {
+                true => BEFORE_LENGTHS,
+                false => Card::NUMBERS,
+            };
+            let numbers = [marks, &card.numbers()[..own], rest].concat();
             (Question::new(word, &numbers), marks.len())
         };
         let spot = [2, 8, 16, 1, 1, 1, 1, 1, 1, 2, 7, 15, 1, 1, 1, 1, 1, 1, 2];
@@ -122,6 +127,8 @@ mod tests {
             question("verdict*", &[1], &[704]),
             question("owner*", &[1], &asked),
             question("place*", &[1], &spot),
+            question("write", &[], &[100]),
+            question("write*", &[1], &[100]),
         ]
     }
 
@@ -151,7 +158,7 @@ mod tests {
     fn signs_stand_at_twelve_strides_and_eight_offsets() {
         let places: Vec<usize> = (0..100).filter(|at| Card::signed_at(*at)).collect();
         assert_eq!(places, signed_places());
-        assert_eq!(CARD, Card::NUMBERS);
+        assert_eq!(places.last(), Some(&(BEFORE_LENGTHS - 1)));
     }
 
     #[test]

@@ -41,7 +41,8 @@ fn insert(card: &mut Card, at: usize, iter: Iter, marked: bool) {
 pub fn reuse(random: &mut Random, card: &mut Card, most: u64) {
     for _ in 0..random.between(1, 3) {
         let extent = random.pick(&[1, 2, 2, 2, 3, 3, 4, 5]);
-        let few = card.elements() * u128::from(extent) <= most.into();
+        let elements = card.elements().saturating_mul(extent.into());
+        let few = elements <= most.into();
         if few && (1..SHARD_SLOTS as u64).contains(&card.shard_count) {
             let at = random.index(used(card) + 1);
             let still = iter(extent, 0, random.below(AXES as u64));
@@ -224,6 +225,15 @@ mod tests {
             let before = card.elements();
             reuse(&mut random, &mut card, FEW);
             assert!(card.elements() <= u128::from(FEW).max(before));
+        }
+        // Twice as many would be none in 128 bits.
+        let spoiled = [1 << 63, 1 << 63, 2].map(|extent| iter(extent, 0, 0));
+        for _ in 0..50 {
+            let mut card = sound_card(&mut random);
+            card.shard_count = 3;
+            card.shard_slots[..3].copy_from_slice(&spoiled);
+            reuse(&mut random, &mut card, FEW);
+            assert_eq!(card.shard_count, 3);
         }
     }
 }

@@ -68,7 +68,11 @@ fn either_way(random: &mut Random) -> Card {
 /// does not.
 pub fn lower(random: &mut Random, card: &mut Card) {
     let axis = random.index(AXES);
-    let used = some_iter(random, card).axis as usize;
+    // The axis of a card that is spoiled may be any number.
+    let used = match some_iter(random, card).axis {
+        used if used < AXES as u64 => used as usize,
+        _ => axis,
+    };
     match random.below(12) {
         0..=2 => card.offset[axis] -= 1,
         3 | 4 => card.offset[used] -= Number::from(random.between(1, 3)),
@@ -206,6 +210,7 @@ pub fn place(random: &mut Random) -> Vec<Number> {
 mod tests {
     use super::*;
     use crate::layout::Cell;
+    use crate::loads::cards::tile_x;
     use std::collections::BTreeSet;
 
     /// All cells of all elements; none if some copy lies outside.
@@ -237,6 +242,18 @@ mod tests {
             move_inside(&mut random, &mut card, flat);
             assert_eq!(card.refusal(), None);
             assert!(card.cells_of(flat).is_ok());
+        }
+    }
+
+    #[test]
+    fn spoiled_cards_can_be_lowered() {
+        let mut random = Random::new(14);
+        for _ in 0..500 {
+            let mut card = tile_x();
+            for iter in &mut card.shard_slots {
+                iter.axis = random.pick(&[7, 8, 1 << 32, u64::MAX]);
+            }
+            (0..20).for_each(|_| lower(&mut random, &mut card));
         }
     }
 

@@ -9,4 +9,4 @@ returns c = rw (c .before .enum-told .given .1) (c .answer .ensures)
 pub admission-numbers-spec : {M : Type 1} → statement M
 admission-numbers-spec =
     tie.close
-    (tie.spec (λ c. search needs) (λ c κs. search needs) (λ c. search needs) (λ c κs. search needs) returns (λ c. search needs))
+    (tie.spec (λ c. search needs) (λ c κs. search needs) (λ c. search needs) (λ c κs. search needs) returns (λ c. rw (c .before .before .admission .given .1) (c .refusal-numbers .ensures)))

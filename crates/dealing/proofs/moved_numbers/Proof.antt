@@ -7,4 +7,4 @@ pub moved-numbers-spec : {M : Type 1} → statement M
 moved-numbers-spec =
     tie.close
     (tie.spec (λ c. search needs) (λ c κs. search needs) (λ c. search needs) (λ c κs. search needs)
-    (λ c. rw (c .before .enum-told .given .1) (c .answer .ensures)) (λ c. search needs))
+    (λ c. rw (c .before .enum-told .given .1) (c .answer .ensures)) (λ c. rw (c .before .before .moved .given .1) (c .refusal-numbers .ensures)))

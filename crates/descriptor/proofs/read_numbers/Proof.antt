@@ -7,4 +7,4 @@ pub read-numbers-spec : {M : Type 1} → statement M
 read-numbers-spec =
     tie.close
     (tie.spec (λ c. search needs) (λ c κs. search needs) (λ c. search needs) (λ c κs. search needs)
-    (λ c. rw (c .before .enum-told .given .1) (c .answer .ensures)) (λ c. search needs))
+    (λ c. rw (c .before .enum-told .given .1) (c .answer .ensures)) (λ c. rw (c .before .before .read .given .1) (c .refusal-numbers .ensures)))

@@ -51,7 +51,7 @@ counted : (c : tie.After-smaller Inv-loop μ-loop)
 counted c =
     let s = start (c .before) in
     let flat = c .before .before .loop .flat in
-    c .smaller .ensures ∙ ap (λ (n : ℕ). min (n - flat % n) (s .args .limit - flat)) (c .before .before .before .before .run-length .ensures)
+    c .smaller .ensures ∙ ap (λ (n : ℕ). min (n - flat % n) (s .args .limit - flat)) (c .before .before .before .before .run-length .ensures (s .args .strides .now))
 
 several : (c : tie.After-smaller Inv-loop μ-loop) → 1 ≤ c .smaller .result
 several c = let t = c .before in omega (arith, counted c, t .loop-test .taken, mod-lt (t .before .loop .flat) (some (start t)))
@@ -113,11 +113,11 @@ returns-2 c = let l = c .before .loop in sought-none (λ j h. l .inv .1 j (omega
 pub first-m-spec : {M : Type 1} → statement M
 first-m-spec =
     tie.close
-    (tie.spec Inv-loop μ-loop (λ c κs. walkable-shard (c .args .numbers .now) (c .args .strides .now) (c .pre .0 .admits))
+    (tie.spec Inv-loop μ-loop (λ c κs. walkable-shard (c .args .numbers .now) (c .args .strides .now) (c .pre .0 .admits) .of)
     (λ c κs. let s = c .before in walkable-shard (s .args .numbers .now) (s .args .strides .now) (s .pre .0 .admits))
     (λ c. let s = c .before .before in (s .pre .2, s .pre .1 .none-before))
-    (λ c. omega (arith, some (start c), c .before .before .before .run-length .ensures))
-    (λ c. let e = c .before .before .before .run-length .ensures in omega (arith, mod-lt (c .before .loop .flat) {m = c .before .before .before .run-length .result} (omega (arith, some (start c), e))))
+    (λ c. omega (arith, some (start c), c .before .before .before .run-length .ensures (start c .args .strides .now)))
+    (λ c. let e = c .before .before .before .run-length .ensures (start c .args .strides .now) in omega (arith, mod-lt (c .before .loop .flat) {m = c .before .before .before .run-length .result} (omega (arith, some (start c), e))))
     (λ c. omega arith) (λ c κs. search needs)
     (λ c κs. let s = start (c .before) in walkable-shard (s .args .numbers .now) (s .args .strides .now) (s .pre .0 .admits))
     first-of-run-requires (λ c. let f = c in omega (arith, few (f .before .before), found f .most, start (f .before .before .before) .fits .limit)) returns

@@ -7,4 +7,4 @@ pub holder-numbers-spec : {M : Type 1} → statement M
 holder-numbers-spec =
     tie.close
     (tie.spec (λ c. search needs) (λ c κs. search needs) (λ c. search needs) (λ c κs. search needs)
-    (λ c. rw (c .before .before .holder .given .1) (c .answer .ensures)) (λ c. search needs))
+    (λ c. rw (c .before .before .holder .given .1) (c .answer .ensures)) (λ c. rw (c .before .before .holder2 .given .1) (c .refusal-numbers .ensures)))

@@ -9,4 +9,4 @@ returns c = rw (c .before .before .placement .given .1) (c .answer .ensures)
 pub placement-numbers-spec : {M : Type 1} → statement M
 placement-numbers-spec =
     tie.close
-    (tie.spec (λ c. search needs) (λ c κs. search needs) (λ c. search needs) (λ c κs. search needs) returns (λ c. search needs))
+    (tie.spec (λ c. search needs) (λ c κs. search needs) (λ c. search needs) (λ c κs. search needs) returns (λ c. rw (c .before .before .placement2 .given .1) (c .refusal-numbers .ensures)))

@@ -7,4 +7,4 @@ pub swizzle-numbers-spec : {M : Type 1} → statement M
 swizzle-numbers-spec =
     tie.close
     (tie.spec (λ c. search needs) (λ c κs. search needs) (λ c. search needs) (λ c κs. search needs)
-    (λ c. rw (c .before .before .swizzled .given .1) (c .answer .ensures)) (λ c. search needs))
+    (λ c. rw (c .before .before .swizzled .given .1) (c .answer .ensures)) (λ c. rw (c .before .before .swizzled2 .given .1) (c .refusal-numbers .ensures)))

@@ -6,13 +6,13 @@ use Rattle.lines.proofs.print.values.Statement.{statement}
 use Rattle.lines.proofs.print.values.Tie as tie
 
 abbrev Inv-loop : tie.InvT-loop
-Inv-loop out₀ at count of place₀ i₀ out place i = Unit
+Inv-loop out₀ at count of below place₀ i₀ out place i = Unit
 
 abbrev μ-loop : tie.MeasureT-loop
-μ-loop out₀ at count of place₀ i₀ out place i = count - i
+μ-loop out₀ at count of below place₀ i₀ out place i = count - i
 
 pub values-spec : {M : Type 1} → statement M
 values-spec =
     tie.close
-    (tie.spec Inv-loop μ-loop (λ c. omega arith) (λ c κs. search needs) (λ c. search needs) (λ c. omega arith) (λ c. omega arith)
+    (tie.spec Inv-loop μ-loop (λ c. omega arith) (λ c κs. search needs) (λ c. search needs) (λ c. omega arith) (λ c. omega arith) (λ c. omega arith)
     (λ c κs. search needs) (λ c. omega arith) (λ c. omega arith) (λ c. search needs) (λ c. search needs))

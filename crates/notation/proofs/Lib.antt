@@ -1,0 +1,11 @@
+pub mod Exact
+pub mod Numbers
+pub mod Lists
+pub mod Good
+pub mod Steps
+pub mod Complete
+pub mod Live
+pub mod Run
+pub mod Image
+pub mod Theorems
+pub mod Back

@@ -1,0 +1,6 @@
+pub mod Text
+pub mod Beginning
+pub mod Meaning
+pub mod Promise
+pub mod Writing
+pub mod Machine

@@ -1,0 +1,56 @@
+-- What a text says of a card: its shard with its marks, its replica and its offset.
+use Prim.Native.Nat.{ℕ, _-_}
+use mathlib.Core.Bool.{Bool, true, false, cond}
+use mathlib.Core.List.{List, [], _∷_, _++_, map}
+use lib.IntN.{ℤ, pos, negℤ}
+use lib.ListN.{length, set, replicate}
+use Rattle.card.specs.declared.Iter.{Iter}
+use Rattle.card.specs.declared.Iters.{Iters}
+use Rattle.notation.specs.Text.{axisOf, Lists, Notation}
+use Rattle.notation.specs.declared.Place.{Place}
+use Rattle.notation.specs.declared.Place.the-variants.{Bare, At, Marked}
+use Rattle.notation.specs.declared.Step.{Step}
+use Rattle.notation.specs.declared.Layout.{Layout}
+
+-- a stride or an offset as a number
+abbrev pub valueOf : Step → ℤ
+valueOf s = cond (s .negative) (negℤ (pos (s .size))) (pos (s .size))
+
+abbrev pub isMarked : Place → Bool
+isMarked Bare = false
+isMarked (At axis) = false
+isMarked (Marked axis) = true
+
+-- eight slots, and zeros past the list
+abbrev pub padded : {A : Type 0} → A → List A → List A
+padded zero l = l ++ replicate (8 - length l) zero
+
+abbrev pub none : Iter
+none = record { extent = 0; stride = pos 0; axis = 0 }
+
+abbrev pub itersOf : List ℕ → List Step → List Iter
+itersOf [] steps = []
+itersOf (e ∷ es) [] = record { extent = e; stride = pos 0; axis = 0 } ∷ itersOf es []
+itersOf (e ∷ es) (s ∷ ss) = record { extent = e; stride = valueOf s; axis = axisOf (s .place) } ∷ itersOf es ss
+
+abbrev pub listOf : Lists → Iters
+listOf l = record { at = padded none (itersOf (l .extents) (l .steps)); count = length (l .extents) }
+
+abbrev pub markOf : Step → Bool
+markOf s = isMarked (s .place)
+
+-- each offset stands at its axis
+abbrev pub laid : List ℤ → List Step → List ℤ
+laid offset [] = offset
+laid offset (s ∷ ss) = laid (set offset (axisOf (s .place)) (valueOf s)) ss
+
+abbrev pub noOffset : List ℤ
+noOffset = replicate 8 (pos 0)
+
+abbrev pub layoutOf : Notation → Layout
+layoutOf n = record {
+  shard = listOf (n .shard);
+  marks = padded false (map markOf (n .shard .steps));
+  replica = listOf (n .replica);
+  offset = laid noOffset (n .offsets);
+}

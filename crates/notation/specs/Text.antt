@@ -1,0 +1,158 @@
+-- The notation: what a text says, how it is spelled, and what a correct text is.
+use Prim.Native.Nat.{ℕ, zero, suc, _+_, _/_, _%_, _≤_, _<_}
+use mathlib.Core.Path.{_≡_}
+use mathlib.Core.Bool.{Bool, true, false, cond}
+use mathlib.Core.List.{List, [], _∷_, _++_, map}
+use lib.Dec.{ltb}
+use lib.ListN.{length, getD}
+use Rattle.notation.specs.declared.Place.{Place}
+use Rattle.notation.specs.declared.Place.the-variants.{Bare, At, Marked}
+use Rattle.notation.specs.declared.Step.{Step}
+
+-- a number in decimal, in at most so many digits
+abbrev pub digits : ℕ → ℕ → List ℕ
+digits zero n = []
+digits (suc k) n = cond (ltb n 10) ((48 + n) ∷ []) (digits k (n / 10) ++ ((48 + n % 10) ∷ []))
+
+unfoldable pub decimal : ℕ → List ℕ
+decimal n = digits 5 n
+
+-- pid, warpid, laneid, P, F, TLane, TCol, m
+abbrev pub names : List (List ℕ)
+names =
+    (112 ∷ 105 ∷ 100 ∷ []) ∷
+    (119 ∷ 97 ∷ 114 ∷ 112 ∷ 105 ∷ 100 ∷ []) ∷
+    (108 ∷ 97 ∷ 110 ∷ 101 ∷ 105 ∷ 100 ∷ []) ∷
+    (80 ∷ []) ∷
+    (70 ∷ []) ∷
+    (84 ∷ 76 ∷ 97 ∷ 110 ∷ 101 ∷ []) ∷
+    (84 ∷ 67 ∷ 111 ∷ 108 ∷ []) ∷
+    (109 ∷ []) ∷
+    []
+
+abbrev pub name : ℕ → List ℕ
+name axis = getD names axis []
+
+-- a missing axis means m
+abbrev pub axisOf : Place → ℕ
+axisOf Bare = 7
+axisOf (At axis) = axis
+axisOf (Marked axis) = axis
+
+-- nothing, `@` and the name, or these and a star
+abbrev pub spellPlace : Place → List ℕ
+spellPlace Bare = []
+spellPlace (At axis) = 64 ∷ name axis
+spellPlace (Marked axis) = 64 ∷ (name axis ++ (42 ∷ []))
+
+-- a minus or nothing, the number, and the place
+abbrev pub spellSigned : Bool → ℕ → List ℕ
+spellSigned negative size = cond negative (45 ∷ []) [] ++ decimal size
+
+abbrev pub spellStep : Step → List ℕ
+spellStep s = spellSigned (s .negative) (s .size) ++ spellPlace (s .place)
+
+-- parted by commas
+abbrev pub tails : List (List ℕ) → List ℕ
+tails [] = []
+tails (t ∷ ts) = 44 ∷ (t ++ tails ts)
+
+abbrev pub joined : List (List ℕ) → List ℕ
+joined [] = []
+joined (t ∷ ts) = t ++ tails ts
+
+-- with parentheses or without
+abbrev pub opening : Bool → List ℕ
+opening paren = cond paren (40 ∷ []) []
+
+abbrev pub closing : Bool → List ℕ
+closing paren = cond paren (41 ∷ []) []
+
+abbrev pub enclosed : Bool → List (List ℕ) → List ℕ
+enclosed paren ts = opening paren ++ (joined ts ++ closing paren)
+
+-- extents, `:`, strides
+pub record Lists : Type 0 where
+  pub extents : List ℕ
+  pub steps : List Step
+
+abbrev pub spellLists : Bool → Lists → List ℕ
+spellLists paren l = enclosed paren (map decimal (l .extents)) ++ (58 ∷ enclosed paren (map spellStep (l .steps)))
+
+-- S[..]
+abbrev pub spellShard : Lists → List ℕ
+spellShard l = 83 ∷ 91 ∷ (spellLists true l ++ (93 ∷ []))
+
+-- nothing, or +R[..]: a single iter is bare
+abbrev pub several : List ℕ → Bool
+several [] = false
+several (e ∷ []) = false
+several (e ∷ f ∷ es) = true
+
+abbrev pub spellSome : Lists → List ℕ
+spellSome l = 43 ∷ 82 ∷ 91 ∷ (spellLists (several (l .extents)) l ++ (93 ∷ []))
+
+abbrev pub isNone : List ℕ → Bool
+isNone [] = true
+isNone (e ∷ es) = false
+
+abbrev pub spellReplica : Lists → List ℕ
+spellReplica l = cond (isNone (l .extents)) [] (spellSome l)
+
+-- each after a `+`
+abbrev pub spellOffsets : List Step → List ℕ
+spellOffsets [] = []
+spellOffsets (s ∷ ss) = (43 ∷ spellStep s) ++ spellOffsets ss
+
+-- what a text says
+pub record Notation : Type 0 where
+  pub shard : Lists
+  pub replica : Lists
+  pub offsets : List Step
+
+abbrev pub spell : Notation → List ℕ
+spell n = spellShard (n .shard) ++ (spellReplica (n .replica) ++ spellOffsets (n .offsets))
+
+-- at most five digits; no minus before 0; a star in the shard alone
+abbrev pub Short : ℕ → Type 0
+Short n = n < 100000
+
+abbrev pub Each : {A : Type 0} → (A → Type 0) → List A → Type 0
+Each P [] = Unit {0}
+Each P (a ∷ l) = P a × Each P l
+
+abbrev pub Sound : Step → Type 0
+Sound s = Short (s .size) × (s .negative ≡ true → 1 ≤ s .size) × (axisOf (s .place) ≤ 7)
+
+abbrev pub Unmarked : Place → Type 0
+Unmarked Bare = Unit {0}
+Unmarked (At axis) = Unit {0}
+Unmarked (Marked axis) = ⊥
+
+abbrev pub Plain : Step → Type 0
+Plain s = Sound s × Unmarked (s .place)
+
+-- the axes rise
+abbrev pub Rising : ℕ → List Step → ℕ → Type 0
+Rising from [] end = from ≤ end
+Rising from (s ∷ ss) end = (from ≤ axisOf (s .place)) × Rising (axisOf (s .place) + 1) ss end
+
+-- both lists equally long, at most so many
+pub record Limits (most : ℕ) (P : Step → Type 0) (l : Lists) : Type 0 where
+  pub few : length (l .extents) ≤ most
+  pub same : length (l .steps) ≡ length (l .extents)
+  pub short : Each Short (l .extents)
+  pub sound : Each P (l .steps)
+
+-- the limits of the grammar
+pub record Within (n : Notation) : Type 0 where
+  pub some : 1 ≤ length (n .shard .extents)
+  pub shard : Limits 8 Sound (n .shard)
+  pub replica : Limits 4 Plain (n .replica)
+  pub offsets : Each Plain (n .offsets)
+  pub rising : Rising 0 (n .offsets) 8
+
+pub record Correct (text : List ℕ) : Type 0 where
+  pub says : Notation
+  pub within : Within says
+  pub spelled : text ≡ spell says

@@ -1,0 +1,14 @@
+-- `reader::plus` is the definition: a replica, or an offset that begins.
+use borrow.Author.Needs.{needs}
+use borrow.Author.Tests.{eq-eqb, ne-eqb}
+use Rattle.reader.proofs.plus.Statement.{statement}
+use Rattle.reader.proofs.plus.Tie as tie
+
+returns : tie.Need-returns
+returns c = rw (c .to .ensures, eq-eqb _ _ (c .before .if1 .taken))
+
+returns-2 : tie.Need-returns-2
+returns-2 c = rw (c .begun .ensures, ne-eqb _ _ (c .before .if1 .left))
+
+pub plus-spec : {M : Type 1} → statement M
+plus-spec = tie.close (tie.spec (λ c κs. search needs) returns (λ c κs. search needs) returns-2)

@@ -1,0 +1,3 @@
+pub mod Run
+pub mod Same
+pub mod Texts
