@@ -1,8 +1,9 @@
 /* urszovely.h: tile layouts, swizzles, banks, warp fragments and zero-column masks, answered by a proved library. C99 and C++.
  *
  * Every question takes any numbers and answers four: answer[0] is 0 or the number of a refusal, answer[1] to answer[3] are its
- * details, 0 unless said. Pointers are valid, not NULL and do not overlap; nothing else is asked of a caller. A refusal leaves
- * lent memory as it was, but 7 and 8 of verdict and owner leave the first `cells` entries of the table 0, and 18 a card of zeros.
+ * details, 0 unless said. Pointers are valid, not NULL and do not overlap; nothing else is asked of a caller. A refusal touches
+ * nothing that was lent, with three exceptions: 7 and 8 of verdict and owner leave the first `cells` entries of the table 0, 15 of
+ * urszovely_fields leaves the twelve fields 0, and 18 of urszovely_read the card's first 46 numbers and its marks 0.
  *
  * Limits: extents, lengths, elements and cells 1 to 65,536, copies at most 64, strides and offsets -65,536 to 65,535.
  *

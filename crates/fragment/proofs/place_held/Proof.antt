@@ -28,6 +28,11 @@ bounds c =
 last : (c : tie.At-match-rest) → c .before .before .args .kind ≡ 8
 last c = let b = bounds (c .before) in omega (arith, none-below 8 (c .before .before .args .kind) (c .match .rest))
 
+-- the arm of kind 1
+column-major : tie.Need-returns-2
+unfolding computation place
+column-major c = arm (c .before .before .before) 1 _ (c .before .match .keys2) (rw (c .at2 .ensures, c .before .before .high .ensures))
+
 pub place-held-spec : {M : Type 1} → statement M
 unfolding computation place
 place-held-spec =
@@ -37,7 +42,7 @@ place-held-spec =
     (λ c. let b = bounds (c .before) in omega arith) (λ c κs. tt) (λ c κs. rw (c .match .keys6) at (c .before .before .pre)) (λ c κs. tt) (λ c κs. tt)
     (λ c. omega arith) (λ c. let b = bounds (c .before) in omega arith) (λ c κs. tt)
     (λ c. arm (c .before .before .before) 0 _ (c .before .match .keys1) (rw (c .at .ensures, c .before .before .high .ensures)))
-    (λ c. arm (c .before .before .before) 1 _ (c .before .match .keys2) (rw (c .at2 .ensures, c .before .before .high .ensures)))
+    column-major
     (λ c. arm (c .before .before .before) 2 _ (c .before .match .keys3) (rw (c .at3 .ensures, c .before .before .high .ensures)))
     (λ c. arm (c .before .before .before) 3 _ (c .before .match .keys4) (rw (c .at4 .ensures, c .before .before .high .ensures)))
     (λ c. arm (c .before .before .before) 4 _ (c .before .match .keys5) (rw (c .at5 .ensures, c .before .before .high .ensures)))

@@ -8,9 +8,11 @@ use Rattle.swizzle.proofs.swizzle_address.Tie as tie
 swizzle-permitted-requires : tie.Need-swizzle-permitted-requires
 swizzle-permitted-requires c κs = sym (c .before .is-permitted .ensures) ∙ c .if1 .taken
 
+refused : tie.Need-returns-2
+refused c = rw (sym (c .before .is-permitted .ensures) ∙ c .if1 .left)
+
 pub swizzle-address-spec : {M : Type 1} → statement M
 swizzle-address-spec =
     tie.close
     (tie.spec (λ c κs. tt) swizzle-permitted-requires
-    (λ c. rw (swizzle-permitted-requires (c .before) _) (ap Address (c .swizzle-permitted .ensures)))
-    (λ c. rw (sym (c .before .is-permitted .ensures) ∙ c .if1 .left)))
+    (λ c. rw (swizzle-permitted-requires (c .before) _) (ap Address (c .swizzle-permitted .ensures))) refused)
