@@ -75,7 +75,7 @@ fn replica(numbers: &[u64; 80], below: &[bool; 80]) -> Iters {
 pub fn card(numbers: &[u64; 80], below: &[bool; 80]) -> Card {
     Card {
         shard: shard(numbers, below),
-        marks: plain::marks(numbers[places::MARKS]),
+        marks: c_card::marks(numbers[places::MARKS]),
         replica: replica(numbers, below),
         offset: eight_signed(numbers, below, places::OFFSETS),
         lengths: eight(numbers, places::LENGTHS),

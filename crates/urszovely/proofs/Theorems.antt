@@ -18,7 +18,9 @@ use Rattle.judgement.specs.declared.Verdict.{Verdict}
 use Rattle.judgement.specs.declared.Owner.{Owner}
 use Rattle.judgement.proofs.Theorems.{verdict-settled, owner-settled}
 use Rattle.values.specs.declared.Register.{Register}
-use Rattle.plain.specs.Plain.{cardFrom, cardWith, markBits, tupleFrom, four}
+use Rattle.c_card.specs.Card.{cardFrom, four}
+use Rattle.c_tuple.specs.Tuple.{tupleFrom}
+use Rattle.c_layout.specs.Layout.{cardWith, markBits}
 use Rattle.urszovely.specs.Answers.{AsHolder, AsReading, AsPlacement, AsVerdict, AsOwner, Written}
 
 pub as-holder-settled : (kind : ℕ) (place : Place) (x y : List ℕ) → AsHolder kind place x → AsHolder kind place y → x ≡ y

@@ -16,7 +16,9 @@ use Rattle.judgement.specs.declared.Verdict.{Verdict}
 use Rattle.judgement.specs.declared.Owner.{Owner}
 use Rattle.values.specs.declared.Register.{Register}
 use Rattle.lent.specs.Lent.{sortAfter, singleAfter, doubleAfter, after}
-use Rattle.plain.specs.Plain.{cardFrom, cardWith, markBits, tupleFrom, four}
+use Rattle.c_card.specs.Card.{cardFrom, four}
+use Rattle.c_tuple.specs.Tuple.{tupleFrom}
+use Rattle.c_layout.specs.Layout.{cardWith, markBits}
 
 pub record AsHolder (kind : ℕ) (place : Place) (answer : List ℕ) : Type 0 where
   pub holder : Holder

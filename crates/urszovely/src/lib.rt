@@ -15,7 +15,8 @@ ghost use Rattle.values.specs.Registers.{dealAnswer, collectAnswer, dealtLanes,
 ghost use Rattle.values.specs.Holdings.{dealHoldingsAnswer, collectHoldingsAnswer, dealtHoldings, collectedFromHoldings};
 ghost use Rattle.lent.specs.Lent.{rowsFrom, holdingsFrom, numbersOf};
 ghost use Rattle.notation.specs.Writing.{writeAnswer as textAnswer, bytesAfter, writeNumbers as textNumbers};
-ghost use Rattle.plain.specs.Plain.{cardFrom, fieldsFrom, bytesOf, four};
+ghost use Rattle.c_card.specs.Card.{cardFrom, four};
+ghost use Rattle.c_fields.specs.Fields.{fieldsFrom, bytesOf};
 ghost use Rattle.urszovely.specs.Answers.{AsHolder, AsReading, AsPlacement, AsVerdict, AsOwner, Written};
 
 // The swizzle of an address.
@@ -25,7 +26,7 @@ pub extern "C" fn urszovely_swizzle(m: u64, b: u64, s: u64, address: u64, answer
 {
     let swizzled = swizzle::swizzle_address(m, b, s, address);
     let numbers = swizzle::swizzle_numbers(swizzled);
-    *answer = plain::four(numbers);
+    *answer = c_card::four(numbers);
 }
 
 // M, B, S from element bits and mode.
@@ -35,7 +36,7 @@ pub extern "C" fn urszovely_mode(bits: u64, mode: u64, answer: &mut [u64; 4])
 {
     let chosen = swizzle::swizzle_of_mode(bits, mode);
     let numbers = swizzle::mode_numbers(chosen);
-    *answer = plain::four(numbers);
+    *answer = c_card::four(numbers);
 }
 
 // Line and bank of an element address.
@@ -45,7 +46,7 @@ pub extern "C" fn urszovely_bank(bits: u64, address: u64, answer: &mut [u64; 4])
 {
     let banked = banks::bank_of(bits, address);
     let numbers = banks::bank_numbers(banked);
-    *answer = plain::four(numbers);
+    *answer = c_card::four(numbers);
 }
 
 // What a register of a warp's lane holds.
@@ -55,7 +56,7 @@ pub extern "C" fn urszovely_fragment(kind: u64, lane: u64, register: u64, answer
 {
     let held = fragment::held_by(kind, lane, register);
     let numbers = fragment::held_numbers(held);
-    *answer = plain::four(numbers);
+    *answer = c_card::four(numbers);
 }
 
 // Which register holds a place.
@@ -71,7 +72,7 @@ pub extern "C" fn urszovely_holder(
 {
     let holder = fragment::holder_of(kind, computation, row, column);
     let numbers = fragment::holder_numbers(holder);
-    *answer = plain::four(numbers);
+    *answer = c_card::four(numbers);
 }
 
 // A computation's matrix dealt to its lanes.
@@ -96,7 +97,7 @@ pub extern "C" fn urszovely_deal(
     lent::put_lanes(dealt, sorts, singles, doubles);
     let told = dealing::judge_dealing(kind, computation, tile);
     let numbers = dealing::moved_numbers(told);
-    *answer = plain::four(numbers);
+    *answer = c_card::four(numbers);
 }
 
 // And collected from them.
@@ -121,7 +122,7 @@ pub extern "C" fn urszovely_collect(
     lent::put_tile(collected, sorts, singles, doubles);
     let told = dealing::judge_collecting(kind, computation, lanes);
     let numbers = dealing::moved_numbers(told);
-    *answer = plain::four(numbers);
+    *answer = c_card::four(numbers);
 }
 
 // A matrix of an .f64 kind dealt to the lanes' holdings.
@@ -144,7 +145,7 @@ pub extern "C" fn urszovely_deal_f64(
     lent::put_holdings(dealt, holdings);
     let told = holdings::judge_dealing(kind, computation, tile);
     let numbers = dealing::moved_numbers(told);
-    *answer = plain::four(numbers);
+    *answer = c_card::four(numbers);
 }
 
 // And collected from them.
@@ -167,7 +168,7 @@ pub extern "C" fn urszovely_collect_f64(
     lent::put_tile(collected, sorts, singles, doubles);
     let told = holdings::judge_collecting(kind, computation);
     let numbers = dealing::moved_numbers(told);
-    *answer = plain::four(numbers);
+    *answer = c_card::four(numbers);
 }
 
 // The fields of a descriptor, read.
@@ -178,10 +179,10 @@ pub extern "C" fn urszovely_fields(descriptor: u64, fields: &mut [u8; 12], answe
 {
     let reading = descriptor::read_descriptor(descriptor);
     let read = reading.fields;
-    *fields = plain::field_bytes(read);
+    *fields = c_fields::field_bytes(read);
     let told = reading.answer;
     let numbers = descriptor::read_numbers(told);
-    *answer = plain::four(numbers);
+    *answer = c_card::four(numbers);
 }
 
 // And written, for M.
@@ -189,9 +190,9 @@ pub extern "C" fn urszovely_fields(descriptor: u64, fields: &mut [u8; 12], answe
 pub extern "C" fn urszovely_descriptor(m: u64, fields: &[u8; 11], shift: u64, answer: &mut [u64; 4])
     ensures { λ r. ⌜ now (answer .exit) ≡ four (writeNumbers (writeAnswer (shiftLimit m) m (fieldsFrom (now (fields .entry)) shift))) ⌝ }
 {
-    let written = descriptor::write_descriptor(m, plain::fields(fields, shift));
+    let written = descriptor::write_descriptor(m, c_fields::fields(fields, shift));
     let numbers = descriptor::write_numbers(written);
-    *answer = plain::four(numbers);
+    *answer = c_card::four(numbers);
 }
 
 // The zero-column mask.
@@ -208,7 +209,7 @@ pub extern "C" fn urszovely_mask(
 {
     let generated = mask::generate_mask(m, n, descriptor, mask);
     let numbers = mask::mask_numbers(generated);
-    *answer = plain::four(numbers);
+    *answer = c_card::four(numbers);
 }
 
 // A card's own checks: 1 to 6, then 17.
@@ -216,9 +217,9 @@ pub extern "C" fn urszovely_mask(
 pub extern "C" fn urszovely_admit(card: &[u64; 57], marks: u64, answer: &mut [u64; 4])
     ensures { λ r. ⌜ now (answer .exit) ≡ four (admissionNumbers (fullAdmission (cardFrom (now (card .entry)) marks))) ⌝ }
 {
-    let admission = idle::admit(plain::card(card, marks));
+    let admission = idle::admit(c_card::card(card, marks));
     let numbers = admission::admission_numbers(admission);
-    *answer = plain::four(numbers);
+    *answer = c_card::four(numbers);
 }
 
 // The placement of one element.
@@ -234,13 +235,13 @@ pub extern "C" fn urszovely_place(
     ensures { λ r. ⌜ AsPlacement (now (card .entry)) marks (now (shape .entry)) (now (coordinates .entry)) (now (memory .entry)) (now (memory .exit)) (now (answer .exit)) ⌝ }
 {
     let placement = placement::place(
-        plain::card(card, marks),
-        plain::tuple(shape),
-        plain::tuple(coordinates),
+        c_card::card(card, marks),
+        c_tuple::tuple(shape),
+        c_tuple::tuple(coordinates),
         memory,
     );
     let numbers = placement::placement_numbers(placement);
-    *answer = plain::four(numbers);
+    *answer = c_card::four(numbers);
 }
 
 // The verdict.
@@ -253,9 +254,9 @@ pub extern "C" fn urszovely_verdict(
 )
     ensures { λ r. ⌜ AsVerdict (now (card .entry)) marks (now (table .entry)) (now (table .exit)) (now (answer .exit)) ⌝ }
 {
-    let verdict = verdict::judge(plain::card(card, marks), table);
+    let verdict = verdict::judge(c_card::card(card, marks), table);
     let numbers = judgement::verdict_numbers(verdict);
-    *answer = plain::four(numbers);
+    *answer = c_card::four(numbers);
 }
 
 // The owner of a cell.
@@ -269,9 +270,9 @@ pub extern "C" fn urszovely_owner(
 )
     ensures { λ r. ⌜ AsOwner (now (card .entry)) marks (now (coordinates .entry)) (now (table .entry)) (now (table .exit)) (now (answer .exit)) ⌝ }
 {
-    let owner = verdict::owner_of(plain::card(card, marks), *coordinates, table);
+    let owner = verdict::owner_of(c_card::card(card, marks), *coordinates, table);
     let numbers = judgement::owner_numbers(owner);
-    *answer = plain::four(numbers);
+    *answer = c_card::four(numbers);
 }
 
 // Where a stretch of a table lies: its first cell and its length.
@@ -287,7 +288,7 @@ pub extern "C" fn urszovely_stretch(
 {
     let located = stretch::locate_stretch(table, *lengths, axis, *coordinates);
     let numbers = stretch::stretch_numbers(located);
-    *answer = plain::four(numbers);
+    *answer = c_card::four(numbers);
 }
 
 // A text of the layout notation, read into a card.
@@ -303,11 +304,11 @@ pub extern "C" fn urszovely_read(
     let reading = reading::read(text);
     let layout = reading.layout;
     let marked = layout.marks;
-    *card = plain::card_with(layout, card);
-    *marks = [plain::mark_bits(marked)];
+    *card = c_layout::card_with(layout, card);
+    *marks = [c_layout::mark_bits(marked)];
     let told = reading.answer;
     let numbers = reading::read_numbers(told);
-    *answer = plain::four(numbers);
+    *answer = c_card::four(numbers);
 }
 
 // A card written in the layout notation.
@@ -321,7 +322,7 @@ pub extern "C" fn urszovely_write(
     ensures { λ r. ⌜ now (answer .exit) ≡ four (textNumbers (textAnswer (cardFrom (now (card .entry)) marks) (length (now (text .entry))))) ⌝ }
     ensures { λ r. ⌜ now (text .exit) ≡ bytesAfter (textAnswer (cardFrom (now (card .entry)) marks) (length (now (text .entry)))) (cardFrom (now (card .entry)) marks) (now (text .entry)) ⌝ }
 {
-    let written = writing::write(plain::card(card, marks), text);
+    let written = writing::write(c_card::card(card, marks), text);
     let numbers = writing::write_numbers(written);
-    *answer = plain::four(numbers);
+    *answer = c_card::four(numbers);
 }

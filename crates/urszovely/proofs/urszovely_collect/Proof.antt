@@ -5,7 +5,7 @@ use borrow.Author.Needs.{needs}
 use Rattle.values.specs.declared.Register.{Register}
 use Rattle.values.specs.Registers.{movedNumbers, collectAnswer, collectedTile}
 use Rattle.lent.specs.Lent.{sortAfter, singleAfter, doubleAfter, after}
-use Rattle.plain.specs.Plain.{four}
+use Rattle.c_card.specs.Card.{four}
 use Rattle.urszovely.proofs.urszovely_collect.Statement.{statement}
 use Rattle.urszovely.proofs.urszovely_collect.Tie as tie
 

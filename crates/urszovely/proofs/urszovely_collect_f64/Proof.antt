@@ -6,7 +6,7 @@ use Rattle.values.specs.declared.Register.{Register}
 use Rattle.values.specs.Registers.{movedNumbers}
 use Rattle.values.specs.Holdings.{collectedFromHoldings}
 use Rattle.lent.specs.Lent.{sortAfter, singleAfter, doubleAfter, after}
-use Rattle.plain.specs.Plain.{four}
+use Rattle.c_card.specs.Card.{four}
 use Rattle.urszovely.proofs.urszovely_collect_f64.Statement.{statement}
 use Rattle.urszovely.proofs.urszovely_collect_f64.Tie as tie
 

@@ -4,7 +4,7 @@ use borrow.Author.Needs.{needs}
 use Rattle.values.specs.Registers.{movedNumbers}
 use Rattle.values.specs.Holdings.{dealHoldingsAnswer, dealtHoldings}
 use Rattle.lent.specs.Lent.{numbersOf}
-use Rattle.plain.specs.Plain.{four}
+use Rattle.c_card.specs.Card.{four}
 use Rattle.urszovely.proofs.urszovely_deal_f64.Statement.{statement}
 use Rattle.urszovely.proofs.urszovely_deal_f64.Tie as tie
 

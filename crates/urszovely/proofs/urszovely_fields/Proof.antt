@@ -9,7 +9,8 @@ use Rattle.answers.specs.declared.Refusal.the-variants.{Reserved}
 use Rattle.descriptor.specs.Descriptor.{fieldsOf, noFields, reserved, readAnswer, readNumbers}
 use Rattle.descriptor.specs.declared.Reading.{Reading}
 use Rattle.descriptor.specs.declared.Read.the-variants.{Done, Refused}
-use Rattle.plain.specs.Plain.{bytesOf, four}
+use Rattle.c_card.specs.Card.{four}
+use Rattle.c_fields.specs.Fields.{bytesOf}
 use Rattle.urszovely.proofs.urszovely_fields.Statement.{statement}
 use Rattle.urszovely.proofs.urszovely_fields.Tie as tie
 
