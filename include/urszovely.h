@@ -66,7 +66,7 @@ void urszovely_holder(uint64_t kind, uint64_t computation, uint64_t row, uint64_
  *
  * Deal a computation's matrix of kind 5, 6, 7 or 8 to its lanes, or collect it from them: 0, or 14 where there is no such kind or
  * computation, and with the smallest lane and register where a value is not of the kind's sort, 1 for kind 5, else 2. What is not the
- * computation's stays as given, and where refused all of it. */
+ * computation's stays as given and is not written, and where refused all of it. */
 void urszovely_deal(uint64_t kind, uint64_t computation, const uint8_t tile_sorts[64], const float tile_singles[64], const double tile_doubles[64], uint8_t sorts[256], float singles[256], double doubles[256], uint64_t answer[4]);
 void urszovely_collect(uint64_t kind, uint64_t computation, const uint8_t lane_sorts[256], const float lane_singles[256], const double lane_doubles[256], uint8_t sorts[64], float singles[64], double doubles[64], uint64_t answer[4]);
 

@@ -1,6 +1,8 @@
-/* The client with every question asked twice through fenced memory: each array and slice lies once right after an inaccessible page and
- * once right before one, what is only read is write-protected, and the answer begins as two patterns. A touch outside ends the run, and so
- * does a difference between the two. It lends tables up to the library's own limit. */
+/* The client with every question asked through fenced memory: each array and slice lies once right after an inaccessible page and once
+ * right before one, what is only read is write-protected, and the answer begins as two patterns. The first answer says what of the lent
+ * memory may be written, where it refuses nothing: from then on all else is write-protected, and where that is a part of an array the
+ * question is asked again with that part on a page of its own. A touch outside ends the run, and so does a difference between the answers.
+ * It lends tables up to the library's own limit. */
 #include "urszovely.h"
 
 void *mmap(void *at, size_t length, int access, int kind, int file, long offset);
@@ -12,7 +14,7 @@ long write(int file, const void *bytes, size_t length);
 void _exit(int status) __attribute__((noreturn));
 
 enum { READ = 1, READ_WRITE = 3, PRIVATE_ANONYMOUS = 0x22 };
-enum { EDGE = 65536, ROOM = 262144, SLOT = EDGE + ROOM + EDGE };
+enum { EDGE = 65536, MOST = 262144, ROOM = 2 * MOST, SLOT = EDGE + ROOM + EDGE, SIDES = 4 };
 enum { FIRST, SECOND, THIRD, LENT, LENT_SINGLES, LENT_DOUBLES, ANSWER, SLOTS };
 
 static void stop(const char *why)
@@ -25,28 +27,33 @@ static void stop(const char *why)
     _exit(1);
 }
 
-static uint8_t *fenced[2];
+static uint8_t *fenced[SIDES];
 
-/* a slot of memory on one side of the fences: side 0 right after an inaccessible page, side 1 right before one */
+/* of each slot that is lent, the bytes that the first answer allows to be written */
+static struct { size_t first, end; } own[SLOTS];
+
+/* a slot of memory on one side of the fences: side 0 right after an inaccessible page, side 1 right before one; in the room's middle a
+ * page begins on side 2 after the own bytes, on side 3 with them */
 static uint8_t *slot(int which, int side, size_t size)
 {
     uint8_t *room = fenced[side] + (size_t)which * SLOT + EDGE;
-    if (size > ROOM) stop("a buffer larger than its room");
-    return side ? room + ROOM - size : room;
+    if (size > MOST) stop("a buffer larger than its room");
+    if (side < 2) return side ? room + ROOM - size : room;
+    return room + ROOM / 2 - (side == 2 ? own[which].end : own[which].first);
 }
 
-static void access_to(int which, int side, int access)
+static void access_to(int which, int side, size_t from, size_t to, int access)
 {
-    if (mprotect(fenced[side] + (size_t)which * SLOT + EDGE, ROOM, access)) stop("no mprotect");
+    if (mprotect(fenced[side] + (size_t)which * SLOT + EDGE + from, to - from, access)) stop("no mprotect");
 }
 
 static void fence(void)
 {
     int side, which;
-    for (side = 0; side < 2; side++) {
+    for (side = 0; side < SIDES; side++) {
         fenced[side] = mmap(0, (size_t)SLOTS * SLOT, 0, PRIVATE_ANONYMOUS, -1, 0);
         if (fenced[side] == (void *)-1) stop("no mmap");
-        for (which = 0; which < SLOTS; which++) access_to(which, side, READ_WRITE);
+        for (which = 0; which < SLOTS; which++) access_to(which, side, 0, ROOM, READ_WRITE);
     }
 }
 
@@ -54,22 +61,45 @@ static void fence(void)
 static const void *given(int which, int side, const void *bytes, size_t size)
 {
     uint8_t *at = slot(which, side, size);
-    access_to(which, side, READ_WRITE);
+    access_to(which, side, 0, ROOM, READ_WRITE);
     memcpy(at, bytes, size);
-    access_to(which, side, READ);
+    access_to(which, side, 0, ROOM, READ);
     return at;
 }
 
-/* what may be written, as the caller has it */
-static void *lent(int side, const void *bytes, size_t size) { return memcpy(slot(LENT, side, size), bytes, size); }
-
-/* the four numbers, unlike on the two sides so that one left unwritten shows */
-static uint64_t *blank(int side) { return memset(slot(ANSWER, side, 32), side ? 0x5a : 0xa5, 32); }
-
-/* both sides left the same, which the caller gets */
-static void settle(int which, void *bytes, size_t size)
+/* what may be written, as the caller has it: after the first answer its own bytes only, as far as a page parts them from the others */
+static void *lent(int which, int side, const void *bytes, size_t size)
 {
-    if (memcmp(slot(which, 0, size), slot(which, 1, size), size)) stop("two answers to one question");
+    uint8_t *at = slot(which, side, size);
+    access_to(which, side, 0, ROOM, READ_WRITE);
+    memcpy(at, bytes, size);
+    if (side && own[which].first == own[which].end) access_to(which, side, 0, ROOM, READ);
+    else if (side >= 2) access_to(which, side, side == 2 ? ROOM / 2 : 0, side == 2 ? ROOM : ROOM / 2, READ);
+    return at;
+}
+
+/* what the first answer allows to be written, and on how many sides it is asked: on those of which a page parts anything */
+static int may_write(int which, size_t size, size_t first, size_t end)
+{
+    own[which].first = first;
+    own[which].end = end;
+    return first ? 4 : end && end < size ? 3 : 2;
+}
+
+/* bytes that are unlike on two sides, so that one left unwritten shows */
+static void *unlike(int side, void *bytes, size_t size) { return memset(bytes, side % 2 ? 0x5a : 0xa5, size); }
+
+/* the four numbers */
+static uint64_t *blank(int side) { return unlike(side, slot(ANSWER, side, 32), 32); }
+
+static const uint64_t *told(void) { return (const uint64_t *)(void *)slot(ANSWER, 0, 32); }
+
+/* all sides left the same, which the caller gets */
+static void settle(int which, int sides, void *bytes, size_t size)
+{
+    int side;
+    for (side = 1; side < sides; side++)
+        if (memcmp(slot(which, 0, size), slot(which, side, size), size)) stop("two answers to one question");
     memcpy(bytes, slot(which, 0, size), size);
 }
 
@@ -77,43 +107,46 @@ static void guarded_swizzle(uint64_t m, uint64_t b, uint64_t s, uint64_t address
 {
     int side;
     for (side = 0; side < 2; side++) urszovely_swizzle(m, b, s, address, blank(side));
-    settle(ANSWER, answer, 32);
+    settle(ANSWER, 2, answer, 32);
 }
 
 static void guarded_mode(uint64_t bits, uint64_t mode, uint64_t *answer)
 {
     int side;
     for (side = 0; side < 2; side++) urszovely_mode(bits, mode, blank(side));
-    settle(ANSWER, answer, 32);
+    settle(ANSWER, 2, answer, 32);
 }
 
 static void guarded_bank(uint64_t bits, uint64_t address, uint64_t *answer)
 {
     int side;
     for (side = 0; side < 2; side++) urszovely_bank(bits, address, blank(side));
-    settle(ANSWER, answer, 32);
+    settle(ANSWER, 2, answer, 32);
 }
 
 static void guarded_fragment(uint64_t kind, uint64_t lane, uint64_t reg, uint64_t *answer)
 {
     int side;
     for (side = 0; side < 2; side++) urszovely_fragment(kind, lane, reg, blank(side));
-    settle(ANSWER, answer, 32);
+    settle(ANSWER, 2, answer, 32);
 }
 
 static void guarded_holder(uint64_t kind, uint64_t computation, uint64_t row, uint64_t column, uint64_t *answer)
 {
     int side;
     for (side = 0; side < 2; side++) urszovely_holder(kind, computation, row, column, blank(side));
-    settle(ANSWER, answer, 32);
+    settle(ANSWER, 2, answer, 32);
 }
 
 static void guarded_fields(uint64_t descriptor, uint8_t *fields, uint64_t *answer)
 {
     int side;
-    for (side = 0; side < 2; side++) urszovely_fields(descriptor, memset(slot(LENT, side, 12), side ? 0x5a : 0xa5, 12), blank(side));
-    settle(LENT, fields, 12);
-    settle(ANSWER, answer, 32);
+    for (side = 0; side < 2; side++) {
+        urszovely_fields(descriptor, lent(LENT, side, unlike(side, fields, 12), 12), blank(side));
+        may_write(LENT, 12, 0, 12);
+    }
+    settle(LENT, 2, fields, 12);
+    settle(ANSWER, 2, answer, 32);
 }
 
 /* on the second side a yes is 2 or 255 */
@@ -126,55 +159,73 @@ static void guarded_descriptor(uint64_t m, const uint8_t *fields, uint64_t shift
         if (other[i]) other[i] = i % 2 ? 2 : 255;
     urszovely_descriptor(m, given(FIRST, 0, fields, 11), shift, blank(0));
     urszovely_descriptor(m, given(FIRST, 1, other, 11), shift, blank(1));
-    settle(ANSWER, answer, 32);
+    settle(ANSWER, 2, answer, 32);
 }
 
 static void guarded_mask(uint64_t m, uint64_t n, uint64_t descriptor, uint8_t *mask, size_t length, uint64_t *answer)
 {
-    int side;
-    for (side = 0; side < 2; side++) urszovely_mask(m, n, descriptor, lent(side, mask, length), length, blank(side));
-    settle(LENT, mask, length);
-    settle(ANSWER, answer, 32);
+    int side, sides = 2;
+    for (side = 0; side < sides; side++) {
+        urszovely_mask(m, n, descriptor, lent(LENT, side, mask, length), length, blank(side));
+        if (!side) sides = may_write(LENT, length, 0, told()[0] ? 0 : n / 8);
+    }
+    settle(LENT, sides, mask, length);
+    settle(ANSWER, sides, answer, 32);
 }
 
 /* the card's own checks come first in each of the three questions below, so they agree with admit */
 static void admitted(const uint64_t *card, uint64_t marks, const uint64_t *answer)
 {
-    uint64_t own[4];
+    uint64_t checked[4];
     int side, check = (answer[0] >= 1 && answer[0] <= 6) || answer[0] == 17;
     for (side = 0; side < 2; side++) urszovely_admit(given(FIRST, side, card, 57 * 8), marks, blank(side));
-    settle(ANSWER, own, 32);
-    if (check ? memcmp(own, answer, 32) != 0 : own[0] || own[1] || own[2] || own[3]) stop("admit has another answer");
+    settle(ANSWER, 2, checked, 32);
+    if (check ? memcmp(checked, answer, 32) != 0 : checked[0] || checked[1] || checked[2] || checked[3]) stop("admit has another answer");
 }
 
 static void guarded_place(const uint64_t *card, uint64_t marks, const uint64_t *shape, const uint64_t *coordinates, uint32_t *memory, size_t length, uint64_t *answer)
 {
-    int side;
-    for (side = 0; side < 2; side++)
+    int side, sides = 2;
+    for (side = 0; side < sides; side++) {
         urszovely_place(given(FIRST, side, card, 57 * 8), marks, given(SECOND, side, shape, 72), given(THIRD, side, coordinates, 72),
-                        lent(side, memory, 4 * length), length, blank(side));
-    settle(LENT, memory, 4 * length);
-    settle(ANSWER, answer, 32);
+                        lent(LENT, side, memory, 4 * length), length, blank(side));
+        if (!side) sides = may_write(LENT, 4 * length, 0, told()[0] ? 0 : 4 * told()[1]);
+    }
+    settle(LENT, sides, memory, 4 * length);
+    settle(ANSWER, sides, answer, 32);
     admitted(card, marks, answer);
+}
+
+/* the cells of a table: written where it is filled, and cleared where 7 or 8 refuse */
+static int may_write_cells(const uint64_t *card, size_t length)
+{
+    size_t cells = 1;
+    int i;
+    for (i = 46; i < 54; i++) cells *= card[i];
+    return may_write(LENT, 4 * length, 0, told()[0] && told()[0] != 7 && told()[0] != 8 ? 0 : 4 * cells);
 }
 
 static void guarded_verdict(const uint64_t *card, uint64_t marks, uint32_t *table, size_t length, uint64_t *answer)
 {
-    int side;
-    for (side = 0; side < 2; side++)
-        urszovely_verdict(given(FIRST, side, card, 57 * 8), marks, lent(side, table, 4 * length), length, blank(side));
-    settle(LENT, table, 4 * length);
-    settle(ANSWER, answer, 32);
+    int side, sides = 2;
+    for (side = 0; side < sides; side++) {
+        urszovely_verdict(given(FIRST, side, card, 57 * 8), marks, lent(LENT, side, table, 4 * length), length, blank(side));
+        if (!side) sides = may_write_cells(card, length);
+    }
+    settle(LENT, sides, table, 4 * length);
+    settle(ANSWER, sides, answer, 32);
     admitted(card, marks, answer);
 }
 
 static void guarded_owner(const uint64_t *card, uint64_t marks, const uint64_t *coordinates, uint32_t *table, size_t length, uint64_t *answer)
 {
-    int side;
-    for (side = 0; side < 2; side++)
-        urszovely_owner(given(FIRST, side, card, 57 * 8), marks, given(SECOND, side, coordinates, 64), lent(side, table, 4 * length), length, blank(side));
-    settle(LENT, table, 4 * length);
-    settle(ANSWER, answer, 32);
+    int side, sides = 2;
+    for (side = 0; side < sides; side++) {
+        urszovely_owner(given(FIRST, side, card, 57 * 8), marks, given(SECOND, side, coordinates, 64), lent(LENT, side, table, 4 * length), length, blank(side));
+        if (!side) sides = may_write_cells(card, length);
+    }
+    settle(LENT, sides, table, 4 * length);
+    settle(ANSWER, sides, answer, 32);
     admitted(card, marks, answer);
 }
 
@@ -184,48 +235,48 @@ static void guarded_stretch(const uint32_t *table, size_t length, const uint64_t
     for (side = 0; side < 2; side++)
         urszovely_stretch(given(FIRST, side, table, 4 * length), length, given(SECOND, side, lengths, 64), axis,
                           given(THIRD, side, coordinates, 64), blank(side));
-    settle(ANSWER, answer, 32);
+    settle(ANSWER, 2, answer, 32);
 }
 
-/* what stands where the layout goes, and for the marks, is unlike on the two sides */
+/* what stands where the layout goes, and for the marks, is unlike on the two sides; both are written where refused too */
 static void guarded_read(const uint8_t *text, size_t length, uint64_t *card, uint64_t *marks, uint64_t *answer)
 {
     int side;
-    uint64_t *own;
     for (side = 0; side < 2; side++) {
-        own = lent(side, card, 57 * 8);
-        memset(own, side ? 0x5a : 0xa5, 46 * 8);
-        memset(slot(LENT_DOUBLES, side, 8), side ? 0x5a : 0xa5, 8);
-        urszovely_read(given(FIRST, side, text, length), length, own, (uint64_t *)(void *)slot(LENT_DOUBLES, side, 8), blank(side));
+        unlike(side, card, 46 * 8);
+        urszovely_read(given(FIRST, side, text, length), length, lent(LENT, side, card, 57 * 8), lent(LENT_DOUBLES, side, unlike(side, marks, 8), 8), blank(side));
+        may_write(LENT, 57 * 8, 0, 57 * 8);
+        may_write(LENT_DOUBLES, 8, 0, 8);
     }
-    settle(LENT, card, 57 * 8);
-    settle(LENT_DOUBLES, marks, 8);
-    settle(ANSWER, answer, 32);
+    settle(LENT, 2, card, 57 * 8);
+    settle(LENT_DOUBLES, 2, marks, 8);
+    settle(ANSWER, 2, answer, 32);
 }
 
 /* a card's lengths and M, B, S are not written, so they are unlike on the two sides */
 static void guarded_write(const uint64_t *card, uint64_t marks, uint8_t *text, size_t length, uint64_t *answer)
 {
-    int side;
-    uint64_t own[57];
-    memcpy(own, card, 46 * 8);
-    for (side = 0; side < 2; side++) {
-        memset(own + 46, side ? 0x5a : 0xa5, 11 * 8);
-        urszovely_write(given(FIRST, side, own, 57 * 8), marks, lent(side, text, length), length, blank(side));
+    int side, sides = 2;
+    uint64_t layout[57];
+    memcpy(layout, card, 46 * 8);
+    for (side = 0; side < sides; side++) {
+        unlike(side, layout + 46, 11 * 8);
+        urszovely_write(given(FIRST, side, layout, 57 * 8), marks, lent(LENT, side, text, length), length, blank(side));
+        if (!side) sides = may_write(LENT, length, 0, told()[0] ? 0 : told()[1]);
     }
-    settle(LENT, text, length);
-    settle(ANSWER, answer, 32);
+    settle(LENT, sides, text, length);
+    settle(ANSWER, sides, answer, 32);
 }
 
-/* Registers: sorts, singles, doubles in three slots from one on, so many; on the second side an empty register's sort is 3 or 255, which is
- * wrong as 0 is and stays where it is not written. */
+/* Registers: sorts, singles, doubles in three slots from one on, so many; on every second side an empty register's sort is 3 or 255, which
+ * is wrong as 0 is and stays where it is not written. */
 enum { MOST_REGISTERS = 256 };
 
 static const uint8_t *sorts_on(int side, const uint8_t *sorts, size_t count)
 {
     static uint8_t other[MOST_REGISTERS];
     size_t i;
-    if (!side) return sorts;
+    if (side % 2 == 0) return sorts;
     for (i = 0; i < count; i++) other[i] = sorts[i] ? sorts[i] : i % 2 ? 3 : 255;
     return other;
 }
@@ -239,20 +290,42 @@ static void give_registers(int side, const uint8_t *sorts, const float *singles,
 
 static void lend_registers(int side, const uint8_t *sorts, const float *singles, const double *doubles, size_t count)
 {
-    memcpy(slot(LENT, side, count), sorts_on(side, sorts, count), count);
-    memcpy(slot(LENT_SINGLES, side, 4 * count), singles, 4 * count);
-    memcpy(slot(LENT_DOUBLES, side, 8 * count), doubles, 8 * count);
+    lent(LENT, side, sorts_on(side, sorts, count), count);
+    lent(LENT_SINGLES, side, singles, 4 * count);
+    lent(LENT_DOUBLES, side, doubles, 8 * count);
 }
 
-static void settle_registers(uint8_t *sorts, float *singles, double *doubles, size_t count)
+/* from the first to the last of the computation's own registers, or of the places of its matrix in a tile: their sorts, and what those name */
+static int may_write_registers(uint64_t kind, uint64_t computation, size_t count)
 {
-    uint8_t *second = slot(LENT, 1, count);
+    uint64_t held[4];
+    size_t i, first = 0, end = 0, single = kind == 5 ? 4 : 0, twice = kind == 5 ? 0 : 8;
+    for (i = 0; i < count && !told()[0]; i++) {
+        if (count == 64) urszovely_holder(kind, computation, i / 8, i % 8, held);
+        else urszovely_fragment(kind, i / 8, i % 8, held);
+        if (held[0] || (count != 64 && held[1] != computation)) continue;
+        if (!end) first = i;
+        end = i + 1;
+    }
+    may_write(LENT_SINGLES, 4 * count, single * first, single * end);
+    may_write(LENT_DOUBLES, 8 * count, twice * first, twice * end);
+    return may_write(LENT, count, first, end);
+}
+
+static void settle_registers(int sides, uint8_t *sorts, float *singles, double *doubles, size_t count)
+{
+    uint8_t *other;
     size_t i;
-    for (i = 0; i < count; i++)
-        if (second[i] == (i % 2 ? 3 : 255)) second[i] = 0;
-    settle(LENT, sorts, count);
-    settle(LENT_SINGLES, singles, 4 * count);
-    settle(LENT_DOUBLES, doubles, 8 * count);
+    int side;
+    for (side = 1; side < sides; side += 2) {
+        other = slot(LENT, side, count);
+        access_to(LENT, side, 0, ROOM, READ_WRITE);
+        for (i = 0; i < count; i++)
+            if (other[i] == (i % 2 ? 3 : 255)) other[i] = 0;
+    }
+    settle(LENT, sides, sorts, count);
+    settle(LENT_SINGLES, sides, singles, 4 * count);
+    settle(LENT_DOUBLES, sides, doubles, 8 * count);
 }
 
 #define GIVEN(side, count) (const uint8_t *)slot(FIRST, side, count), (const float *)(void *)slot(SECOND, side, 4 * (count)), (const double *)(void *)slot(THIRD, side, 8 * (count))
@@ -261,50 +334,61 @@ static void settle_registers(uint8_t *sorts, float *singles, double *doubles, si
 static void guarded_deal(uint64_t kind, uint64_t computation, const uint8_t *tile_sorts, const float *tile_singles, const double *tile_doubles,
                          uint8_t *sorts, float *singles, double *doubles, uint64_t *answer)
 {
-    int side;
-    for (side = 0; side < 2; side++) {
+    int side, sides = 2;
+    for (side = 0; side < sides; side++) {
         give_registers(side, tile_sorts, tile_singles, tile_doubles, 64);
         lend_registers(side, sorts, singles, doubles, 256);
         urszovely_deal(kind, computation, GIVEN(side, 64), LENT_TO(side, 256), blank(side));
+        if (!side) sides = may_write_registers(kind, computation, 256);
     }
-    settle_registers(sorts, singles, doubles, 256);
-    settle(ANSWER, answer, 32);
+    settle_registers(sides, sorts, singles, doubles, 256);
+    settle(ANSWER, sides, answer, 32);
 }
 
 static void guarded_collect(uint64_t kind, uint64_t computation, const uint8_t *lane_sorts, const float *lane_singles, const double *lane_doubles,
                             uint8_t *sorts, float *singles, double *doubles, uint64_t *answer)
 {
-    int side;
-    for (side = 0; side < 2; side++) {
+    int side, sides = 2;
+    for (side = 0; side < sides; side++) {
         give_registers(side, lane_sorts, lane_singles, lane_doubles, 256);
         lend_registers(side, sorts, singles, doubles, 64);
         urszovely_collect(kind, computation, GIVEN(side, 256), LENT_TO(side, 64), blank(side));
+        if (!side) sides = may_write_registers(kind, computation, 64);
     }
-    settle_registers(sorts, singles, doubles, 64);
-    settle(ANSWER, answer, 32);
+    settle_registers(sides, sorts, singles, doubles, 64);
+    settle(ANSWER, sides, answer, 32);
+}
+
+/* from the first lane's field of the kind to the last lane's: A, B, the two accumulators */
+static int may_write_fields(uint64_t kind)
+{
+    size_t first = kind - 6, end = 4 * 31 + (kind == 8 ? 4 : kind - 5);
+    return told()[0] ? may_write(LENT, 8 * 128, 0, 0) : may_write(LENT, 8 * 128, 8 * first, 8 * end);
 }
 
 static void guarded_deal_f64(uint64_t kind, uint64_t computation, const uint8_t *tile_sorts, const float *tile_singles, const double *tile_doubles,
                              double *holdings, uint64_t *answer)
 {
-    int side;
-    for (side = 0; side < 2; side++) {
+    int side, sides = 2;
+    for (side = 0; side < sides; side++) {
         give_registers(side, tile_sorts, tile_singles, tile_doubles, 64);
-        urszovely_deal_f64(kind, computation, GIVEN(side, 64), lent(side, holdings, 8 * 128), blank(side));
+        urszovely_deal_f64(kind, computation, GIVEN(side, 64), lent(LENT, side, holdings, 8 * 128), blank(side));
+        if (!side) sides = may_write_fields(kind);
     }
-    settle(LENT, holdings, 8 * 128);
-    settle(ANSWER, answer, 32);
+    settle(LENT, sides, holdings, 8 * 128);
+    settle(ANSWER, sides, answer, 32);
 }
 
 static void guarded_collect_f64(uint64_t kind, uint64_t computation, const double *holdings, uint8_t *sorts, float *singles, double *doubles, uint64_t *answer)
 {
-    int side;
-    for (side = 0; side < 2; side++) {
+    int side, sides = 2;
+    for (side = 0; side < sides; side++) {
         lend_registers(side, sorts, singles, doubles, 64);
         urszovely_collect_f64(kind, computation, given(FIRST, side, holdings, 8 * 128), LENT_TO(side, 64), blank(side));
+        if (!side) sides = may_write_registers(kind, computation, 64);
     }
-    settle_registers(sorts, singles, doubles, 64);
-    settle(ANSWER, answer, 32);
+    settle_registers(sides, sorts, singles, doubles, 64);
+    settle(ANSWER, sides, answer, 32);
 }
 
 #define MOST_TABLE 65536

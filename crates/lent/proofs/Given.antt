@@ -3,8 +3,9 @@
 use mathlib.Core.Path.{_≡_, refl, sym, ap, _∙_}
 use mathlib.Core.Bool.{Bool, true, false, cond}
 use mathlib.Core.List.{List, [], map}
-use Prim.Native.Nat.{ℕ, zero, suc, _+_, _*_, _/_, _%_, _<_}
+use Prim.Native.Nat.{ℕ, zero, suc, _+_, _*_, _/_, _%_, _≤_, _<_}
 use native.Mathlib.Omega.{arith}
+use native.Mathlib.Decide.{decLe}
 use native.Mathlib.Nat.{le-of-suc-le-suc, not-suc-le-zero}
 use borrow.Author.Tests.{eqb-true}
 use lib.Dec.{eqb}
@@ -28,20 +29,26 @@ use Rattle.values.proofs.Holdings.{OtherFieldsStay, other-fields-stay}
 use Rattle.lent.specs.Lent.{made, registerFrom, registerAt, rowsFrom, sortAfter, singleAfter, doubleAfter, after, holdingAt, holdingsFrom, field, numbersOf}
 use Rattle.lent.proofs.Made.{written}
 
-made-at : {A : Type 0} (n : ℕ) (f : ℕ → A) (k : ℕ) (other : A) → k < n → getD (made n f) k other ≡ f k
+pub made-at : {A : Type 0} (n : ℕ) (f : ℕ → A) (k : ℕ) (other : A) → k < n → getD (made n f) k other ≡ f k
 unfolding made
 made-at zero f k other h = absurd (not-suc-le-zero h)
 made-at (suc n) f zero other h = refl
 made-at (suc n) f (suc k) other h = made-at n (λ j. f (suc j)) k other (le-of-suc-le-suc h)
 
-made-length : {A : Type 0} (n : ℕ) (f : ℕ → A) → length (made n f) ≡ n
+pub made-length : {A : Type 0} (n : ℕ) (f : ℕ → A) → length (made n f) ≡ n
 unfolding made
 made-length zero f = refl
 made-length (suc n) f = ap suc (made-length n (λ k. f (suc k)))
 
+made-past : {A : Type 0} (n : ℕ) (f : ℕ → A) (k : ℕ) (other : A) → n ≤ k → getD (made n f) k other ≡ other
+unfolding made
+made-past zero f k other h = refl
+made-past (suc n) f zero other h = absurd (not-suc-le-zero h)
+made-past (suc n) f (suc k) other h = made-past n (λ j. f (suc j)) k other (le-of-suc-le-suc h)
+
 module _ (rows : ℕ) (sorts : List ℕ) (singles doubles : List Float) where
   -- entry j of the arrays is entry j of the rows
-  entry-at : (j : ℕ) → j < 8 * rows → entry Empty (rowsFrom rows sorts singles doubles) (j / 8) (j % 8) ≡ registerAt sorts singles doubles j
+  pub entry-at : (j : ℕ) → j < 8 * rows → entry Empty (rowsFrom rows sorts singles doubles) (j / 8) (j % 8) ≡ registerAt sorts singles doubles j
   entry-at j h =
       let row : j / 8 < rows = omega arith in
       let same : 8 * (j / 8) + j % 8 ≡ j = omega arith in
@@ -49,13 +56,21 @@ module _ (rows : ℕ) (sorts : List ℕ) (singles doubles : List Float) where
       ∙ made-at 8 (λ k. registerAt sorts singles doubles (8 * (j / 8) + k)) (j % 8) Empty (omega arith)
       ∙ ap (registerAt sorts singles doubles) same
 
-  as-given : {A : Type 0} (other : A) (write : Register → A → A) (l : List A) → length l ≡ 8 * rows
+  -- past the end stands an empty one, which writes nothing
+  as-given : {A : Type 0} (other : A) (write : Register → A → A) (l : List A) → ((x : A) → write Empty x ≡ x)
       → ((j : ℕ) → write (registerAt sorts singles doubles j) (getD l j other) ≡ getD l j other) → after write (rowsFrom rows sorts singles doubles) l ≡ l
-  as-given other write l e kept =
-      sym (each-equal other (written write (rowsFrom rows sorts singles doubles)) l l refl
-      (λ j h. sym (ap (λ (r : Register). write r (getD l j other)) (entry-at j (rw (sym e) h)) ∙ kept j)))
+  as-given {A} other write l nothing kept =
+      sym (each-equal other (written write (rowsFrom rows sorts singles doubles)) l l refl (λ j h. sym (by-place j (decLe (8 * rows) j))))
+    where
+      by-place : (j : ℕ) → Dec (8 * rows ≤ j) → written write (rowsFrom rows sorts singles doubles) j (getD l j other) ≡ getD l j other
+      by-place j (no d) = ap (λ (r : Register). write r (getD l j other)) (entry-at j (omega arith)) ∙ kept j
+      by-place j (yes p) =
+          let row : rows ≤ j / 8 = omega arith in
+          ap (λ (r : List Register). write (getD r (j % 8) Empty) (getD l j other))
+          (made-past rows (λ r. made 8 (λ k. registerAt sorts singles doubles (8 * r + k))) (j / 8) [] row)
+          ∙ nothing (getD l j other)
 
-  sort-kept : (s : ℕ) (x y : Float) → sortAfter (registerFrom s x y) s ≡ s
+  pub sort-kept : (s : ℕ) (x y : Float) → sortAfter (registerFrom s x y) s ≡ s
   sort-kept s x y = split (eqb s 1) (eqb s 2) refl refl
     where
       split : (a b : Bool) → eqb s 1 ≡ a → eqb s 2 ≡ b → sortAfter (cond a (Single x) (cond b (Double y) Empty)) s ≡ s
@@ -63,27 +78,27 @@ module _ (rows : ℕ) (sorts : List ℕ) (singles doubles : List Float) where
       split false true e f = sym (eqb-true s 2 f)
       split false false e f = refl
 
-  single-kept : (a b : Bool) (x y : Float) → singleAfter (cond a (Single x) (cond b (Double y) Empty)) x ≡ x
+  pub single-kept : (a b : Bool) (x y : Float) → singleAfter (cond a (Single x) (cond b (Double y) Empty)) x ≡ x
   single-kept true b x y = refl
   single-kept false true x y = refl
   single-kept false false x y = refl
 
-  double-kept : (a b : Bool) (x y : Float) → doubleAfter (cond a (Single x) (cond b (Double y) Empty)) y ≡ y
+  pub double-kept : (a b : Bool) (x y : Float) → doubleAfter (cond a (Single x) (cond b (Double y) Empty)) y ≡ y
   double-kept true b x y = refl
   double-kept false true x y = refl
   double-kept false false x y = refl
 
   -- what is refused leaves the caller's arrays as given
   pub record LeftAsGiven : Type 0 where
-    pub of-sorts : length sorts ≡ 8 * rows → after sortAfter (rowsFrom rows sorts singles doubles) sorts ≡ sorts
-    pub of-singles : length singles ≡ 8 * rows → after singleAfter (rowsFrom rows sorts singles doubles) singles ≡ singles
-    pub of-doubles : length doubles ≡ 8 * rows → after doubleAfter (rowsFrom rows sorts singles doubles) doubles ≡ doubles
+    pub of-sorts : after sortAfter (rowsFrom rows sorts singles doubles) sorts ≡ sorts
+    pub of-singles : after singleAfter (rowsFrom rows sorts singles doubles) singles ≡ singles
+    pub of-doubles : after doubleAfter (rowsFrom rows sorts singles doubles) doubles ≡ doubles
 
   pub left-as-given : LeftAsGiven
   left-as-given = record {
-    of-sorts = λ e. as-given 0 sortAfter sorts e (λ j. sort-kept (getD sorts j 0) (getD singles j nan) (getD doubles j nan));
-    of-singles = λ e. as-given nan singleAfter singles e (λ j. single-kept (eqb (getD sorts j 0) 1) (eqb (getD sorts j 0) 2) (getD singles j nan) (getD doubles j nan));
-    of-doubles = λ e. as-given nan doubleAfter doubles e (λ j. double-kept (eqb (getD sorts j 0) 1) (eqb (getD sorts j 0) 2) (getD singles j nan) (getD doubles j nan));
+    of-sorts = as-given 0 sortAfter sorts (λ x. refl) (λ j. sort-kept (getD sorts j 0) (getD singles j nan) (getD doubles j nan));
+    of-singles = as-given nan singleAfter singles (λ x. refl) (λ j. single-kept (eqb (getD sorts j 0) 1) (eqb (getD sorts j 0) 2) (getD singles j nan) (getD doubles j nan));
+    of-doubles = as-given nan doubleAfter doubles (λ x. refl) (λ j. double-kept (eqb (getD sorts j 0) 1) (eqb (getD sorts j 0) 2) (getD singles j nan) (getD doubles j nan));
   }
 
   -- entry j of the three arrays after registers are written back
@@ -145,7 +160,7 @@ field-at numbers lane (suc (suc zero)) h = refl
 field-at numbers lane (suc (suc (suc zero))) h = refl
 field-at numbers lane (suc (suc (suc (suc k)))) h = absurd (omega arith)
 
-number-at : (numbers : List Float) (j : ℕ) → j < 128
+pub number-at : (numbers : List Float) (j : ℕ) → j < 128
     → field (getD (holdingsFrom numbers) (j / 4) (holding nan nan nan nan)) (j % 4) ≡ getD numbers j nan
 number-at numbers j h =
     let same : 4 * (j / 4) + j % 4 ≡ j = omega arith in
@@ -154,7 +169,7 @@ number-at numbers j h =
     ∙ ap (λ (n : ℕ). getD numbers n nan) same
 
 -- number j of holdings that are written back
-abbrev fieldOf : List Holding → ℕ → Float
+abbrev pub fieldOf : List Holding → ℕ → Float
 fieldOf holdings j = field (getD holdings (j / 4) (holding nan nan nan nan)) (j % 4)
 
 -- what is refused leaves the caller's holdings as given

@@ -61,3 +61,15 @@ field h k = cond (eqb k 0) (h .a) (cond (eqb k 1) (h .b) (cond (eqb k 2) (h .fir
 
 abbrev pub numbersOf : List Holding → List Float
 numbersOf holdings = made 128 (λ j. field (getD holdings (j / 4) (holding nan nan nan nan)) (j % 4))
+
+-- the register of a lane that a kind deals to field k of a holding: register 0 to A for kind 6, to B for kind 7, 0 and 1 to the two
+-- accumulators otherwise; to every other field an empty one
+abbrev pub registerFor : ℕ → List Register → ℕ → Register
+registerFor kind registers k =
+    let first : Register = getD registers 0 Empty in
+    cond (eqb kind 6) (cond (eqb k 0) first Empty)
+    (cond (eqb kind 7) (cond (eqb k 1) first Empty) (cond (eqb k 2) first (cond (eqb k 3) (getD registers 1 Empty) Empty)))
+
+-- each number after the lanes' registers are written to the kind's own fields
+abbrev pub numbersAfter : ℕ → List (List Register) → List Float → List Float
+numbersAfter kind lanes = each (λ j. doubleAfter (registerFor kind (getD lanes (j / 4) []) (j % 4)))

@@ -4,8 +4,9 @@ use values::Holding;
 use values::Register;
 ghost use mathlib.Core.Path.{_≡_};
 ghost use Prim.Native.Nat.{_+_, _*_, _<_};
-ghost use lib.ListN.{length};
-ghost use Rattle.lent.specs.Lent.{made, registerAt, rowsFrom, sortAfter, singleAfter, doubleAfter, after, holdingAt, holdingsFrom, field, numbersOf};
+ghost use lib.Ieee.{nan};
+ghost use lib.ListN.{length, getD, set};
+ghost use Rattle.lent.specs.Lent.{made, registerAt, rowsFrom, sortAfter, singleAfter, doubleAfter, after, holdingAt, holdingsFrom, registerFor, numbersAfter};
 
 // The register that an entry of three arrays is.
 fn register_at(sorts: &[u8], singles: &[f32], doubles: &[f64], j: usize) -> Register
@@ -65,40 +66,27 @@ pub fn lanes(sorts: &[u8], singles: &[f32], doubles: &[f64]) -> [[Register; 8]; 
     rows
 }
 
-// The sort of a register, or as given where it is empty.
-fn sort_after(register: Register, given: u8) -> u8
-    ensures { λ r. ⌜ r ≡ sortAfter register given ⌝ }
+// A register written to an entry of three arrays: its sort and what that names, and nothing where it is empty.
+fn put(register: Register, sorts: &mut [u8], singles: &mut [f32], doubles: &mut [f64], j: usize)
+    requires { ⌜ (j < length (now sorts)) × (j < length (now singles)) × (j < length (now doubles)) ⌝ }
+    ensures { λ r. ⌜ now (sorts .exit) ≡ set (now (sorts .entry)) j (sortAfter register (getD (now (sorts .entry)) j 0)) ⌝ }
+    ensures { λ r. ⌜ now (singles .exit) ≡ set (now (singles .entry)) j (singleAfter register (getD (now (singles .entry)) j nan)) ⌝ }
+    ensures { λ r. ⌜ now (doubles .exit) ≡ set (now (doubles .entry)) j (doubleAfter register (getD (now (doubles .entry)) j nan)) ⌝ }
 {
     match register {
-        Register::Empty => given,
-        Register::Single(_) => 1,
-        Register::Double(_) => 2,
+        Register::Empty => {}
+        Register::Single(single) => {
+            sorts[j] = 1;
+            singles[j] = single;
+        }
+        Register::Double(double) => {
+            sorts[j] = 2;
+            doubles[j] = double;
+        }
     }
 }
 
-// The single of a register, or as given where it has none.
-fn single_after(register: Register, given: f32) -> f32
-    ensures { λ r. ⌜ r ≡ singleAfter register given ⌝ }
-{
-    match register {
-        Register::Empty => given,
-        Register::Single(single) => single,
-        Register::Double(_) => given,
-    }
-}
-
-// The double of a register, or as given where it has none.
-fn double_after(register: Register, given: f64) -> f64
-    ensures { λ r. ⌜ r ≡ doubleAfter register given ⌝ }
-{
-    match register {
-        Register::Empty => given,
-        Register::Single(_) => given,
-        Register::Double(double) => double,
-    }
-}
-
-// A tile written back.
+// A tile's registers written, but for the empty ones.
 pub fn put_tile(
     tile: [[Register; 8]; 8],
     sorts: &mut [u8],
@@ -113,14 +101,12 @@ pub fn put_tile(
     let mut j: usize = 0;
     while j < 64 {
         let register = tile[j / 8][j % 8];
-        sorts[j] = sort_after(register, sorts[j]);
-        singles[j] = single_after(register, singles[j]);
-        doubles[j] = double_after(register, doubles[j]);
+        put(register, sorts, singles, doubles, j);
         j += 1;
     }
 }
 
-// The lanes written back.
+// The lanes' registers written, but for the empty ones.
 pub fn put_lanes(
     lanes: [[Register; 8]; 32],
     sorts: &mut [u8],
@@ -135,9 +121,7 @@ pub fn put_lanes(
     let mut j: usize = 0;
     while j < 256 {
         let register = lanes[j / 8][j % 8];
-        sorts[j] = sort_after(register, sorts[j]);
-        singles[j] = single_after(register, singles[j]);
-        doubles[j] = double_after(register, doubles[j]);
+        put(register, sorts, singles, doubles, j);
         j += 1;
     }
 }
@@ -175,31 +159,54 @@ pub fn holdings(numbers: &[f64]) -> [Holding; 32]
     lanes
 }
 
-// A field of a holding: A, B, the first accumulator, the second.
-fn field(holding: Holding, k: usize) -> f64
-    ensures { λ r. ⌜ r ≡ field holding k ⌝ }
+// The register of a lane that is dealt to a field of its holding: empty where the kind does not deal to it.
+fn register_for(kind: u64, registers: [Register; 8], k: usize) -> Register
+    ensures { λ r. ⌜ r ≡ registerFor kind registers k ⌝ }
 {
-    if k == 0 {
-        return holding.a;
+    if kind == 6 {
+        if k == 0 {
+            return registers[0];
+        }
+        return Register::Empty;
     }
-    if k == 1 {
-        return holding.b;
+    if kind == 7 {
+        if k == 1 {
+            return registers[0];
+        }
+        return Register::Empty;
     }
     if k == 2 {
-        return holding.first;
+        return registers[0];
     }
-    holding.second
+    if k == 3 {
+        return registers[1];
+    }
+    Register::Empty
 }
 
-// The holdings written back.
-pub fn put_holdings(holdings: [Holding; 32], numbers: &mut [f64])
+// A double written to a number, and nothing where the register has none.
+fn put_double(register: Register, numbers: &mut [f64], j: usize)
+    requires { ⌜ j < length (now numbers) ⌝ }
+    ensures { λ r. ⌜ now (numbers .exit) ≡ set (now (numbers .entry)) j (doubleAfter register (getD (now (numbers .entry)) j nan)) ⌝ }
+{
+    match register {
+        Register::Empty => {}
+        Register::Single(_) => {}
+        Register::Double(double) => {
+            numbers[j] = double;
+        }
+    }
+}
+
+// The lanes' registers of an .f64 kind written to the fields of the holdings that are the kind's own.
+pub fn put_holdings(kind: u64, lanes: [[Register; 8]; 32], numbers: &mut [f64])
     requires { ⌜ length (now numbers) ≡ 128 ⌝ }
-    ensures { λ r. ⌜ now (numbers .exit) ≡ numbersOf holdings ⌝ }
+    ensures { λ r. ⌜ now (numbers .exit) ≡ numbersAfter kind lanes (now (numbers .entry)) ⌝ }
 {
     let mut j: usize = 0;
     while j < 128 {
-        let holding = holdings[j / 4];
-        numbers[j] = field(holding, j % 4);
+        let registers = lanes[j / 4];
+        put_double(register_for(kind, registers, j % 4), numbers, j);
         j += 1;
     }
 }

@@ -1,5 +1,7 @@
 // Every question for C: numbers in arrays, an answer as four numbers, lent memory as a pointer and a length. include/urszovely.h
 // declares them.
+use values::Moved;
+use values::Register;
 ghost use mathlib.Core.Path.{_≡_};
 ghost use lib.ListN.{length};
 ghost use Rattle.swizzle.specs.Swizzle.{swizzleAnswer, swizzleNumbers};
@@ -75,7 +77,8 @@ pub extern "C" fn urszovely_holder(
     *answer = c_card::four(numbers);
 }
 
-// A computation's matrix dealt to its lanes.
+// A computation's matrix dealt to its lanes. Where refused no lent memory is touched; dealt to empty lanes, all registers but the
+// computation's own stay empty, and an empty one is not stored.
 #[no_mangle]
 pub extern "C" fn urszovely_deal(
     kind: u64,
@@ -92,12 +95,15 @@ pub extern "C" fn urszovely_deal(
     ensures { λ r. ⌜ Written (dealtLanes kind computation (rowsFrom 8 (now («tile_sorts» .entry)) (now («tile_singles» .entry)) (now («tile_doubles» .entry))) (rowsFrom 32 (now (sorts .entry)) (now (singles .entry)) (now (doubles .entry)))) (now (sorts .entry)) (now (singles .entry)) (now (doubles .entry)) (now (sorts .exit)) (now (singles .exit)) (now (doubles .exit)) ⌝ }
 {
     let tile = lent::tile(tile_sorts, tile_singles, tile_doubles);
-    let lanes = lent::lanes(sorts, singles, doubles);
-    let dealt = dealing::deal(kind, computation, tile, lanes);
-    lent::put_lanes(dealt, sorts, singles, doubles);
     let told = dealing::judge_dealing(kind, computation, tile);
     let numbers = dealing::moved_numbers(told);
     *answer = c_card::four(numbers);
+    let Moved::Done = told else {
+        return;
+    };
+    let none = [[Register::Empty; 8]; 32];
+    let dealt = moves::dealt_lanes(kind, computation, tile, none);
+    lent::put_lanes(dealt, sorts, singles, doubles);
 }
 
 // And collected from them.
@@ -117,12 +123,15 @@ pub extern "C" fn urszovely_collect(
     ensures { λ r. ⌜ Written (collectedTile kind computation (rowsFrom 32 (now («lane_sorts» .entry)) (now («lane_singles» .entry)) (now («lane_doubles» .entry))) (rowsFrom 8 (now (sorts .entry)) (now (singles .entry)) (now (doubles .entry)))) (now (sorts .entry)) (now (singles .entry)) (now (doubles .entry)) (now (sorts .exit)) (now (singles .exit)) (now (doubles .exit)) ⌝ }
 {
     let lanes = lent::lanes(lane_sorts, lane_singles, lane_doubles);
-    let tile = lent::tile(sorts, singles, doubles);
-    let collected = dealing::collect(kind, computation, lanes, tile);
-    lent::put_tile(collected, sorts, singles, doubles);
     let told = dealing::judge_collecting(kind, computation, lanes);
     let numbers = dealing::moved_numbers(told);
     *answer = c_card::four(numbers);
+    let Moved::Done = told else {
+        return;
+    };
+    let none = [[Register::Empty; 8]; 8];
+    let collected = moves::collected_tile(kind, computation, lanes, none);
+    lent::put_tile(collected, sorts, singles, doubles);
 }
 
 // A matrix of an .f64 kind dealt to the lanes' holdings.
@@ -139,13 +148,18 @@ pub extern "C" fn urszovely_deal_f64(
     ensures { λ r. ⌜ now (answer .exit) ≡ four (movedNumbers (dealHoldingsAnswer kind computation (rowsFrom 8 (now («tile_sorts» .entry)) (now («tile_singles» .entry)) (now («tile_doubles» .entry))))) ⌝ }
     ensures { λ r. ⌜ now (holdings .exit) ≡ numbersOf (dealtHoldings kind computation (rowsFrom 8 (now («tile_sorts» .entry)) (now («tile_singles» .entry)) (now («tile_doubles» .entry))) (holdingsFrom (now (holdings .entry)))) ⌝ }
 {
+    // as a slice, whose length the proof knows where refused too
+    let fields: &mut [f64] = holdings;
     let tile = lent::tile(tile_sorts, tile_singles, tile_doubles);
-    let held = lent::holdings(holdings);
-    let dealt = holdings::deal(kind, computation, tile, held);
-    lent::put_holdings(dealt, holdings);
     let told = holdings::judge_dealing(kind, computation, tile);
     let numbers = dealing::moved_numbers(told);
     *answer = c_card::four(numbers);
+    let Moved::Done = told else {
+        return;
+    };
+    let none = [[Register::Empty; 8]; 32];
+    let dealt = moves::dealt_lanes(kind, computation, tile, none);
+    lent::put_holdings(kind, dealt, fields);
 }
 
 // And collected from them.
@@ -162,13 +176,16 @@ pub extern "C" fn urszovely_collect_f64(
     ensures { λ r. ⌜ now (answer .exit) ≡ four (movedNumbers (collectHoldingsAnswer kind computation)) ⌝ }
     ensures { λ r. ⌜ Written (collectedFromHoldings kind computation (holdingsFrom (now (holdings .entry))) (rowsFrom 8 (now (sorts .entry)) (now (singles .entry)) (now (doubles .entry)))) (now (sorts .entry)) (now (singles .entry)) (now (doubles .entry)) (now (sorts .exit)) (now (singles .exit)) (now (doubles .exit)) ⌝ }
 {
-    let held = lent::holdings(holdings);
-    let tile = lent::tile(sorts, singles, doubles);
-    let collected = holdings::collect(kind, computation, held, tile);
-    lent::put_tile(collected, sorts, singles, doubles);
     let told = holdings::judge_collecting(kind, computation);
     let numbers = dealing::moved_numbers(told);
     *answer = c_card::four(numbers);
+    let Moved::Done = told else {
+        return;
+    };
+    let held = lent::holdings(holdings);
+    let none = [[Register::Empty; 8]; 8];
+    let collected = holdings::collect(kind, computation, held, none);
+    lent::put_tile(collected, sorts, singles, doubles);
 }
 
 // The fields of a descriptor, read.

@@ -1,51 +1,48 @@
--- `lent::put_holdings` writes the fields back one after the other: each by what `field` gives.
-use mathlib.Core.Path.{_≡_, _∙_}
-use mathlib.Core.List.{List}
+-- `lent::put_holdings` writes the numbers one after the other: each by what `put_double` makes of it with the register that `register_for` gives.
+use mathlib.Core.Path.{ap, _∙_}
+use mathlib.Core.List.{List, []}
 use Prim.Native.Nat.{ℕ, _-_, _/_, _%_}
 use native.Mathlib.Omega.{arith}
 use borrow.Author.Needs.{needs}
 use lib.Ieee.{Float, nan}
-use lib.ListN.{length, getD}
-use Rattle.laws.proofs.Lists.{length-of}
-use Rattle.values.specs.declared.Holding.{Holding}
-use Rattle.values.specs.Holdings.{holding}
-use Rattle.values.proofs.Rows.{Anew, anew-none, anew-next, anew-all}
-use Rattle.lent.specs.Lent.{field}
-use Rattle.lent.proofs.Made.{made-anew}
+use lib.ListN.{getD, set}
+use Rattle.values.specs.declared.Register.{Register}
+use Rattle.values.proofs.Rows.{Anew, anew-none, anew-all}
+use Rattle.lent.specs.Lent.{doubleAfter, registerFor}
+use Rattle.lent.proofs.Made.{anew-turn}
 use Rattle.lent.proofs.put_holdings.Statement.{statement}
 use Rattle.lent.proofs.put_holdings.Tie as tie
 
-abbrev field-at : List Holding → ℕ → Float
-field-at holdings j = field (getD holdings (j / 4) (holding nan nan nan nan)) (j % 4)
+abbrev number : ℕ → List (List Register) → ℕ → Float → Float
+number kind lanes j = doubleAfter (registerFor kind (getD lanes (j / 4) []) (j % 4))
 
 abbrev Inv-loop : tie.InvT-loop
-Inv-loop numbers₀ holdings j₀ numbers j = (length holdings ≡ 32) × Anew 128 (λ k given. field-at holdings k) numbers₀ numbers j
+Inv-loop kind numbers₀ lanes j₀ numbers j = Anew 128 (number kind lanes) numbers₀ numbers j
 
 abbrev μ-loop : tie.MeasureT-loop
-μ-loop numbers₀ holdings j₀ numbers j = 128 - j
+μ-loop kind numbers₀ lanes j₀ numbers j = 128 - j
 
 loop-holds : tie.Need-loop-holds Inv-loop μ-loop
-loop-holds c =
-    let a = c .before .args in (search (needs, length-of), anew-none nan 128 (λ k given. field-at (a .t1) k) (a .numbers .now) (c .before .pre))
+loop-holds c = let a = c .before .args in anew-none nan 128 (number (a .kind) (a .t2)) (a .numbers .now) (c .before .pre)
 
 loop-again : tie.Need-loop-again Inv-loop μ-loop
 loop-again c =
-    let a = c .before .before .before .before .before .args in
-    let l = c .before .before .before .loop in (
-      l .inv .0,
-      anew-next nan 128 (λ k given. field-at (a .t1) k) (a .numbers .now) (l .numbers) (l .j) (c .field .result) (l .inv .1) (c .before .before .loop-test .taken)
-          (c .field .ensures),
-    )
+    let p = c .before .before in
+    let f = p .before .before in
+    let t = f .before .before in
+    let l = t .before .loop in
+    let a = t .before .before .before .args in
+    anew-turn nan 128 (number (a .kind) (a .t2)) (a .numbers .now) (l .numbers) _ (l .j) (l .inv) (t .loop-test .taken)
+    (p .put-double .ensures ∙ ap (λ (r : Register). set (l .numbers) (l .j) (doubleAfter r (getD (l .numbers) (l .j) nan))) (f .register-for .ensures))
 
 returns : tie.Need-returns Inv-loop μ-loop
 returns c =
     let a = c .before .before .before .args in
     let l = c .before .loop in
-    anew-all nan 128 (λ k given. field-at (a .t1) k) (a .numbers .now) (l .numbers) (l .j) (l .inv .1) (c .loop-test .left)
-    ∙ made-anew (field-at (a .t1)) (a .numbers .now) 128 (c .before .before .before .pre)
+    anew-all nan 128 (number (a .kind) (a .t2)) (a .numbers .now) (l .numbers) (l .j) (l .inv) (c .loop-test .left)
 
 pub put-holdings-spec : {M : Type 1} → statement M
 put-holdings-spec =
     tie.close
-    (tie.spec Inv-loop μ-loop loop-holds (λ c. omega arith) (λ c. omega arith) (λ c κs. search needs) (λ c. omega arith) (λ c. omega arith) (λ c. omega arith)
-    (λ c. omega arith) loop-again (λ c. omega arith) returns)
+    (tie.spec Inv-loop μ-loop loop-holds (λ c. omega arith) (λ c. omega arith) (λ c κs. search needs) (λ c κs. search needs)
+    (λ c. omega arith) (λ c. omega arith) loop-again (λ c. omega arith) returns)

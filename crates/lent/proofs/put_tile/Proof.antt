@@ -1,14 +1,11 @@
--- `lent::put_tile` writes the entries back one after the other: each by what its register leaves of the three that are given.
-use mathlib.Core.Path.{ap, _∙_}
-use Prim.Native.Nat.{_-_, _/_, _%_}
+-- `lent::put_tile` writes the registers one after the other: each of its entries' three by what `put` makes of them.
+use Prim.Native.Nat.{_-_}
 use native.Mathlib.Omega.{arith}
 use borrow.Author.Needs.{needs}
 use lib.Ieee.{nan}
-use Rattle.values.specs.declared.Register.the-variants.{Empty}
-use Rattle.values.specs.Rows.{entry}
-use Rattle.values.proofs.Rows.{Anew, anew-none, anew-next, anew-here, anew-all}
+use Rattle.values.proofs.Rows.{Anew, anew-none, anew-all}
 use Rattle.lent.specs.Lent.{sortAfter, singleAfter, doubleAfter}
-use Rattle.lent.proofs.Made.{written}
+use Rattle.lent.proofs.Made.{written, anew-turn}
 use Rattle.lent.proofs.put_tile.Statement.{statement}
 use Rattle.lent.proofs.put_tile.Tie as tie
 
@@ -30,18 +27,16 @@ loop-holds c =
 
 loop-again : tie.Need-loop-again Inv-loop μ-loop
 loop-again c =
-    let r = c .before .before .before .before .before .before in
-    let a = r .before .before .before .before .before .before .args in
-    let l = r .before .before .loop in
-    let h = r .before .loop-test .taken in
-    let i = l .inv in
-    let x = entry Empty (a .t1) (l .j / 8) (l .j % 8) in (
-      anew-next 0 64 (written sortAfter (a .t1)) (a .sorts .now) (l .sorts) (l .j) (c .before .before .before .before .sort-after .result) (i .0) h
-          (c .before .before .before .before .sort-after .ensures ∙ ap (sortAfter x) (anew-here 0 64 (written sortAfter (a .t1)) (a .sorts .now) (l .sorts) (l .j) (i .0) h)),
-      anew-next nan 64 (written singleAfter (a .t1)) (a .singles .now) (l .singles) (l .j) (c .before .before .single-after .result) (i .1) h
-          (c .before .before .single-after .ensures ∙ ap (singleAfter x) (anew-here nan 64 (written singleAfter (a .t1)) (a .singles .now) (l .singles) (l .j) (i .1) h)),
-      anew-next nan 64 (written doubleAfter (a .t1)) (a .doubles .now) (l .doubles) (l .j) (c .double-after .result) (i .2) h
-          (c .double-after .ensures ∙ ap (doubleAfter x) (anew-here nan 64 (written doubleAfter (a .t1)) (a .doubles .now) (l .doubles) (l .j) (i .2) h)),
+    let p = c .before .before .before .before .before .before in
+    let t = p .before .before .before .before .before in
+    let l = t .before .loop in
+    let a = t .before .before .before .before .before .args in
+    let h = t .loop-test .taken in
+    let e = p .put .ensures in
+    let i = l .inv in (
+      anew-turn 0 64 (written sortAfter (a .t1)) (a .sorts .now) (l .sorts) _ (l .j) (i .0) h (e .0),
+      anew-turn nan 64 (written singleAfter (a .t1)) (a .singles .now) (l .singles) _ (l .j) (i .1) h (e .1 .0),
+      anew-turn nan 64 (written doubleAfter (a .t1)) (a .doubles .now) (l .doubles) _ (l .j) (i .2) h (e .1 .1),
     )
 
 returns : tie.Need-returns Inv-loop μ-loop
@@ -60,7 +55,5 @@ returns c =
 pub put-tile-spec : {M : Type 1} → statement M
 put-tile-spec =
     tie.close
-    (tie.spec Inv-loop μ-loop loop-holds (λ c. omega arith) (λ c. omega arith) (λ c. omega arith) (λ c. omega arith) (λ c. omega arith) (λ c κs. search needs)
-    (λ c. omega arith) (λ c. omega arith) (λ c. omega arith) (λ c κs. search needs) (λ c. omega arith) (λ c. omega arith) (λ c. omega arith)
-    (λ c. omega arith) (λ c κs. search needs) (λ c. omega arith) (λ c. omega arith) (λ c. omega arith) (λ c. omega arith) loop-again (λ c. omega arith)
-    (λ c. omega arith) (λ c. omega arith) returns)
+    (tie.spec Inv-loop μ-loop loop-holds (λ c. omega arith) (λ c. omega arith) (λ c. omega arith) (λ c. omega arith) (λ c κs. search needs)
+    (λ c. omega arith) (λ c. omega arith) loop-again (λ c. omega arith) (λ c. omega arith) (λ c. omega arith) returns)

@@ -1,27 +1,54 @@
--- `urszovely::urszovely_deal_f64` answers what the library's question answers, over the values that the arrays hold.
-use mathlib.Core.Path.{ap, ap₂, _∙_}
+-- `urszovely::urszovely_deal_f64` answers what the library's question answers, over the values that the arrays hold; refused it stores nothing.
+use mathlib.Core.Path.{sym, ap, _∙_}
+use mathlib.Core.List.{List}
+use native.Mathlib.Omega.{arith}
 use borrow.Author.Needs.{needs}
+use Rattle.values.specs.declared.Register.{Register}
+use Rattle.values.specs.declared.Register.the-variants.{Empty}
+use Rattle.values.specs.Values.{dealt}
 use Rattle.values.specs.Registers.{movedNumbers}
-use Rattle.values.specs.Holdings.{dealHoldingsAnswer, dealtHoldings}
-use Rattle.lent.specs.Lent.{numbersOf}
+use Rattle.values.specs.Holdings.{dealHoldingsAnswer}
+use Rattle.lent.specs.Lent.{rowsFrom, numbersAfter}
+use Rattle.lent.proofs.Given.{holdings-left-as-given}
+use Rattle.lent.proofs.Empties.{empties, dealt-to-own-fields}
 use Rattle.c_card.specs.Card.{four}
 use Rattle.urszovely.proofs.urszovely_deal_f64.Statement.{statement}
 use Rattle.urszovely.proofs.urszovely_deal_f64.Tie as tie
 
 returns : tie.Need-returns
 returns c =
-    let m = c .before in
+    let f = c .before .before in
+    let m = f .before in
     let j = m .before in
-    let p = j .before in
-    let d = p .before .before in
-    let h = d .before in
-    let t = h .before .before .before in
-    let a = t .before .before .before .before .args in (
-      c .four .ensures ∙ ap four (m .moved-numbers .ensures ∙ ap movedNumbers (j .judge-dealing .ensures ∙ ap (dealHoldingsAnswer (a .kind) (a .computation)) (t .tile .ensures))),
-      p .put-holdings .ensures ∙ ap numbersOf (d .deal .ensures ∙ ap₂ (dealtHoldings (a .kind) (a .computation)) (t .tile .ensures) (h .holdings .ensures)),
+    let t = j .before in
+    let l = t .before .before .before .before in
+    let a = l .before .args in
+    let told = j .judge-dealing .ensures ∙ ap (dealHoldingsAnswer (a .kind) (a .computation)) (t .tile .ensures) in (
+      f .four .ensures ∙ ap four (m .moved-numbers .ensures ∙ ap movedNumbers told),
+      rw (sym told ∙ c .enum-told2 .given .1) (sym (holdings-left-as-given (a .holdings .now) (omega (arith, l .fields .given)))),
+    )
+
+returns-2 : tie.Need-returns-2
+returns-2 c =
+    let d = c .before in
+    let e = d .before in
+    let f = e .before .before in
+    let m = f .before in
+    let j = m .before in
+    let t = j .before in
+    let l = t .before .before .before .before in
+    let a = l .before .args in
+    let tile : List (List Register) = rowsFrom 8 (a .tile-sorts .now) (a .tile-singles .now) (a .tile-doubles .now) in
+    let told = j .judge-dealing .ensures ∙ ap (dealHoldingsAnswer (a .kind) (a .computation)) (t .tile .ensures) in (
+      f .four .ensures ∙ ap four (m .moved-numbers .ensures ∙ ap movedNumbers told),
+      c .put-holdings .ensures
+          ∙ ap (λ (l : List (List Register)). numbersAfter (a .kind) l (a .holdings .now))
+          (d .dealt-lanes .ensures ∙ ap (λ (l : List (List Register)). dealt Empty (a .kind) (a .computation) l (empties 32)) (t .tile .ensures))
+          ∙ dealt-to-own-fields (a .kind) (a .computation) tile (a .holdings .now) (omega (arith, l .fields .given)) (sym told ∙ e .enum-told .given .1),
     )
 
 pub urszovely-deal-f64-spec : {M : Type 1} → statement M
 urszovely-deal-f64-spec =
     tie.close
-    (tie.spec (λ c κs. search needs) (λ c κs. search needs) (λ c κs. search needs) (λ c κs. search needs) (λ c κs. search needs) (λ c κs. search needs) (λ c κs. search needs) returns)
+    (tie.spec (λ c κs. search needs) (λ c κs. search needs) (λ c κs. search needs) (λ c κs. search needs) (λ c. search needs) (λ c. search needs) returns
+    (λ c κs. search needs) (λ c κs. search needs) returns-2)
