@@ -2,8 +2,9 @@
  *
  * Every question takes any numbers and answers four: answer[0] is 0 or the number of a refusal, answer[1] to answer[3] are its
  * details, 0 unless said. Pointers are valid, not NULL and do not overlap; nothing else is asked of a caller. A refusal touches
- * nothing that was lent, with three exceptions: 7 and 8 of verdict and owner leave the first `cells` entries of the table 0, 15 of
- * urszovely_fields leaves the twelve fields 0, and 18 of urszovely_read the card's first 46 numbers and its marks 0.
+ * nothing that was lent, but that 7 and 8 of verdict, owner and canonical leave the first `cells` entries of the table 0, and that a record
+ * is filled with zeros: the fields of urszovely_fields, the card's first 46 numbers and the marks of urszovely_read, the encodings of
+ * urszovely_canonical, the card of urszovely_canonical_card.
  *
  * Limits: extents, lengths, elements and cells 1 to 65,536, copies at most 64, strides and offsets -65,536 to 65,535.
  *
@@ -41,8 +42,14 @@ enum urszovely_refusal {
     URSZOVELY_RESERVED = 15,   /* reserved descriptor bits set */
     URSZOVELY_SHIFT = 16,      /* mask shift above its limit: the limit */
     URSZOVELY_IDLE = 17,       /* two replica combinations give the same sum on every axis: a, b */
-    URSZOVELY_NOTATION = 18    /* a text that is not correct: the bytes of its longest beginning that some correct text also has */
+    URSZOVELY_NOTATION = 18,   /* a text that is not correct: the bytes of its longest beginning that some correct text also has */
+    URSZOVELY_CANONICAL = 22   /* major-ness, m, k or a byte stride of a canonical layout not allowed */
 };
+
+/* Major-ness and mode. A mode is not the layout type of a shared-memory descriptor, which counts the other way: there 1 is 128B, 2 is 64B
+ * and 3 is 32B. */
+enum { URSZOVELY_K_MAJOR = 0, URSZOVELY_MN_MAJOR = 1 };
+enum { URSZOVELY_NO_SWIZZLE = 0, URSZOVELY_32B = 1, URSZOVELY_64B = 2, URSZOVELY_128B = 3 };
 
 /* The swizzle M, B, S of an address: 0 with the new address, or 6. */
 void urszovely_swizzle(uint64_t m, uint64_t b, uint64_t s, uint64_t address, uint64_t answer[4]);
@@ -112,6 +119,15 @@ void urszovely_read(const uint8_t *text, size_t length, uint64_t card[57], uint6
  * the length needed. No text is longer than 473 bytes. */
 void urszovely_write(const uint64_t card[57], uint64_t marks, uint8_t *text, size_t length, uint64_t answer[4]);
 
+/* The verdict on a canonical shared-memory layout, on axis m alone, of that length: major-ness, mode, element bits, m and k, 1 to 8 each, LBO
+ * and SBO in bytes, multiples of 16 below 262,144. Where K-major is swizzled, LBO is not used and not looked at. 0 with elements, occupied
+ * cells, cells, the table filled as by the verdict, and in encodings LBO and SBO divided by 16, 1 for an LBO that is not used; or 6 for bits or
+ * mode, 22, 2, 4, 5, 11 with the cells, 7 and 8, which leave the first length_of_m entries of the table 0, and in encodings 0 twice. */
+void urszovely_canonical(uint64_t major, uint64_t mode, uint64_t bits, uint64_t m, uint64_t k, uint64_t lbo, uint64_t sbo, uint64_t length_of_m, uint32_t *table, size_t length, uint64_t encodings[2], uint64_t answer[4]);
+
+/* The card that it judges, to be asked about with marks 0: 0, or 6, 22 with a card of zeros. */
+void urszovely_canonical_card(uint64_t major, uint64_t mode, uint64_t bits, uint64_t m, uint64_t k, uint64_t lbo, uint64_t sbo, uint64_t length_of_m, uint64_t card[57], uint64_t answer[4]);
+
 /* A refusal's number in words. */
 static inline const char *urszovely_refusal_text(uint64_t number)
 {
@@ -135,6 +151,7 @@ static inline const char *urszovely_refusal_text(uint64_t number)
     case 16: return "mask shift above its limit";
     case 17: return "two replica combinations give the same sum on every axis";
     case 18: return "a text that is not correct in the layout notation";
+    case 22: return "major-ness, m, k or a byte stride of a canonical layout not allowed";
     default: return "no refusal";
     }
 }

@@ -264,6 +264,44 @@ static int write_text(void)
     return 1;
 }
 
+/* whether the card of a canonical layout, judged as a card, comes to the same; where there is none, it is zeros */
+static int same_as_card(const uint64_t *n, const uint64_t *said, uint64_t sum, uint64_t length)
+{
+    uint64_t any = 0;
+    int i;
+    urszovely_canonical_card(n[0], n[1], n[2], n[3], n[4], n[5], n[6], n[7], card, answer);
+    if (answer[0]) {
+        for (i = 0; i < CARD; i++) any |= card[i];
+        if (any) return 0;
+    } else {
+        lend(length);
+        urszovely_verdict(card, 0, table, (size_t)length, answer);
+        if (digest(table, length) != sum) return 0;
+    }
+    for (i = 0; i < 4; i++)
+        if (answer[i] != said[i]) return 0;
+    return 1;
+}
+
+static int canonical(void)
+{
+    uint64_t length = count ? numbers[count - 1] : 0, encodings[2], said[4], sum;
+    const uint64_t *n = numbers;
+    int i;
+    if (!fits(9, 0) || length > MOST_TABLE) return 0;
+    lend(length);
+    urszovely_canonical(n[0], n[1], n[2], n[3], n[4], n[5], n[6], n[7], table, (size_t)length, encodings, answer);
+    sum = digest(table, length);
+    put_answer();
+    put_text(" |");
+    put_value(encodings[0]);
+    put_value(encodings[1]);
+    put_value(sum);
+    for (i = 0; i < 4; i++) said[i] = answer[i];
+    if (!same_as_card(n, said, sum, length)) put_text(" a card with another answer");
+    return 1;
+}
+
 static int mask(void)
 {
     uint64_t length, i;
@@ -431,6 +469,7 @@ static int ask(void)
     if (is("verdict") || is("owner") || is("place") || is("stretch")) return layout();
     if (is("deal") || is("collect") || is("deal-f64") || is("collect-f64")) return values();
     if (is("write")) return write_text();
+    if (is("canonical")) return canonical();
     if (is("mask")) return mask();
     if (is("fields")) return fields();
     if (is("descriptor")) return descriptor();

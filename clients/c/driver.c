@@ -268,6 +268,33 @@ static void guarded_write(const uint64_t *card, uint64_t marks, uint8_t *text, s
     settle(ANSWER, sides, answer, 32);
 }
 
+static void guarded_canonical(uint64_t major, uint64_t mode, uint64_t bits, uint64_t m, uint64_t k, uint64_t lbo, uint64_t sbo, uint64_t length_of_m,
+                              uint32_t *table, size_t length, uint64_t *encodings, uint64_t *answer)
+{
+    int side, sides = 2;
+    for (side = 0; side < sides; side++) {
+        urszovely_canonical(major, mode, bits, m, k, lbo, sbo, length_of_m, lent(LENT, side, table, 4 * length), length,
+                            lent(LENT_DOUBLES, side, unlike(side, encodings, 16), 16), blank(side));
+        if (!side) sides = may_write(LENT, 4 * length, 0, told()[0] && told()[0] != 7 && told()[0] != 8 ? 0 : 4 * length_of_m);
+        may_write(LENT_DOUBLES, 16, 0, 16);
+    }
+    settle(LENT, sides, table, 4 * length);
+    settle(LENT_DOUBLES, sides, encodings, 16);
+    settle(ANSWER, sides, answer, 32);
+}
+
+static void guarded_canonical_card(uint64_t major, uint64_t mode, uint64_t bits, uint64_t m, uint64_t k, uint64_t lbo, uint64_t sbo, uint64_t length_of_m,
+                                   uint64_t *card, uint64_t *answer)
+{
+    int side;
+    for (side = 0; side < 2; side++) {
+        urszovely_canonical_card(major, mode, bits, m, k, lbo, sbo, length_of_m, lent(LENT, side, unlike(side, card, 57 * 8), 57 * 8), blank(side));
+        may_write(LENT, 57 * 8, 0, 57 * 8);
+    }
+    settle(LENT, 2, card, 57 * 8);
+    settle(ANSWER, 2, answer, 32);
+}
+
 /* Registers: sorts, singles, doubles in three slots from one on, so many; on every second side an empty register's sort is 3 or 255, which
  * is wrong as 0 is and stays where it is not written. */
 enum { MOST_REGISTERS = 256 };
@@ -406,6 +433,8 @@ static void guarded_collect_f64(uint64_t kind, uint64_t computation, const doubl
 #define urszovely_stretch guarded_stretch
 #define urszovely_read guarded_read
 #define urszovely_write guarded_write
+#define urszovely_canonical guarded_canonical
+#define urszovely_canonical_card guarded_canonical_card
 #define urszovely_deal guarded_deal
 #define urszovely_collect guarded_collect
 #define urszovely_deal_f64 guarded_deal_f64

@@ -13,6 +13,7 @@ const BLOCKS: &[&[u8]] = &[
     include_bytes!("../loads/blocks/06-ask-11.txt"),
     include_bytes!("../loads/blocks/07-ask-12.txt"),
     include_bytes!("../loads/blocks/09-ask-05.txt"),
+    include_bytes!("../loads/blocks/10-ask-07.txt"),
 ];
 
 /// The lines of full size: 16,384 elements and more, up to 64 copies, tables
@@ -23,6 +24,7 @@ const LARGE: &[&[u8]] = &[
     include_bytes!("../loads/large/03-ask-08.txt"),
     include_bytes!("../loads/large/05-ask-04.txt"),
     include_bytes!("../loads/large/06-ask-11.txt"),
+    include_bytes!("../loads/large/10-ask-07.txt"),
 ];
 
 /// The lines about values, which only the client answers.
@@ -67,6 +69,7 @@ mod tests {
         0x9f29_6235_3480_a824,
         0xd8f4_b337_a3c3_10c9,
         0x03fa_d2d2_c916_7032,
+        0x01d1_caef_4ade_f105,
     ];
     const LARGE_CHECKS: &[u64] = &[
         0xa6f5_5d97_af13_b392,
@@ -74,6 +77,7 @@ mod tests {
         0x0ff1_3733_25d6_4632,
         0x5b14_d33b_47c5_2648,
         0x299b_0b55_97ab_889d,
+        0x939c_00f5_3fc5_1a14,
     ];
     const JUDGE_CHECKS: &[u64] = &[0x8cbc_3dca_17c8_f36c];
     const VALUES_CHECKS: &[u64] = &[0x57eb_6585_6908_3b30];
@@ -185,6 +189,10 @@ mod tests {
             "0 65536 1 16384",
             "0 32767 0 0",
             "8 0 32764 8191",
+            "5 0 0 0",
+            "7 12799 7 0",
+            "8 8 15879 3968",
+            "11 16385 0 0",
         ];
         for text in wanted {
             assert!(said.iter().any(|said| said == text), "{text}");

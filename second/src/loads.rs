@@ -2,6 +2,7 @@
 //! and lines over whole ranges. The lines that are kept are in `frozen`.
 
 mod asked;
+mod canonical;
 pub mod cards;
 mod copies;
 pub mod every;
@@ -64,6 +65,8 @@ const MAKERS: &[Maker] = &[
     ("bank", small::bank),
     ("write", texts::write),
     ("write*", texts::starred_write),
+    ("canonical", canonical::canonical),
+    ("canonical", canonical::canonical),
 ];
 
 /// Questions about values, which only the client answers.
@@ -80,6 +83,7 @@ const LARGE: &[Maker] = &[
     ("owner", full::owner),
     ("verdict*", full::starred_verdict),
     ("owner*", full::starred_owner),
+    ("canonical", canonical::full),
 ];
 
 fn question(random: &mut Random, makers: &[Maker]) -> Question<'static> {

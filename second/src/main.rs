@@ -3,6 +3,7 @@
 //! and makes the loads on which the programs are compared.
 
 mod bank;
+mod canonical;
 mod fragment;
 mod frozen;
 mod judge;

@@ -163,7 +163,7 @@ fn printed(result: Result<[u64; 3], Refusal>, digested: &[u64]) -> Answer {
 }
 
 /// A lent table of the last number's length; none beyond what may be lent.
-fn lent_table(numbers: &[u64], most: u64) -> Option<Vec<u64>> {
+pub fn lent_table(numbers: &[u64], most: u64) -> Option<Vec<u64>> {
     let length = *numbers.last()?;
     (length <= most).then(|| lent_entries(length))
 }

@@ -2,6 +2,7 @@
 //! program answers them.
 
 use crate::bank;
+use crate::canonical;
 use crate::fragment;
 use crate::layout::{self, Marks, NO_MARKS};
 use crate::lines::{plain, Answer, Number};
@@ -131,6 +132,11 @@ pub const WORDS: &[Word] = &[
             notation::answer_write(marks, numbers)
         },
     },
+    Word {
+        name: "canonical",
+        count: 9,
+        answer: |numbers, most| canonical::answer_canonical(&plain(numbers)?, most),
+    },
 ];
 
 /// A word after which a text comes in the place of numbers: all that follows
@@ -205,6 +211,7 @@ pub const NUMBERS: &[(&str, &[u64])] = &[
     ("bank", &[0, 6, 10]),
     ("write", &[0, 1, 2, 3, 11]),
     ("write*", &[0, 1, 2, 3, 11]),
+    ("canonical", &[0, 2, 4, 5, 6, 7, 8, 11, 22]),
     ("read", &[0, 18]),
 ];
 

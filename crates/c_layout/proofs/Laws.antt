@@ -8,7 +8,7 @@ use lib.ListN.{length, getD, set, take, drop, length-append, drop-of-length-le}
 use lib.Seq.{sets, sets-eq, drop-cons, length-take-le}
 use Rattle.card.specs.declared.Iter.{Iter}
 use Rattle.card.specs.declared.Iters.{Iters}
-use Rattle.notation.specs.Meaning.{none}
+use Rattle.card.specs.Card.{none}
 use Rattle.notation.specs.declared.Layout.{Layout}
 use Rattle.c_card.specs.Card.{eight}
 use Rattle.c_layout.specs.Layout.{bitsOf, iterNumbers, offsetsOf, cardWith}

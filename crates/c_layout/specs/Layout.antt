@@ -5,7 +5,7 @@ use mathlib.Core.List.{List, [], _∷_, _++_, map}
 use lib.IntN.{ℤ, pos, negsuc}
 use lib.ListN.{getD}
 use Rattle.card.specs.declared.Iters.{Iters}
-use Rattle.notation.specs.Meaning.{none}
+use Rattle.card.specs.Card.{none}
 use Rattle.notation.specs.declared.Layout.{Layout}
 use Rattle.c_card.specs.Card.{eight, lengthsFrom}
 

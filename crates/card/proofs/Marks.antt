@@ -10,9 +10,9 @@ use lib.IntN.{ℤ, pos}
 use lib.ListN.{length, getD, drop, drop-of-length-le, length-take}
 use native.Mathlib.Nat.{zero-add}
 use lib.Seq.{slice, drop-cons, getD-take, length-slice}
-use Rattle.card.specs.Lists.{withinZ}
+use Rattle.card.specs.Lists.{withinZ, slots}
 use Rattle.card.specs.Admission.{marksFit}
-use Rattle.card.specs.Packed.{slots, markAt, marksThere, stridesThere, ListOf}
+use Rattle.card.specs.Packed.{markAt, marksThere, stridesThere, ListOf}
 use Rattle.card.proofs.ReadBack.{eight-at, slice-at, strides-part}
 
 -- the test of one mark

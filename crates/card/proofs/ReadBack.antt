@@ -10,8 +10,9 @@ use lib.ListN.{length, getD, take, length-take, length-map}
 use lib.Seq.{slice, length-slice, ext-getD, getD-take, getD-drop}
 use Rattle.laws.proofs.Lists.{map-take}
 use Rattle.laws.proofs.Columns.{Filled}
-use Rattle.card.specs.Card.{listed, extentOf, strideOf, axisOf, elements, copies, cells}
-use Rattle.card.specs.Packed.{beyond, slots, none, iterAt, itersOf, markNumber, markAt, cardOf, Whole, Packs, lastColumn, ListOf}
+use Rattle.card.specs.Lists.{slots}
+use Rattle.card.specs.Card.{listed, extentOf, strideOf, axisOf, elements, copies, cells, none}
+use Rattle.card.specs.Packed.{beyond, iterAt, itersOf, markNumber, markAt, cardOf, Whole, Packs, lastColumn, ListOf}
 use Rattle.card.specs.declared.Iter.{Iter}
 use Rattle.card.specs.declared.Card.{Card}
 

@@ -1,10 +1,10 @@
 -- What a layout card holds: its iters are the first count of each list, and their products are the elements, the copies and the cells.
 use Prim.Native.Nat.{ℕ}
-use lib.IntN.{ℤ}
-use mathlib.Core.Bool.{Bool}
-use mathlib.Core.List.{List, map}
-use lib.ListN.{take}
-use Rattle.card.specs.Lists.{product}
+use lib.IntN.{ℤ, pos}
+use mathlib.Core.Bool.{Bool, false}
+use mathlib.Core.List.{List, [], map}
+use lib.ListN.{length, replicate, take}
+use Rattle.card.specs.Lists.{product, padded}
 use Rattle.card.specs.declared.Iter.{Iter}
 use Rattle.card.specs.declared.Iters.{Iters}
 use Rattle.card.specs.declared.Card.{Card}
@@ -41,3 +41,22 @@ copies card = size (card .replica)
 -- the cells: the product of the lengths
 abbrev pub cells : Card → ℕ
 cells card = product (card .lengths)
+
+-- an empty slot
+abbrev pub none : Iter
+none = record { extent = 0; stride = pos 0; axis = 0 }
+
+-- a list of iters as a card has it
+abbrev pub counted : List Iter → Iters
+counted iters = record { at = padded none iters; count = length iters }
+
+-- a card of zeros, which stands where none is given
+abbrev pub noCard : Card
+noCard = record {
+  shard = counted [];
+  marks = replicate 8 false;
+  replica = counted [];
+  offset = replicate 8 (pos 0);
+  lengths = replicate 8 0;
+  swizzle = record { m = 0; b = 0; s = 0 };
+}

@@ -1,9 +1,10 @@
--- Lists of numbers: whether all lie within limits, and their product.
-use Prim.Native.Nat.{ℕ, _*_}
+-- Lists: whether all numbers lie within limits, their product, and the eight slots of an array.
+use Prim.Native.Nat.{ℕ, _-_, _*_}
 use mathlib.Core.Bool.{Bool, true, _&&_}
-use mathlib.Core.List.{List, [], _∷_}
+use mathlib.Core.List.{List, [], _∷_, _++_}
 use lib.Dec.{leb}
 use lib.IntN.{ℤ}
+use lib.ListN.{length, replicate}
 use lib.Signed.{leZ}
 
 abbrev pub within : ℕ → ℕ → ℕ → Bool
@@ -19,3 +20,11 @@ all p (x ∷ xs) = p x && all p xs
 abbrev pub product : List ℕ → ℕ
 product [] = 1
 product (n ∷ ns) = n * product ns
+
+-- an array has eight slots
+abbrev pub slots : List ℕ
+slots = 0 ∷ 1 ∷ 2 ∷ 3 ∷ 4 ∷ 5 ∷ 6 ∷ 7 ∷ []
+
+-- a list in eight slots, with zeros past it
+abbrev pub padded : {A : Type 0} → A → List A → List A
+padded zero l = l ++ replicate (8 - length l) zero

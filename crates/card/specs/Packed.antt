@@ -9,6 +9,7 @@ use lib.IntN.{ℤ, pos, natAbs}
 use lib.ListN.{length, getD}
 use lib.Seq.{slice}
 use Rattle.swizzle.specs.declared.Swizzle.{Swizzle}
+use Rattle.card.specs.Lists.{slots}
 use Rattle.card.specs.Limits.{leastStride}
 use Rattle.card.specs.Card.{listed, marksOf, strideOf, elements, copies, cells}
 use Rattle.card.specs.Admission.{admission}
@@ -24,13 +25,6 @@ beyond = 2 ^ 32
 -- no stride or offset is further from zero
 abbrev pub farthest : ℕ
 farthest = natAbs leastStride
-
--- a list of iters has eight slots, and past them this stands
-abbrev pub slots : List ℕ
-slots = 0 ∷ 1 ∷ 2 ∷ 3 ∷ 4 ∷ 5 ∷ 6 ∷ 7 ∷ []
-
-abbrev pub none : Iter
-none = record { extent = 0; stride = pos 0; axis = 0 }
 
 -- the unsigned numbers are seven columns of eight: extents and axes of the shard (list 0), those of the replica (list 1), the lengths, then the
 -- two counts, M, B, S, the elements, the copies and the cells, and last the marks; the signed ones are three: the strides of each list, and the offset

@@ -1,5 +1,6 @@
 // The program desk: questions in lines on standard input, answers in lines on standard output. It
 // reads numbers, asks the library and prints what came back. Each subject has a module of its own.
+mod encodings;
 mod fragments;
 mod layouts;
 mod masks;
@@ -32,6 +33,7 @@ fn ask(word: Word, numbers: &[u64; 80], below: &[bool; 80], lent: &mut [u32]) ->
         Word::Owner => tables::owner(numbers, below, lent),
         Word::Stretch => tables::stretch(numbers, lent),
         Word::Write => notations::write(numbers, below),
+        Word::Canonical => encodings::canonical(numbers, lent),
         Word::Unknown => reply::unknown(),
     }
 }

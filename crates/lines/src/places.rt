@@ -56,6 +56,9 @@ pub const STRETCH_COORDINATES: usize = STRETCH_AXIS + 1;
 
 pub const STRETCH_LENT: usize = STRETCH_COORDINATES + 8;
 
+// `canonical`, after major-ness, mode, bits, m, k, LBO, SBO and the length of axis m.
+pub const CANONICAL_LENT: usize = 8;
+
 // `mask`, after M, N and the descriptor.
 pub const MASK_LENT: usize = 3;
 

@@ -96,6 +96,15 @@ pub fn digest(answer: Numbers, from: &[u32]) -> Reply {
     barred(answer, 1, values)
 }
 
+// An answer, LBO and SBO as reported, and the digest of lent entries.
+pub fn encoded(answer: Numbers, lbo: u64, sbo: u64, from: &[u32]) -> Reply {
+    let mut values = [0u64; 64];
+    values[0] = lbo;
+    values[1] = sbo;
+    values[2] = lent::digest(from);
+    barred(answer, 3, values)
+}
+
 // An answer and the twelve fields of a descriptor: start counts, first spans and what all share.
 pub fn fields(answer: Numbers, counts: [u8; 4], spans: [bool; 4], shared: [u64; 4]) -> Reply {
     let mut values = [0u64; 64];

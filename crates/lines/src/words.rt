@@ -22,6 +22,7 @@ pub enum Word {
     Owner,
     Stretch,
     Write,
+    Canonical,
     Unknown,
 }
 
@@ -56,6 +57,9 @@ fn layout_word(line: &[u8; 4096], end: usize) -> Word {
     }
     if is_named(line, end, b"write") {
         return Word::Write;
+    }
+    if is_named(line, end, b"canonical") {
+        return Word::Canonical;
     }
     Word::Unknown
 }
@@ -110,6 +114,7 @@ fn wanted(word: Word) -> usize {
         Word::Owner => places::OWNER_LENT + 1,
         Word::Stretch => places::STRETCH_LENT + 1,
         Word::Write => places::WRITE_LENT + 1,
+        Word::Canonical => places::CANONICAL_LENT + 1,
         Word::Unknown => 0,
     }
 }

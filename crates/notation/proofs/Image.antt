@@ -8,10 +8,12 @@ use lib.Dec.{leb, ltb, eqb}
 use lib.IntN.{ℤ, pos}
 use lib.Seq.{take-all}
 use lib.ListN.{length, getD, set, take, replicate, length-append, length-map}
+use Rattle.card.specs.Lists.{padded}
+use Rattle.card.specs.Card.{none}
 use Rattle.card.specs.declared.Iter.{Iter}
 use Rattle.card.specs.declared.Iters.{Iters}
 use Rattle.notation.specs.Text.{axisOf, Lists, Notation, Correct}
-use Rattle.notation.specs.Meaning.{valueOf, isMarked, markOf, padded, none, itersOf, listOf, laid, noOffset, layoutOf}
+use Rattle.notation.specs.Meaning.{valueOf, isMarked, markOf, itersOf, listOf, laid, noOffset, layoutOf}
 use Rattle.notation.specs.Machine.{digitOf, continues, initialOf, letter, most, least, parens, isShard, go, stepOf, listMove, follow, phaseMove, moved, inOffset, isStuck, isWhole, ending, lastEvent, nextSpot, Room, readerOf, firstReader, nextReader, moveOf, endsWell, refusedAt, concluded, enter, stepped, start, runs, recorded, extentAdded, stepAdded, addExtent, addStep, Seen, spotOf, noLists, here, said, withExtent, withStep, asPart, seeing, State}
 use Rattle.notation.specs.declared.Layout.{Layout}
 use Rattle.notation.specs.declared.Phase.{Phase}

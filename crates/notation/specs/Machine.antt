@@ -6,9 +6,10 @@ use mathlib.Core.List.{List, [], _∷_, _++_}
 use lib.Dec.{leb, ltb, eqb}
 use lib.ListN.{length, getD, set, replicate}
 use lib.IntN.{ℤ, pos}
+use Rattle.card.specs.Card.{none}
 use Rattle.card.specs.declared.Iters.{Iters}
 use Rattle.notation.specs.Text.{axisOf, Lists, Notation}
-use Rattle.notation.specs.Meaning.{valueOf, isMarked, none}
+use Rattle.notation.specs.Meaning.{valueOf, isMarked}
 use Rattle.notation.specs.Promise.{noLayout}
 use Rattle.answers.specs.declared.Refusal.the-variants.{Notation as NotCorrect}
 use Rattle.notation.specs.declared.Layout.{Layout}

@@ -1,9 +1,11 @@
 -- What a text says of a card: its shard with its marks, its replica and its offset.
-use Prim.Native.Nat.{ℕ, _-_}
+use Prim.Native.Nat.{ℕ}
 use mathlib.Core.Bool.{Bool, true, false, cond}
-use mathlib.Core.List.{List, [], _∷_, _++_, map}
+use mathlib.Core.List.{List, [], _∷_, map}
 use lib.IntN.{ℤ, pos, negℤ}
 use lib.ListN.{length, set, replicate}
+use Rattle.card.specs.Lists.{padded}
+use Rattle.card.specs.Card.{none}
 use Rattle.card.specs.declared.Iter.{Iter}
 use Rattle.card.specs.declared.Iters.{Iters}
 use Rattle.notation.specs.Text.{axisOf, Lists, Notation}
@@ -20,13 +22,6 @@ abbrev pub isMarked : Place → Bool
 isMarked Bare = false
 isMarked (At axis) = false
 isMarked (Marked axis) = true
-
--- eight slots, and zeros past the list
-abbrev pub padded : {A : Type 0} → A → List A → List A
-padded zero l = l ++ replicate (8 - length l) zero
-
-abbrev pub none : Iter
-none = record { extent = 0; stride = pos 0; axis = 0 }
 
 abbrev pub itersOf : List ℕ → List Step → List Iter
 itersOf [] steps = []

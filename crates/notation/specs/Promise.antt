@@ -9,10 +9,11 @@ use Rattle.answers.specs.Refusals.{answer, refusalNumbers}
 use Rattle.answers.specs.declared.Numbers.{Numbers}
 use Rattle.answers.specs.declared.Refusal.{Refusal}
 use Rattle.answers.specs.declared.Refusal.the-variants.{Notation as NotCorrect}
+use Rattle.card.specs.Card.{none}
 use Rattle.card.specs.declared.Iters.{Iters}
 use Rattle.notation.specs.Text.{Correct}
 use Rattle.notation.specs.Beginning.{Refused}
-use Rattle.notation.specs.Meaning.{none, layoutOf}
+use Rattle.notation.specs.Meaning.{layoutOf}
 use Rattle.notation.specs.declared.Layout.{Layout}
 use Rattle.notation.specs.declared.Read.{Read}
 use Rattle.notation.specs.declared.Read.the-variants.{Done, Refused as NotRead}

@@ -8,7 +8,8 @@ use lib.ListN.{length, drop, replicate}
 use Rattle.answers.specs.Refusals.{answer, refusalNumbers}
 use Rattle.answers.specs.declared.Numbers.{Numbers}
 use Rattle.answers.specs.declared.Refusal.the-variants.{TooShort}
-use Rattle.card.specs.Card.{listed, marksOf, extentOf}
+use Rattle.card.specs.Lists.{padded}
+use Rattle.card.specs.Card.{listed, marksOf, extentOf, none}
 use Rattle.card.specs.Admission.{fieldChecks}
 use Rattle.card.specs.declared.Iter.{Iter}
 use Rattle.card.specs.declared.Iters.{Iters}
@@ -16,7 +17,6 @@ use Rattle.card.specs.declared.Card.{Card}
 use Rattle.card.specs.declared.Admission.{Admission}
 use Rattle.card.specs.declared.Admission.the-variants.{Admitted, Refused}
 use Rattle.notation.specs.Text.{Lists, Notation, spell}
-use Rattle.notation.specs.Meaning.{padded, none}
 use Rattle.notation.specs.declared.Place.{Place}
 use Rattle.notation.specs.declared.Place.the-variants.{At, Marked}
 use Rattle.notation.specs.declared.Step.{Step}

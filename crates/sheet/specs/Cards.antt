@@ -1,10 +1,11 @@
 -- The cards of the test sheet: each list of iters is eight long, with zeros past its count, as a card has it.
-use Prim.Native.Nat.{ℕ, _-_}
+use Prim.Native.Nat.{ℕ}
 use mathlib.Core.Bool.{Bool, false}
-use mathlib.Core.List.{List, [], _∷_, _++_, map}
+use mathlib.Core.List.{List, [], _∷_, map}
 use lib.IntN.{ℤ, pos, negℤ}
 use lib.ListN.{length, replicate}
 use Rattle.swizzle.specs.declared.Swizzle.{Swizzle}
+use Rattle.card.specs.Lists.{padded}
 use Rattle.card.specs.declared.Iter.{Iter}
 use Rattle.card.specs.declared.Iters.{Iters}
 use Rattle.card.specs.declared.Card.{Card}
@@ -33,9 +34,6 @@ extent by stride on axis = record { extent = extent; stride = pos stride; axis =
 
 abbrev pub _back_on_ : ℕ → ℕ → ℕ → Iter
 extent back stride on axis = record { extent = extent; stride = negℤ (pos stride); axis = axis }
-
-abbrev pub padded : {A : Type 0} → A → List A → List A
-padded zero xs = xs ++ replicate (8 - length xs) zero
 
 abbrev pub iters : List Iter → Iters
 iters xs = record { at = padded (0 by 0 on 0) xs; count = length xs }

@@ -9,10 +9,10 @@ use lib.IntN.{ℤ, natAbs}
 use lib.ListN.{length, getD, take, drop, length-map, length-take, length-drop, List·getD-map}
 use lib.Seq.{slice, getD-take}
 use Rattle.laws.proofs.Lists.{slice-next}
-use Rattle.card.specs.Lists.{all, within, withinZ}
+use Rattle.card.specs.Lists.{all, within, withinZ, slots}
 use Rattle.card.specs.Limits.{mostExtent, leastStride, mostStride, lastAxis}
-use Rattle.card.specs.Card.{listed, extentOf, strideOf, axisOf}
-use Rattle.card.specs.Packed.{farthest, slots, none, iterAt, itersOf}
+use Rattle.card.specs.Card.{listed, extentOf, strideOf, axisOf, none}
+use Rattle.card.specs.Packed.{farthest, iterAt, itersOf}
 use Rattle.card.specs.declared.Iter.{Iter}
 use Rattle.card.proofs.Lists.{all-at, within-numbers, stride-far}
 use Rattle.card.proofs.Admitted.{Fitting, fitting}

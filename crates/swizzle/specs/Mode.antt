@@ -5,7 +5,8 @@ use lib.Dec.{leb, eqb}
 use lib.Count.{leadingZeros}
 use Rattle.answers.specs.Refusals.{answer, refusalNumbers}
 use Rattle.answers.specs.declared.Numbers.{Numbers}
-use Rattle.answers.specs.declared.Refusal.the-variants.{Swizzle}
+use Rattle.answers.specs.declared.Refusal.the-variants.{Swizzle as NotPermitted}
+use Rattle.swizzle.specs.declared.Swizzle.{Swizzle}
 use Rattle.swizzle.specs.declared.Chosen.{Chosen}
 use Rattle.swizzle.specs.declared.Chosen.the-variants.{Parameters, Refused as NotChosen}
 
@@ -21,10 +22,13 @@ known bits mode = knownBits bits && leb mode 3
 unfoldable pub bitLength : ℕ → ℕ
 bitLength n = 64 - leadingZeros 64 n
 
--- M = bit length of (128 / bits), less 1; B = mode; S = 3. Any other bits or mode is refusal 6
+-- M = bit length of (128 / bits), less 1; B = mode; S = 3
+abbrev pub swizzleOfMode : ℕ → ℕ → Swizzle
+swizzleOfMode bits mode = record { m = bitLength (128 / bits) - 1; b = mode; s = 3 }
+
+-- any other bits or mode is refusal 6
 abbrev pub modeAnswer : ℕ → ℕ → Chosen
-modeAnswer bits mode =
-    cond (known bits mode) (Parameters (record { m = bitLength (128 / bits) - 1; b = mode; s = 3 })) (NotChosen Swizzle)
+modeAnswer bits mode = cond (known bits mode) (Parameters (swizzleOfMode bits mode)) (NotChosen NotPermitted)
 
 -- at number 0 M, B, S
 abbrev pub modeNumbers : Chosen → Numbers

@@ -6,10 +6,12 @@ use mathlib.Core.Bool.{Bool, true, false}
 use mathlib.Core.List.{List, [], _∷_}
 use lib.IntN.{ℤ, pos, negℤ}
 use lib.ListN.{length, replicate, set}
+use Rattle.card.specs.Lists.{padded}
+use Rattle.card.specs.Card.{none}
 use Rattle.card.specs.declared.Iter.{Iter}
 use Rattle.card.specs.declared.Iters.{Iters}
 use Rattle.card.specs.declared.Card.{Card}
-use Rattle.notation.specs.Meaning.{padded, none, noOffset}
+use Rattle.notation.specs.Meaning.{noOffset}
 use Rattle.notation.specs.declared.Layout.{Layout}
 
 pub record Wrong : Type 0 where

@@ -1,5 +1,8 @@
 // Every question for C: numbers in arrays, an answer as four numbers, lent memory as a pointer and a length. include/urszovely.h
 // declares them.
+use canonical::Canonical;
+use card::Card;
+use notation::Layout;
 use values::Moved;
 use values::Register;
 ghost use mathlib.Core.Path.{_≡_};
@@ -19,7 +22,9 @@ ghost use Rattle.lent.specs.Lent.{rowsFrom, holdingsFrom, numbersOf};
 ghost use Rattle.notation.specs.Writing.{writeAnswer as textAnswer, bytesAfter, writeNumbers as textNumbers};
 ghost use Rattle.c_card.specs.Card.{cardFrom, four};
 ghost use Rattle.c_fields.specs.Fields.{fieldsFrom, bytesOf};
+ghost use Rattle.canonical.specs.Canonical.{built};
 ghost use Rattle.urszovely.specs.Answers.{AsHolder, AsReading, AsPlacement, AsVerdict, AsOwner, Written};
+ghost use Rattle.urszovely.specs.Canonical.{cardNumbers, AsCanonical};
 
 // The swizzle of an address.
 #[no_mangle]
@@ -341,5 +346,103 @@ pub extern "C" fn urszovely_write(
 {
     let written = writing::write(c_card::card(card, marks), text);
     let numbers = writing::write_numbers(written);
+    *answer = c_card::four(numbers);
+}
+
+// The verdict on a canonical shared-memory layout, with LBO and SBO as a descriptor has them.
+#[no_mangle]
+pub extern "C" fn urszovely_canonical(
+    major: u64,
+    mode: u64,
+    bits: u64,
+    m: u64,
+    k: u64,
+    lbo: u64,
+    sbo: u64,
+    length_of_m: u64,
+    table: &mut [u32],
+    encodings: &mut [u64; 2],
+    answer: &mut [u64; 4],
+)
+    ensures { λ r. ⌜ AsCanonical (record { major = major; mode = mode; bits = bits; m = m; k = k; lbo = lbo; sbo = sbo; length = «length_of_m» }) (now (table .entry)) (now (table .exit)) (now (encodings .exit)) (now (answer .exit)) ⌝ }
+{
+    let asked = Canonical {
+        major,
+        mode,
+        bits,
+        m,
+        k,
+        lbo,
+        sbo,
+        length: length_of_m,
+    };
+    let reported = encoding::judge(asked, table);
+    *encodings = [reported.lbo, reported.sbo];
+    let numbers = encoding::reported_numbers(reported);
+    *answer = c_card::four(numbers);
+}
+
+// The 57 numbers of a card; its marks are not among them.
+fn card_numbers(card: Card) -> [u64; 57]
+    ensures { λ r. ⌜ r ≡ cardNumbers card ⌝ }
+{
+    let shard = card.shard;
+    let marks = card.marks;
+    let replica = card.replica;
+    let offset = card.offset;
+    let lengths = card.lengths;
+    let mut numbers = [0u64; 57];
+    numbers[46] = lengths[0];
+    numbers[47] = lengths[1];
+    numbers[48] = lengths[2];
+    numbers[49] = lengths[3];
+    numbers[50] = lengths[4];
+    numbers[51] = lengths[5];
+    numbers[52] = lengths[6];
+    numbers[53] = lengths[7];
+    numbers[54] = card.swizzle.m;
+    numbers[55] = card.swizzle.b;
+    numbers[56] = card.swizzle.s;
+    let layout = Layout {
+        shard,
+        marks,
+        replica,
+        offset,
+    };
+    c_layout::card_with(layout, &numbers)
+}
+
+// The card of a canonical layout, as 57 numbers.
+#[no_mangle]
+pub extern "C" fn urszovely_canonical_card(
+    major: u64,
+    mode: u64,
+    bits: u64,
+    m: u64,
+    k: u64,
+    lbo: u64,
+    sbo: u64,
+    length_of_m: u64,
+    card: &mut [u64; 57],
+    answer: &mut [u64; 4],
+)
+    ensures { λ r. ⌜ now (card .exit) ≡ cardNumbers (built (record { major = major; mode = mode; bits = bits; m = m; k = k; lbo = lbo; sbo = sbo; length = «length_of_m» }) .card) ⌝ }
+    ensures { λ r. ⌜ now (answer .exit) ≡ four (admissionNumbers (built (record { major = major; mode = mode; bits = bits; m = m; k = k; lbo = lbo; sbo = sbo; length = «length_of_m» }) .answer)) ⌝ }
+{
+    let asked = Canonical {
+        major,
+        mode,
+        bits,
+        m,
+        k,
+        lbo,
+        sbo,
+        length: length_of_m,
+    };
+    let built = canonical_build::build(asked);
+    let of = built.card;
+    *card = card_numbers(of);
+    let told = built.answer;
+    let numbers = admission::admission_numbers(told);
     *answer = c_card::four(numbers);
 }

@@ -117,7 +117,7 @@ pub fn place(random: &mut Random, make: MakeCard) -> Vec<Number> {
 }
 
 /// The length of a table for so many cells: enough, mostly.
-fn table_length(random: &mut Random, cells: u128) -> u64 {
+pub fn table_length(random: &mut Random, cells: u128) -> u64 {
     let cells = cells.min(LENT_TABLE.into()) as u64;
     match random.below(16) {
         0..=8 => cells,

@@ -2,6 +2,7 @@
 //! those on both sides of each limit by hand, then random ones.
 
 use super::asked::random_asked;
+use super::canonical::{self, Tile};
 use super::cards::{accumulator, card_of, iter};
 use super::full::{bit_tile, finished, tile};
 use super::limits::{LARGEST_TABLE, LENT_TABLE};
@@ -238,6 +239,42 @@ fn stretches() -> Vec<Asked> {
     ]
 }
 
+fn canonical_question(tile: &Tile, length: u64) -> Asked {
+    let numbers = [&tile.numbers()[..], &[length]].concat();
+    Question::new("canonical", &numbers)
+}
+
+/// Canonical layouts in all cells that a space can have: six that are
+/// approved, then refused ones.
+fn canonical_tiles() -> Vec<Tile> {
+    let tile = |[major, mode, bits]: [u64; 3], [m, k]: [u64; 2], [lbo, sbo]: [u64; 2]| Tile {
+        major,
+        mode,
+        bits,
+        m,
+        k,
+        lbo,
+        sbo,
+        length_of_m: ALL,
+    };
+    let shortened = Tile {
+        length_of_m: ALL - 1,
+        ..tile([1, 3, 8], [8, 8], [1_024, 8_192])
+    };
+    vec![
+        tile([1, 3, 8], [8, 8], [1_024, 8_192]),
+        tile([1, 2, 4], [8, 8], [4_096, 512]),
+        tile([1, 3, 4], [4, 8], [1_024, 4_096]),
+        tile([0, 0, 4], [8, 8], [1_024, 128]),
+        tile([0, 3, 4], [8, 4], [u64::MAX, 4_096]),
+        tile([0, 0, 4], [8, 8], [2_048, 256]),
+        tile([1, 3, 4], [5, 7], [1_024, 5_120]),
+        tile([0, 0, 4], [8, 8], [2_064, 256]),
+        tile([1, 3, 8], [8, 8], [1_024, 8_176]),
+        shortened,
+    ]
+}
+
 pub fn by_hand() -> Vec<Asked> {
     let full = full_tiles();
     let enough = full.iter().map(|card| verdict(card, ALL));
@@ -248,7 +285,11 @@ pub fn by_hand() -> Vec<Asked> {
     let others = others.iter().map(|card| verdict(card, ALL));
     let questions = accumulators().into_iter().chain(enough).chain(short);
     let questions = questions.chain(owners).chain(beyond).chain(others);
-    questions.chain(stretches()).chain(reused()).collect()
+    let tiles = canonical_tiles();
+    let canonical = tiles.iter().map(|tile| canonical_question(tile, ALL));
+    let short = canonical_question(&tiles[0], ALL - 1);
+    let questions = questions.chain(stretches()).chain(reused());
+    questions.chain(canonical).chain([short]).collect()
 }
 
 /// So many sizes whose product with a number lies above what the programs
@@ -343,6 +384,11 @@ pub fn question(random: &mut Random) -> Asked {
     if random.once_in(4) {
         return random_stretch(random);
     }
+    if random.once_in(8) {
+        let tile = canonical::larger_tile(random);
+        let length = lent(random, tile.length_of_m.into());
+        return canonical_question(&tile, length);
+    }
     let mut card = card(random);
     if random.once_in(3) {
         reuse(random, &mut card, ALL);
@@ -436,6 +482,28 @@ mod tests {
             "4 0 0 0",
             "4 0 0 0",
             "4 0 0 0",
+        ];
+        assert_eq!(said, wanted);
+    }
+
+    #[test]
+    fn what_is_said_to_canonical_layouts() {
+        let tiles = canonical_tiles();
+        let said: Vec<String> = tiles
+            .iter()
+            .map(|tile| said(&canonical_question(tile, ALL)))
+            .collect();
+        let wanted = [
+            "0 65536 65536 65536",
+            "0 65536 65536 65536",
+            "0 65536 65536 65536",
+            "0 32768 32768 65536",
+            "0 16384 16384 65536",
+            "0 32768 32768 65536",
+            "5 0 0 0",
+            "7 29664 7 0",
+            "8 8 64519 8064",
+            "7 58367 7 0",
         ];
         assert_eq!(said, wanted);
     }

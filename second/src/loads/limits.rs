@@ -40,6 +40,10 @@ pub const LENT_TABLE: u64 = 16_384;
 /// What a caller of the library may have to lend.
 pub const LARGEST_TABLE: u64 = 65_536;
 
+/// m and k of a canonical layout, and what its byte strides are below.
+pub const REPEATS: u64 = 8;
+pub const BYTE_STRIDES: u64 = 262_144;
+
 /// The bytes of a text that is read, and of what is lent to a writer.
 pub const TEXT: u64 = 1_024;
 

@@ -95,6 +95,7 @@ mod tests {
         "mask 128 16 847173709201408 2",
         "stretch 1 11 32 1 1 1 1 2 1 1 6 9 1 1 1 1 1 704",
         "bank 16 72",
+        "canonical 1 1 16 2 2 256 512 512 512",
     ];
 
     fn plain_questions() -> Vec<Question<'static>> {

@@ -9,7 +9,7 @@ use lib.Seq.{sets, length-sets}
 use mir.Syntax.{w64}
 use mir.Facts.{toZ-ofZ}
 use Rattle.laws.proofs.Lists.{length-of}
-use Rattle.notation.specs.Meaning.{none}
+use Rattle.card.specs.Card.{none}
 use Rattle.c_card.specs.Card.{eight}
 use Rattle.c_layout.specs.Layout.{bitsOf}
 use Rattle.c_layout.proofs.Laws.{three, written, slots-more, ofIter, iters-written}

@@ -4,8 +4,7 @@ use mathlib.Core.List.{map}
 use borrow.Author.Needs.{needs}
 use lib.ListN.{length, getD, length-map, List·getD-map}
 use Rattle.laws.proofs.Lists.{length-of}
-use Rattle.card.specs.Card.{extentOf}
-use Rattle.card.specs.Packed.{none}
+use Rattle.card.specs.Card.{extentOf, none}
 use Rattle.card.proofs.ReadBack.{eight-slots}
 use Rattle.packed.proofs.extents.Statement.{statement}
 use Rattle.packed.proofs.extents.Tie as tie

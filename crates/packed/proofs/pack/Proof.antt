@@ -11,7 +11,7 @@ use mir.Syntax.{w64}
 use mir.Facts.{toZ-ofZ}
 use Rattle.laws.proofs.Lists.{length-of}
 use Rattle.laws.proofs.Columns.{Filled, filled-none, filled-more}
-use Rattle.card.specs.Packed.{none}
+use Rattle.card.specs.Card.{none}
 use Rattle.card.specs.declared.Iters.{Iters}
 use Rattle.card.proofs.ReadBack.{numberAt, strideAt, OfEight, packs}
 use Rattle.packed.proofs.pack.Statement.{statement}

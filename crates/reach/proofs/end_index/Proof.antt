@@ -8,8 +8,9 @@ use lib.ListN.{getD}
 use lib.Seq.{slice, slice-empty}
 use mir.Syntax.{w64}
 use mir.Facts.{toZ-ofZ}
+use Rattle.card.specs.Lists.{slots}
 use Rattle.card.specs.Card.{extentOf}
-use Rattle.card.specs.Packed.{slots, iterAt, itersOf}
+use Rattle.card.specs.Packed.{iterAt, itersOf}
 use Rattle.card.specs.declared.Iter.{Iter}
 use Rattle.card.specs.Limits.{mostExtent}
 use Rattle.card.proofs.Lists.{product-positive}

@@ -7,7 +7,9 @@ use lib.IntN.{ℤ}
 use lib.ListN.{length, getD}
 use lib.Seq.{slice, slice-empty}
 use Rattle.laws.proofs.Lists.{slice-next}
-use Rattle.card.specs.Packed.{slots, none, iterAt}
+use Rattle.card.specs.Lists.{slots}
+use Rattle.card.specs.Card.{none}
+use Rattle.card.specs.Packed.{iterAt}
 use Rattle.card.specs.declared.Iter.{Iter}
 use Rattle.card.proofs.ReadBack.{eight-at}
 use Rattle.linear.specs.Runs.{run}

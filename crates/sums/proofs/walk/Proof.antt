@@ -11,9 +11,10 @@ use mir.Syntax.{w64}
 use mir.Val.{toZ, ofZ}
 use mir.Facts.{toZ-ofZ}
 use Rattle.laws.proofs.Signed.{sum-far}
+use Rattle.card.specs.Lists.{slots}
 use Rattle.card.specs.declared.Iter.{Iter}
 use Rattle.card.specs.Limits.{mostExtent}
-use Rattle.card.specs.Packed.{farthest, slots, iterAt}
+use Rattle.card.specs.Packed.{farthest, iterAt}
 use Rattle.rules.specs.Walked.{walked}
 use Rattle.sums.specs.Walks.{roomy}
 use Rattle.rules.proofs.Along.{along, Walking, walking-none, walking-more, walked-all}

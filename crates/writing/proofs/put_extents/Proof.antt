@@ -4,8 +4,7 @@ use mathlib.Core.Path.{_≡_, refl, ap, _∙_}
 use mathlib.Core.List.{List, map, append-assoc}
 use lib.ListN.{length, take, getD}
 use Rattle.laws.proofs.Lists.{length-of}
-use Rattle.card.specs.Card.{extentOf}
-use Rattle.card.specs.Packed.{none}
+use Rattle.card.specs.Card.{extentOf, none}
 use Rattle.notation.specs.Text.{decimal, joined}
 use Rattle.writing.specs.Out.{wrote, joint}
 use native.Mathlib.Omega.{arith}

@@ -7,7 +7,7 @@ use lib.ListN.{length, take, getD}
 use mir.Syntax.{w64}
 use mir.Facts.{toZ-ofZ}
 use Rattle.laws.proofs.Lists.{length-of}
-use Rattle.card.specs.Packed.{none}
+use Rattle.card.specs.Card.{none}
 use Rattle.notation.specs.Text.{spellStep, joined}
 use Rattle.notation.specs.Writing.{stepFor, stepsFor}
 use Rattle.writing.specs.Out.{wrote, joint}

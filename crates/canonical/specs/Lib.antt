@@ -1,0 +1,4 @@
+pub mod Rule
+pub mod Printed
+pub mod Canonical
+pub mod Run
