@@ -217,19 +217,72 @@ const MATRICES: &[(u64, u64, u64)] = &[
     (8, 0, 2),
 ];
 
-/// Not-a-numbers at every place and in every register of every matrix.
+/// Whether a place of a tile is one of the kind's matrix: A of kind 6 has four
+/// columns, B of kind 7 four rows.
+fn is_own_place(kind: u64, place: u64) -> bool {
+    match kind {
+        6 => place % 8 < 4,
+        7 => place / 8 < 4,
+        _ => true,
+    }
+}
+
+/// Whether a register is one of the computation's.
+fn is_own_register(kind: u64, computation: u64, lane: u64, register: u64) -> bool {
+    match kind {
+        5 => lane % 16 / 4 == computation,
+        8 => register < 2,
+        _ => register == 0,
+    }
+}
+
+/// Whether a field of a holding is the kind's.
+fn is_own_field(kind: u64, field: u64) -> bool {
+    match kind {
+        6 => field == 0,
+        7 => field == 1,
+        _ => field == 2 || field == 3,
+    }
+}
+
+/// All of the patterns where they count, and one of them, each in its turn,
+/// where they are not looked at.
+fn patterns(sort: u64, own: bool, entry: u64) -> impl Iterator<Item = u64> {
+    let all = if sort == 1 { SINGLES } else { DOUBLES };
+    let turn = entry as usize % all.len();
+    let these = if own { all } else { &all[turn..=turn] };
+    these.iter().copied()
+}
+
+/// Not-a-numbers at every place and in every register of every matrix: each
+/// pattern where it is dealt or collected, one elsewhere. The holdings have no
+/// kind 5, which is refused before any place is looked at.
 fn every_not_a_number() -> String {
     let mut lines = String::new();
-    for (kind, computation, sort) in MATRICES {
-        for bits in if *sort == 1 { SINGLES } else { DOUBLES } {
-            for place in 0..64 {
+    for &(kind, computation, sort) in MATRICES {
+        for place in 0..64 {
+            for bits in patterns(sort, is_own_place(kind, place), place) {
                 let rest = format!("{kind} {computation} {place} {sort} {bits} 64\n");
-                lines += &format!("deal {rest}deal-f64 {rest}");
+                lines += &format!("deal {rest}");
+                if kind != 5 {
+                    lines += &format!("deal-f64 {rest}");
+                }
             }
-            for entry in 0..256 {
-                let (lane, register) = (entry / 8, entry % 8);
-                let at = format!("{kind} {computation} {lane} {register}");
+        }
+        for entry in 0..256 {
+            let (lane, register) = (entry / 8, entry % 8);
+            let at = format!("{kind} {computation} {lane} {register}");
+            for bits in patterns(
+                sort,
+                is_own_register(kind, computation, lane, register),
+                entry,
+            ) {
                 lines += &format!("collect {at} {sort} {bits} 256\n");
+            }
+            if kind == 5 {
+                continue;
+            }
+            for bits in patterns(sort, is_own_field(kind, register), entry) {
                 lines += &format!("collect-f64 {at} {bits}\n");
             }
         }
@@ -238,14 +291,18 @@ fn every_not_a_number() -> String {
 }
 
 /// Two places of the wrong sort: of a tile all pairs, of the lanes those among
-/// the first registers of every lane.
+/// the first registers of every lane. Which of a pair of places of a tile is
+/// named first makes no other question, and the holdings have no kind 5.
 fn every_pair() -> String {
     let mut lines = String::new();
-    for (kind, computation, _) in MATRICES {
+    for &(kind, computation, _) in MATRICES {
         for place in 0..64 {
-            for other in 0..64 {
+            for other in place..64 {
                 let rest = format!("{kind} {computation} {place} 0 0 {other}\n");
-                lines += &format!("deal {rest}deal-f64 {rest}");
+                lines += &format!("deal {rest}");
+                if kind != 5 {
+                    lines += &format!("deal-f64 {rest}");
+                }
             }
         }
         for lane in 0..32 {
@@ -310,13 +367,22 @@ mod tests {
 
     #[test]
     fn no_bits_are_refused() {
-        // But for kind 5 in the form with holdings.
-        assert_eq!(refused(every_not_a_number()), 4 * 14 * (64 + 256));
+        assert_eq!(refused(every_not_a_number()), 0);
+    }
+
+    #[test]
+    fn every_pattern_is_at_every_place_and_in_every_register() {
+        // Of places and registers 64, 32, 32 and 64 are a computation's own,
+        // of the fields of holdings 32, 32 and 64.
+        let lines = |own: usize, all: usize| 14 * own + all - own;
+        let deals = 4 * lines(64, 64) + 2 * (2 * lines(32, 64) + lines(64, 64));
+        let collects = 4 * lines(64, 256) + 2 * (2 * lines(32, 256) + lines(64, 256));
+        assert_eq!(every_not_a_number().lines().count(), deals + collects);
     }
 
     #[test]
     fn every_line_of_a_pair_is_a_question() {
-        let pairs = 7 * (2 * 64 * 64 + 32 * 32);
+        let pairs = (7 + 3) * 65 * 32 + 7 * 32 * 32;
         assert_eq!(said(every_pair()).len(), pairs);
         assert!(refused(every_pair()) > pairs / 2);
     }
