@@ -238,19 +238,20 @@ static void guarded_stretch(const uint32_t *table, size_t length, const uint64_t
     settle(ANSWER, 2, answer, 32);
 }
 
-/* what stands where the layout goes, and for the marks, is unlike on the two sides; both are written where refused too */
+/* what stands where the layout goes, and for the marks, is unlike from one side to the next; both are written where refused too, and the
+ * card's lengths and M, B, S never */
 static void guarded_read(const uint8_t *text, size_t length, uint64_t *card, uint64_t *marks, uint64_t *answer)
 {
-    int side;
-    for (side = 0; side < 2; side++) {
+    int side, sides = 2;
+    for (side = 0; side < sides; side++) {
         unlike(side, card, 46 * 8);
         urszovely_read(given(FIRST, side, text, length), length, lent(LENT, side, card, 57 * 8), lent(LENT_DOUBLES, side, unlike(side, marks, 8), 8), blank(side));
-        may_write(LENT, 57 * 8, 0, 57 * 8);
+        sides = may_write(LENT, 57 * 8, 0, 46 * 8);
         may_write(LENT_DOUBLES, 8, 0, 8);
     }
-    settle(LENT, 2, card, 57 * 8);
-    settle(LENT_DOUBLES, 2, marks, 8);
-    settle(ANSWER, 2, answer, 32);
+    settle(LENT, sides, card, 57 * 8);
+    settle(LENT_DOUBLES, sides, marks, 8);
+    settle(ANSWER, sides, answer, 32);
 }
 
 /* a card's lengths and M, B, S are not written, so they are unlike on the two sides */

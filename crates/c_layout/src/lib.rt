@@ -4,7 +4,7 @@ use notation::Layout;
 ghost use mathlib.Core.Path.{_≡_};
 ghost use mathlib.Core.Bool.{cond};
 ghost use mathlib.Core.List.{_∷_};
-ghost use lib.ListN.{take};
+ghost use lib.ListN.{length, take};
 ghost use lib.Seq.{sets};
 ghost use Prim.Native.Nat.{_+_, _*_, _≤_};
 ghost use Rattle.c_card.specs.Card.{eight};
@@ -25,40 +25,40 @@ fn bits(z: i64) -> u64
     z as u64
 }
 
-// The numbers of a card with a list of iters written from a place on: its count, and the three numbers of each
-// of its first slots.
-fn put_iters(numbers: [u64; 57], from: usize, iters: Iters, slots: usize) -> [u64; 57]
+// A list of iters written to a card from a place on: its count, and the three numbers of each of its first slots.
+fn put_iters(iters: Iters, slots: usize, card: &mut [u64], from: usize)
+    requires { ⌜ length (now card) ≡ 57 ⌝ }
     requires { ⌜ slots ≤ 8 ⌝ }
     requires { ⌜ from + 1 + 3 * slots ≤ 57 ⌝ }
-    ensures { λ r. ⌜ r ≡ sets numbers from (iters .count ∷ iterNumbers iters (take slots eight)) ⌝ }
+    ensures { λ r. ⌜ now (card .exit) ≡ sets (now (card .entry)) from (iters .count ∷ iterNumbers iters (take slots eight)) ⌝ }
 {
     let at = iters.at;
-    let mut card = numbers;
-    card[from] = iters.count;
+    let count = iters.count;
+    card[from] = count;
     let mut k: usize = 0;
     while k < slots {
         let iter = at[k];
+        let extent = iter.extent;
         let stride = bits(iter.stride);
+        let axis = iter.axis;
         let place = from + 1 + 3 * k;
-        card[place] = iter.extent;
+        card[place] = extent;
         card[place + 1] = stride;
-        card[place + 2] = iter.axis;
+        card[place + 2] = axis;
         k += 1;
     }
-    card
 }
 
-// The numbers of a card with the eight offsets written.
-fn put_offset(numbers: [u64; 57], offset: [i64; 8]) -> [u64; 57]
-    ensures { λ r. ⌜ r ≡ sets numbers 38 (offsetsOf offset) ⌝ }
+// The eight offsets written to a card.
+fn put_offset(offset: [i64; 8], card: &mut [u64])
+    requires { ⌜ length (now card) ≡ 57 ⌝ }
+    ensures { λ r. ⌜ now (card .exit) ≡ sets (now (card .entry)) 38 (offsetsOf offset) ⌝ }
 {
-    let mut card = numbers;
     let mut k: usize = 0;
     while k < 8 {
         card[OFFSETS + k] = bits(offset[k]);
         k += 1;
     }
-    card
 }
 
 // A mark in its bit.
@@ -76,14 +76,16 @@ pub fn mark_bits(marks: [bool; 8]) -> u64
     low + mark(marks[4], 16) + mark(marks[5], 32) + mark(marks[6], 64) + mark(marks[7], 128)
 }
 
-// The numbers of a card with the layout that was read; its lengths and its swizzle stay.
-pub fn card_with(layout: Layout, numbers: &[u64; 57]) -> [u64; 57]
-    ensures { λ r. ⌜ r ≡ cardWith layout (now (numbers .entry)) ⌝ }
+// A layout that was read written to a card: its lengths and its swizzle stay, and are not stored over themselves.
+pub fn put_layout(layout: Layout, card: &mut [u64; 57])
+    ensures { λ r. ⌜ now (card .exit) ≡ cardWith layout (now (card .entry)) ⌝ }
 {
     let shard = layout.shard;
     let replica = layout.replica;
     let offset = layout.offset;
-    let with_shard = put_iters(*numbers, 0, shard, 8);
-    let with_replica = put_iters(with_shard, REPLICA, replica, 4);
-    put_offset(with_replica, offset)
+    // as a slice, whose length the proof knows
+    let numbers: &mut [u64] = card;
+    put_iters(shard, 8, numbers, 0);
+    put_iters(replica, 4, numbers, REPLICA);
+    put_offset(offset, numbers);
 }

@@ -326,7 +326,7 @@ pub extern "C" fn urszovely_read(
     let reading = reading::read(text);
     let layout = reading.layout;
     let marked = layout.marks;
-    *card = c_layout::card_with(layout, card);
+    c_layout::put_layout(layout, card);
     *marks = [c_layout::mark_bits(marked)];
     let told = reading.answer;
     let numbers = reading::read_numbers(told);
@@ -409,7 +409,8 @@ fn card_numbers(card: Card) -> [u64; 57]
         replica,
         offset,
     };
-    c_layout::card_with(layout, &numbers)
+    c_layout::put_layout(layout, &mut numbers);
+    numbers
 }
 
 // The card of a canonical layout, as 57 numbers.

@@ -17,20 +17,20 @@ use Rattle.c_layout.proofs.put_iters.Statement.{statement}
 use Rattle.c_layout.proofs.put_iters.Tie as tie
 
 abbrev Inv-loop : tie.InvT-loop
-Inv-loop from slots at card₀ k₀ card k =
+Inv-loop slots card₀ from at count k₀ card k =
     (k ≤ slots) × (slots ≤ 8) × (from + 1 + 3 * slots ≤ 57) × (length at ≡ 8) × (length card ≡ 57) × (card ≡ sets card₀ (from + 1) (written (ofIter at) (take k eight)))
 
 abbrev μ-loop : tie.MeasureT-loop
-μ-loop from slots at card₀ k₀ card k = slots - k
+μ-loop slots card₀ from at count k₀ card k = slots - k
 
 loop-holds : tie.Need-loop-holds Inv-loop μ-loop
 loop-holds c =
-    let s = c .before in (
+    let s = c .before .before in (
       omega arith,
       omega arith,
       omega arith,
       search (needs, length-of),
-      length-set (s .args .numbers) (s .args .from) (s .args .iters .count) ∙ search needs,
+      length-set (s .args .card .now) (s .args .from) (s .args .iters .count) ∙ s .pre .0,
       refl,
     )
 
@@ -39,7 +39,7 @@ loop-again c =
     let told = c .before in
     let t = told .before .before in
     let l = t .before .loop in
-    let s = t .before .before .before in
+    let s = t .before .before .before .before in
     let at = s .args .iters .at in
     let place = s .args .from + 1 + 3 * l .k in
     let iter = getD at (l .k) none in
@@ -54,15 +54,15 @@ loop-again c =
       ap length put ∙ length-sets (l .card) place (ofIter at (l .k)) ∙ l .inv .4,
       put
           ∙ ap (λ (r : List ℕ). sets r place (ofIter at (l .k))) (l .inv .5)
-          ∙ slots-more (ofIter at) 3 (λ _. refl) (set (s .args .numbers) (s .args .from) (s .args .iters .count)) (s .args .from + 1) (l .k) small,
+          ∙ slots-more (ofIter at) 3 (λ _. refl) (set (s .args .card .now) (s .args .from) (s .args .iters .count)) (s .args .from + 1) (l .k) small,
     )
 
 returns : tie.Need-returns Inv-loop μ-loop
 returns c =
     let l = c .before .loop in
-    let s = c .before .before .before in
+    let s = c .before .before .before .before in
     let iters = s .args .iters in
-    let counted = set (s .args .numbers) (s .args .from) (iters .count) in
+    let counted = set (s .args .card .now) (s .args .from) (iters .count) in
     let next : s .args .from + 1 ≡ suc (s .args .from) = omega arith in
     let done : l .k ≡ s .args .slots = omega (arith, l .inv .0) in
     l .inv .5
@@ -74,4 +74,5 @@ put-iters-spec =
     tie.close
     (tie.spec Inv-loop μ-loop (λ c. omega arith) (λ c. omega arith) loop-holds (λ c. omega arith) (λ c. omega arith) (λ c κs. search needs)
     (λ c. omega arith) (λ c. omega arith) (λ c. omega arith) (λ c. omega arith) (λ c. omega arith) (λ c. omega arith) (λ c. omega arith)
-    (λ c. omega arith) (λ c. omega arith) (λ c. omega arith) (λ c. omega arith) (λ c. omega arith) (λ c. omega arith) loop-again returns)
+    (λ c. simp length-set (omega arith)) (λ c. omega arith) (λ c. omega arith) (λ c. simp length-set (omega arith)) (λ c. omega arith) (λ c. omega arith) loop-again
+    (λ c. omega arith) returns)

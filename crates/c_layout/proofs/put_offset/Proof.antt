@@ -15,21 +15,21 @@ use Rattle.c_layout.proofs.put_offset.Statement.{statement}
 use Rattle.c_layout.proofs.put_offset.Tie as tie
 
 abbrev Inv-loop : tie.InvT-loop
-Inv-loop offset card₀ k₀ card k =
+Inv-loop card₀ offset k₀ card k =
     (k ≤ 8) × (length offset ≡ 8) × (length card ≡ 57) × (card ≡ sets card₀ 38 (written (ofOffset offset) (take k eight)))
 
 abbrev μ-loop : tie.MeasureT-loop
-μ-loop offset card₀ k₀ card k = 8 - k
+μ-loop card₀ offset k₀ card k = 8 - k
 
 loop-holds : tie.Need-loop-holds Inv-loop μ-loop
-loop-holds c = (omega arith, search needs, search needs, refl)
+loop-holds c = (omega arith, search needs, c .before .pre, refl)
 
 loop-again : tie.Need-loop-again Inv-loop μ-loop
 loop-again c =
     let t = c .before .before in
     let l = t .before .loop in
-    let s = t .before .before in
-    let offset = s .args .t2 in
+    let s = t .before .before .before in
+    let offset = s .args .t1 in
     let z = getD offset (l .k) (pos 0) in
     let small : l .k < 8 = omega (arith, t .loop-test .taken) in
     let back = toZ-ofZ {w = w64} {z = z} (record { sfits = c .before .bits-arg .given }) in
@@ -38,7 +38,7 @@ loop-again c =
       omega arith,
       l .inv .1,
       length-set (l .card) (38 + l .k) (bitsOf z) ∙ l .inv .2,
-      (λ j. set (l .inv .3 j) (place j) (bitsOf z)) ∙ slots-more (ofOffset offset) 1 (λ _. refl) (s .args .numbers) 38 (l .k) small,
+      (λ j. set (l .inv .3 j) (place j) (bitsOf z)) ∙ slots-more (ofOffset offset) 1 (λ _. refl) (s .args .card .now) 38 (l .k) small,
     )
 
 returns : tie.Need-returns Inv-loop μ-loop
@@ -51,4 +51,4 @@ pub put-offset-spec : {M : Type 1} → statement M
 put-offset-spec =
     tie.close
     (tie.spec Inv-loop μ-loop loop-holds (λ c. omega arith) (λ c. omega arith) (λ c κs. search needs) (λ c. omega arith) (λ c. omega arith)
-    (λ c. omega arith) (λ c. omega arith) (λ c. omega arith) loop-again returns)
+    (λ c. omega arith) (λ c. omega arith) (λ c. omega arith) loop-again (λ c. omega arith) returns)

@@ -13,7 +13,7 @@ returns c =
     record {
       reading = r .read .result;
       allowed = r .read .ensures;
-      of-card = w .card-with .ensures;
+      of-card = w .put-layout .ensures;
       of-marks = rw (b .mark-bits .ensures);
       numbers = rw (c .four .ensures, n .read-numbers .ensures);
     }
