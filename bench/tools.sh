@@ -36,12 +36,11 @@ prove() {
     library=$work/project/target/staticlib/libdoor.a
 }
 
-# compile: the same source unproved, as `rt try` compiles a program. rt leaves no code of a library that is not proved, so the
-# program is an empty one and a stand-in for the kit's clang keeps the code on its way. The door's functions, project_.., are
-# then made visible as raw_project_..: drive.c gives them their C form.
-compile() {
-    rm -rf "$work/catch"
-    mkdir -p "$work/catch/bin" "$work/catch/src"
+# catch MAIN NAME LIBRARY..: the code of a program over these libraries, NAME=FILE each, bottom up, in $work/door.bc: unproved, as `rt
+# try` compiles it. A stand-in for the kit's clang keeps the code on its way.
+catch() {
+    rm -rf "$work/catch/bin" "$work/catch/lib"
+    mkdir -p "$work/catch/bin"
     ln -s "$tools/lib" "$work/catch/lib"
     for tool in "$tools"/bin/*; do ln -s "$tool" "$work/catch/bin"; done
     rm "$work/catch/bin/clang"
@@ -51,17 +50,34 @@ case " \$* " in *" -O3 "*) for word; do case \$word in *.bc) cp "\$word" "$work/
 exec "$tools/bin/clang" "\$@"
 END
     chmod +x "$work/catch/bin/clang"
+    main=$1 name=$2
+    shift 2
+    for file; do
+        set -- "$@" --lib "$file"
+        shift
+    done
+    quiet "$own/bin/rattle-cases" --toolchain "$work/catch" "$main" --crate-name "$name" --lib "std=$kit/libs/std/src/lib.rt" "$@"
+}
+
+# optimise FROM TO: LLVM's code to an object file, with the kit's own flags.
+optimise() {
+    clang -march=x86-64 -O3 -fPIC -ffunction-sections -fdata-sections -mllvm -trap-unreachable -mllvm -no-trap-after-noreturn \
+        -Wno-override-module -c -x ir "$1" -o "$2"
+}
+
+# compile: the door unproved. rt leaves no code of a library that is not proved, so the program is an empty one. The door's
+# functions, project_.., are then made visible as raw_project_..: drive.c gives them their C form.
+compile() {
+    mkdir -p "$work/catch/src"
     echo 'fn main() {}' >"$work/catch/src/main.rt"
-    set -- --lib "std=$kit/libs/std/src/lib.rt"
-    for name in $crates door; do set -- "$@" --lib "$name=$work/project/crates/$name/src/lib.rt"; done
-    quiet "$own/bin/rattle-cases" --toolchain "$work/catch" "$work/catch/src/main.rt" --crate-name empty "$@"
+    set --
+    for name in $crates door; do set -- "$@" "$name=$work/project/crates/$name/src/lib.rt"; done
+    catch "$work/catch/src/main.rt" empty "$@"
     clang -S -emit-llvm -O0 -Xclang -disable-llvm-passes -x ir "$work/door.bc" -o "$work/inner.ll"
     sed -E -e 's/^define internal ([a-z0-9 ]+) @"door::(project_[a-z]+)"/define \1 @raw_\2/; s/@"door::(project_[a-z]+)"/@raw_\1/g' \
         -e 's/^define i32 @main\(\)/define internal i32 @empty_main()/' "$work/inner.ll" >"$work/door.ll"
     library=$work/door.o
-    # the kit's own flags
-    clang -march=x86-64 -O3 -fPIC -ffunction-sections -fdata-sections -mllvm -trap-unreachable -mllvm -no-trap-after-noreturn \
-        -Wno-override-module -c -x ir "$work/door.ll" -o "$library"
+    optimise "$work/door.ll" "$library"
 }
 
 # plain ARCHIVE [TARGET]: the straightforward Rust, for this processor or the target's.

@@ -1,10 +1,10 @@
-/* urszovely.h: tile layouts, swizzles, banks, warp fragments and zero-column masks, answered by a proved library. C99 and C++.
+/* urszovely.h: tile layouts, swizzles, banks, warp fragments, zero-column masks and the layout book, answered by a proved library. C99 and C++.
  *
  * Every question takes any numbers and answers four: answer[0] is 0 or the number of a refusal, answer[1] to answer[3] are its
  * details, 0 unless said. Pointers are valid, not NULL and do not overlap; nothing else is asked of a caller. A refusal touches
  * nothing that was lent, but that 7 and 8 of verdict, owner and canonical leave the first `cells` entries of the table 0, and that a record
  * is filled with zeros: the fields of urszovely_fields, the card's first 46 numbers and the marks of urszovely_read, the encodings of
- * urszovely_canonical, the card of urszovely_canonical_card.
+ * urszovely_canonical, the card of urszovely_canonical_card, and the card, the marks and the note's place of urszovely_page.
  *
  * Limits: extents, lengths, elements and cells 1 to 65,536, copies at most 64, strides and offsets -65,536 to 65,535.
  *
@@ -43,6 +43,8 @@ enum urszovely_refusal {
     URSZOVELY_SHIFT = 16,      /* mask shift above its limit: the limit */
     URSZOVELY_IDLE = 17,       /* two replica combinations give the same sum on every axis: a, b */
     URSZOVELY_NOTATION = 18,   /* a text that is not correct: the bytes of its longest beginning that some correct text also has */
+    URSZOVELY_WRONG_CHECK = 19, /* a block of the layout book whose check is wrong */
+    URSZOVELY_UNUSED = 20,     /* a note of more than 292 bytes, or an unused byte of a block that is not zero */
     URSZOVELY_CANONICAL = 22   /* major-ness, m, k or a byte stride of a canonical layout not allowed */
 };
 
@@ -128,6 +130,14 @@ void urszovely_canonical(uint64_t major, uint64_t mode, uint64_t bits, uint64_t 
 /* The card that it judges, to be asked about with marks 0: 0, or 6, 22 with a card of zeros. */
 void urszovely_canonical_card(uint64_t major, uint64_t mode, uint64_t bits, uint64_t m, uint64_t k, uint64_t lbo, uint64_t sbo, uint64_t length_of_m, uint64_t card[57], uint64_t answer[4]);
 
+/* A card with a note of note_length bytes, written as a block of the layout book into lent bytes: 0, the first 512 are the block and those
+ * past it stay; or 1 to 6, 20 for a note of more than 292 bytes, 11 with 512. */
+void urszovely_block(const uint64_t card[57], uint64_t marks, const uint8_t *note, size_t note_length, uint8_t *bytes, size_t length, uint64_t answer[4]);
+
+/* A block of the layout book read, of a longer one the first 512 bytes: 0, or 11 with 512, 19, 1, 20. The card and its marks go to card and
+ * marks. The note is not copied: note has its first byte in the block, 216, and its length. Refused, card, marks and note are zeros. */
+void urszovely_page(const uint8_t *block, size_t length, uint64_t card[57], uint64_t marks[1], uint64_t note[2], uint64_t answer[4]);
+
 /* A refusal's number in words. */
 static inline const char *urszovely_refusal_text(uint64_t number)
 {
@@ -151,6 +161,8 @@ static inline const char *urszovely_refusal_text(uint64_t number)
     case 16: return "mask shift above its limit";
     case 17: return "two replica combinations give the same sum on every axis";
     case 18: return "a text that is not correct in the layout notation";
+    case 19: return "a block of the layout book whose check is wrong";
+    case 20: return "a note of more than 292 bytes, or an unused byte of a block that is not zero";
     case 22: return "major-ness, m, k or a byte stride of a canonical layout not allowed";
     default: return "no refusal";
     }

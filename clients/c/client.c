@@ -115,7 +115,7 @@ static int take_marks(void)
     marks = 0;
     if (!word_length || word[word_length - 1] != '*') return 1;
     word_length--;
-    if (!(is("verdict") || is("owner") || is("place") || is("write")) || !count || signs[0] || numbers[0] > 255) return 0;
+    if (!(is("verdict") || is("owner") || is("place") || is("write") || is("block")) || !count || signs[0] || numbers[0] > 255) return 0;
     marks = numbers[0];
     count--;
     for (i = 0; i < count; i++) {
@@ -155,7 +155,7 @@ static void take_card(int length)
 }
 
 static uint32_t table[MOST_TABLE];
-static uint8_t bytes[MOST_LENT], text[MOST_TEXT];
+static uint8_t bytes[MOST_LENT], text[MOST_TEXT], note[MOST_TEXT];
 static uint64_t answer[4];
 
 static void lend(uint64_t length)
@@ -168,6 +168,13 @@ static uint64_t digest(const uint32_t *entries, uint64_t length)
 {
     uint64_t i, sum = 0;
     for (i = 0; i < length; i++) sum = (sum + (i + 1) * entries[i]) % 4294967291u;
+    return sum;
+}
+
+static uint64_t digest_bytes(const uint8_t *from, uint64_t length)
+{
+    uint64_t i, sum = 0;
+    for (i = 0; i < length; i++) sum = (sum + (i + 1) * from[i]) % 4294967291u;
     return sum;
 }
 
@@ -184,6 +191,18 @@ static void put_value(uint64_t n)
 {
     put(' ');
     put_number(n);
+}
+
+/* the first numbers of the card, each with its sign, and the marks bit by bit */
+static void put_card(int length, uint64_t of_card)
+{
+    int k;
+    for (k = 0; k < length; k++) {
+        int below = is_signed(k) && card[k] >> 63;
+        put_text(below ? " -" : " ");
+        put_number(below ? 0 - card[k] : card[k]);
+    }
+    for (k = 0; k < 8; k++) put_value(of_card >> k & 1);
 }
 
 /* the words */
@@ -223,7 +242,7 @@ static int layout(void)
 /* a text after the one space: the card's other numbers are not the text's, so they have to stay */
 static int read_text(void)
 {
-    uint64_t read_marks[1] = { 0 }, n;
+    uint64_t read_marks[1] = { 0 };
     size_t length = line_length - 5, i;
     int k;
     if (length > MOST_TEXT) return 0;
@@ -232,16 +251,7 @@ static int read_text(void)
     urszovely_read(text, length, card, read_marks, answer);
     put_answer();
     put_text(" |");
-    for (k = 0; k < LAYOUT; k++) {
-        n = card[k];
-        put(' ');
-        if (is_signed(k) && n >> 63) {
-            put('-');
-            n = 0 - n;
-        }
-        put_number(n);
-    }
-    for (k = 0; k < 8; k++) put_value(read_marks[0] >> k & 1);
+    put_card(LAYOUT, read_marks[0]);
     for (k = LAYOUT; k < CARD; k++)
         if (card[k] != 1000000 + (uint64_t)k) put_text(" a number that had to stay");
     return 1;
@@ -249,18 +259,60 @@ static int read_text(void)
 
 static int write_text(void)
 {
-    uint64_t length = count ? numbers[count - 1] : 0, i, sum = 0;
+    uint64_t length = count ? numbers[count - 1] : 0, i;
     if (!fits(LAYOUT + 1, 1) || length > MOST_TEXT) return 0;
     take_card(LAYOUT);
     for (i = 0; i < length; i++) text[i] = 165;
     urszovely_write(card, marks, text, (size_t)length, answer);
-    for (i = 0; i < length; i++) sum = (sum + (i + 1) * text[i]) % 4294967291u;
     put_answer();
     put_text(" |");
-    put_value(sum);
+    put_value(digest_bytes(text, length));
     if (answer[0]) return 1;
     put(' ');
     for (i = 0; i < answer[1]; i++) put((char)text[i]);
+    return 1;
+}
+
+/* a card with the note of a seed, as a block of the layout book */
+static int block(void)
+{
+    uint64_t length = count ? numbers[count - 1] : 0, noted = numbers[CARD], seed = numbers[CARD + 1], i;
+    if (!fits(CARD + 3, 1) || noted > MOST_TEXT || seed > 255 || length > MOST_TEXT) return 0;
+    take_card(CARD);
+    for (i = 0; i < noted; i++) note[i] = (uint8_t)(seed + 7 * i);
+    for (i = 0; i < length; i++) text[i] = 165;
+    urszovely_block(card, marks, note, (size_t)noted, text, (size_t)length, answer);
+    put_answer();
+    put_text(" |");
+    put_value(digest_bytes(text, length));
+    return 1;
+}
+
+/* the value of a hex digit, or -1 */
+static int hex(char c)
+{
+    if (c >= '0' && c <= '9') return c - '0';
+    return c >= 'a' && c <= 'f' ? c - 'a' + 10 : -1;
+}
+
+/* pairs of hex digits after the one space: a block, whose note is looked at where it lies in it */
+static int page(void)
+{
+    uint64_t page_marks[1], place[2];
+    size_t digits = line_length - 5, i;
+    if (digits % 2 || digits > 2 * MOST_TEXT) return 0;
+    for (i = 0; i < digits; i++) {
+        int value = hex(line[5 + i]);
+        if (value < 0) return 0;
+        text[i / 2] = (uint8_t)(i % 2 ? text[i / 2] + value : 16 * value);
+    }
+    urszovely_page(text, digits / 2, card, page_marks, place, answer);
+    put_answer();
+    put_text(" |");
+    put_card(CARD, page_marks[0]);
+    put_value(place[1]);
+    put_value(digest_bytes(text + place[0], place[1]));
+    if (place[0] != (answer[0] ? 0 : 216)) put_text(" a note at another byte");
     return 1;
 }
 
@@ -452,23 +504,25 @@ static int plain(void)
     return 1;
 }
 
-/* the word read and one space, and then any bytes */
-static int is_read(void)
+/* a word of four letters and one space, and then any bytes */
+static int has_text(const char *name)
 {
     int i;
     if (line_length < 5) return 0;
     for (i = 0; i < 5; i++)
-        if (line[i] != "read "[i]) return 0;
+        if (line[i] != name[i]) return 0;
     return 1;
 }
 
 static int ask(void)
 {
-    if (is_read()) return read_text();
+    if (has_text("read ")) return read_text();
+    if (has_text("page ")) return page();
     if (!parse() || !take_marks()) return 0;
     if (is("verdict") || is("owner") || is("place") || is("stretch")) return layout();
     if (is("deal") || is("collect") || is("deal-f64") || is("collect-f64")) return values();
     if (is("write")) return write_text();
+    if (is("block")) return block();
     if (is("canonical")) return canonical();
     if (is("mask")) return mask();
     if (is("fields")) return fields();

@@ -269,6 +269,35 @@ static void guarded_write(const uint64_t *card, uint64_t marks, uint8_t *text, s
     settle(ANSWER, sides, answer, 32);
 }
 
+static void guarded_block(const uint64_t *card, uint64_t marks, const uint8_t *note, size_t note_length, uint8_t *bytes, size_t length, uint64_t *answer)
+{
+    int side, sides = 2;
+    for (side = 0; side < sides; side++) {
+        urszovely_block(given(FIRST, side, card, 57 * 8), marks, given(SECOND, side, note, note_length), note_length, lent(LENT, side, bytes, length), length,
+                        blank(side));
+        if (!side) sides = may_write(LENT, length, 0, told()[0] ? 0 : 512);
+    }
+    settle(LENT, sides, bytes, length);
+    settle(ANSWER, sides, answer, 32);
+}
+
+/* what stands where the card, the marks and the note's place go is unlike on the two sides; all are written where refused too */
+static void guarded_page(const uint8_t *block, size_t length, uint64_t *card, uint64_t *marks, uint64_t *note, uint64_t *answer)
+{
+    int side;
+    for (side = 0; side < 2; side++) {
+        urszovely_page(given(FIRST, side, block, length), length, lent(LENT, side, unlike(side, card, 57 * 8), 57 * 8),
+                       lent(LENT_SINGLES, side, unlike(side, marks, 8), 8), lent(LENT_DOUBLES, side, unlike(side, note, 16), 16), blank(side));
+        may_write(LENT, 57 * 8, 0, 57 * 8);
+        may_write(LENT_SINGLES, 8, 0, 8);
+        may_write(LENT_DOUBLES, 16, 0, 16);
+    }
+    settle(LENT, 2, card, 57 * 8);
+    settle(LENT_SINGLES, 2, marks, 8);
+    settle(LENT_DOUBLES, 2, note, 16);
+    settle(ANSWER, 2, answer, 32);
+}
+
 static void guarded_canonical(uint64_t major, uint64_t mode, uint64_t bits, uint64_t m, uint64_t k, uint64_t lbo, uint64_t sbo, uint64_t length_of_m,
                               uint32_t *table, size_t length, uint64_t *encodings, uint64_t *answer)
 {
@@ -434,6 +463,8 @@ static void guarded_collect_f64(uint64_t kind, uint64_t computation, const doubl
 #define urszovely_stretch guarded_stretch
 #define urszovely_read guarded_read
 #define urszovely_write guarded_write
+#define urszovely_block guarded_block
+#define urszovely_page guarded_page
 #define urszovely_canonical guarded_canonical
 #define urszovely_canonical_card guarded_canonical_card
 #define urszovely_deal guarded_deal

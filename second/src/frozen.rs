@@ -1,7 +1,7 @@
 //! The committed lines as they landed, a file for each landing and, where it
 //! has lines of full size, lines about values or inputs of `judge`, one for
 //! these. A later landing appends its own and leaves the earlier ones alone,
-//! whatever limits it moves.
+//! whatever limits it moves. The book of `lister` is kept likewise.
 
 /// The lines of `crates/desk/stdin`.
 const BLOCKS: &[&[u8]] = &[
@@ -14,6 +14,7 @@ const BLOCKS: &[&[u8]] = &[
     include_bytes!("../loads/blocks/07-ask-12.txt"),
     include_bytes!("../loads/blocks/09-ask-05.txt"),
     include_bytes!("../loads/blocks/10-ask-07.txt"),
+    include_bytes!("../loads/blocks/11-ask-09.txt"),
 ];
 
 /// The lines of full size: 16,384 elements and more, up to 64 copies, tables
@@ -33,6 +34,9 @@ const VALUES: &[&[u8]] = &[include_bytes!("../loads/values/08-ask-01.txt")];
 /// The inputs of `judge`, each spelt on a line.
 const JUDGE: &[&[u8]] = &[include_bytes!("../loads/judge/09-ask-05.txt")];
 
+/// The book of `crates/lister/stdin`.
+const BOOK: &[u8] = include_bytes!("../loads/book/11-ask-09.book");
+
 pub fn blocks() -> Vec<u8> {
     BLOCKS.concat()
 }
@@ -49,9 +53,14 @@ pub fn judge_inputs() -> Vec<u8> {
     JUDGE.concat()
 }
 
+pub fn book() -> Vec<u8> {
+    BOOK.to_vec()
+}
+
 #[cfg(test)]
 mod tests {
     use super::*;
+    use crate::book::listed;
     use crate::judge::answer_each;
     use crate::lines::{answers, reached};
     use crate::loads::random::seed_of;
@@ -70,6 +79,7 @@ mod tests {
         0xd8f4_b337_a3c3_10c9,
         0x03fa_d2d2_c916_7032,
         0x01d1_caef_4ade_f105,
+        0x6f26_f574_6e6a_dfb1,
     ];
     const LARGE_CHECKS: &[u64] = &[
         0xa6f5_5d97_af13_b392,
@@ -81,6 +91,7 @@ mod tests {
     ];
     const JUDGE_CHECKS: &[u64] = &[0x8cbc_3dca_17c8_f36c];
     const VALUES_CHECKS: &[u64] = &[0x57eb_6585_6908_3b30];
+    const BOOK_CHECK: u64 = 0xdd95_5875_cbc8_04bf;
 
     #[test]
     fn files_are_as_they_landed() {
@@ -89,6 +100,7 @@ mod tests {
         assert_eq!(checks(LARGE), LARGE_CHECKS);
         assert_eq!(checks(VALUES), VALUES_CHECKS);
         assert_eq!(checks(JUDGE), JUDGE_CHECKS);
+        assert_eq!(seed_of(BOOK), BOOK_CHECK);
     }
 
     /// The files of a folder one after the other, by name.
@@ -109,6 +121,7 @@ mod tests {
         assert!(folder("large") == large());
         assert!(folder("values") == values());
         assert!(folder("judge") == judge_inputs());
+        assert!(folder("book") == book());
         let mut files = BLOCKS.iter().chain(LARGE).chain(VALUES).chain(JUDGE);
         assert!(files.all(|file| file.ends_with(b"\n")));
     }
@@ -162,6 +175,21 @@ mod tests {
             assert!(said.lines().any(|said| said == text), "{text}");
         }
         assert!(!said.lines().any(|said| said == "?"));
+    }
+
+    #[test]
+    fn what_lister_says() {
+        let said = listed(BOOK).collect::<Vec<_>>().concat();
+        let said = String::from_utf8(said).unwrap();
+        let numbers = [
+            0, 0, 0, 19, 1, 1, 1, 20, 20, 20, 20, 0, 1, 19, 0, 0, 19, 0, 0, 0, 0, 1, 19, 0, 0, 19,
+            0, 11,
+        ];
+        let lines = numbers.iter().enumerate();
+        let wanted: String = lines
+            .map(|(at, number)| format!("{at} {number}\n"))
+            .collect();
+        assert_eq!(said, wanted);
     }
 
     #[test]

@@ -2,6 +2,7 @@
 //! and lines over whole ranges. The lines that are kept are in `frozen`.
 
 mod asked;
+pub mod books;
 mod canonical;
 pub mod cards;
 mod copies;
@@ -67,6 +68,8 @@ const MAKERS: &[Maker] = &[
     ("write*", texts::starred_write),
     ("canonical", canonical::canonical),
     ("canonical", canonical::canonical),
+    ("block", books::block),
+    ("block*", books::starred_block),
 ];
 
 /// Questions about values, which only the client answers.
@@ -110,11 +113,15 @@ fn ended(mut line: Vec<u8>) -> Vec<u8> {
 }
 
 /// One random line in so many has a text in the place of numbers.
-const TEXT_ONE_IN: u64 = 16;
+const TEXT_ONE_IN: u64 = 8;
+
+/// The words with a text, and what makes their lines.
+type TextMaker = (&'static str, fn(&mut Random) -> Vec<u8>);
+const TEXT_MAKERS: &[TextMaker] = &[("read", texts::read_line), ("page", books::page_line)];
 
 fn any_line(random: &mut Random) -> Vec<u8> {
     match random.once_in(TEXT_ONE_IN) {
-        true => texts::read_line(random),
+        true => random.pick(TEXT_MAKERS).1(random),
         false => line(random, MAKERS),
     }
 }
@@ -134,8 +141,9 @@ pub fn random_lines(seed: &[u8], count: u64) -> impl Iterator<Item = Vec<u8>> {
 
 /// What makes a line of one word; none where it is no word.
 fn maker_of(word: &[u8]) -> Option<Box<dyn Fn(&mut Random) -> Vec<u8>>> {
-    if word == b"read" {
-        return Some(Box::new(texts::read_line));
+    let mut texts = TEXT_MAKERS.iter();
+    if let Some((_, make)) = texts.find(|maker| maker.0.as_bytes() == word) {
+        return Some(Box::new(make));
     }
     let of_word = |maker: &&Maker| maker.0.as_bytes() == word;
     let all = MAKERS.iter().chain(VALUE_MAKERS);

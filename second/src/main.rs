@@ -3,6 +3,7 @@
 //! and makes the loads on which the programs are compared.
 
 mod bank;
+mod book;
 mod canonical;
 mod fragment;
 mod frozen;
@@ -34,6 +35,10 @@ const USAGE: &str = "usage: second answer [MOST]
        second judge-each
        second judge-inputs
        second judge-random SEED COUNT
+       second lister
+       second lister-input
+       second book SEED COUNT
+       second book-changes
        second mutations
        second exhaustive
        second masks SEED
@@ -89,6 +94,10 @@ fn run(arguments: &[&[u8]], out: &mut impl Write) -> Option<io::Result<()>> {
         [b"judge-each"] => input().and_then(|lines| out.write_all(&judge::answer_each(&lines))),
         [b"judge-inputs"] => out.write_all(&frozen::judge_inputs()),
         [b"judge-random", seed, count] => print(out, loads::judge_inputs(seed, number(count)?)),
+        [b"lister"] => input().and_then(|book| print(out, book::listed(&book))),
+        [b"lister-input"] => out.write_all(&frozen::book()),
+        [b"book", seed, count] => print(out, loads::books::book(seed, number(count)?)),
+        [b"book-changes"] => print(out, loads::books::changes()),
         [b"mutations"] => print(out, loads::texts::mutations()),
         [b"exhaustive"] => out.write_all(&every::fragments()),
         [b"masks", seed] => out.write_all(&every::masks(seed)),

@@ -2,6 +2,7 @@
 //! program answers them.
 
 use crate::bank;
+use crate::book;
 use crate::canonical;
 use crate::fragment;
 use crate::layout::{self, Marks, NO_MARKS};
@@ -137,6 +138,19 @@ pub const WORDS: &[Word] = &[
         count: 9,
         answer: |numbers, most| canonical::answer_canonical(&plain(numbers)?, most),
     },
+    Word {
+        name: "block",
+        count: 60,
+        answer: |numbers, _| book::answer_block(NO_MARKS, numbers),
+    },
+    Word {
+        name: "block*",
+        count: 61,
+        answer: |numbers, _| {
+            let (marks, numbers) = marked(numbers)?;
+            book::answer_block(marks, numbers)
+        },
+    },
 ];
 
 /// A word after which a text comes in the place of numbers: all that follows
@@ -148,10 +162,16 @@ pub struct TextWord {
 }
 
 /// The words with a text, which both programs answer.
-pub const TEXT_WORDS: &[TextWord] = &[TextWord {
-    name: "read",
-    answer: notation::answer_read,
-}];
+pub const TEXT_WORDS: &[TextWord] = &[
+    TextWord {
+        name: "read",
+        answer: notation::answer_read,
+    },
+    TextWord {
+        name: "page",
+        answer: book::answer_page,
+    },
+];
 
 /// The words about values, whose bits only the C client moves.
 pub const VALUE_WORDS: &[Word] = &[
@@ -213,6 +233,9 @@ pub const NUMBERS: &[(&str, &[u64])] = &[
     ("write*", &[0, 1, 2, 3, 11]),
     ("canonical", &[0, 2, 4, 5, 6, 7, 8, 11, 22]),
     ("read", &[0, 18]),
+    ("block", &[0, 1, 2, 3, 4, 5, 6, 11, 20]),
+    ("block*", &[0, 1, 2, 3, 4, 5, 6, 11, 20]),
+    ("page", &[0, 1, 11, 19, 20]),
 ];
 
 #[cfg(test)]

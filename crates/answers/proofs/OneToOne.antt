@@ -8,7 +8,7 @@ use borrow.Author.Tests.{ltb-true, ne-eqb}
 use Rattle.answers.specs.Refusals.{refusalNumbers}
 use Rattle.answers.specs.declared.Numbers.{Numbers}
 use Rattle.answers.specs.declared.Refusal.{Refusal}
-use Rattle.answers.specs.declared.Refusal.the-variants.{Counts, Limits, Axis, Space, TooMany, Swizzle, CopyOutside, Shared, Shape, Coordinate, TooShort, CellOutside, MaskSize, Fragment, Reserved, Shift, Idle, Notation, Canonical}
+use Rattle.answers.specs.declared.Refusal.the-variants.{Counts, Limits, Axis, Space, TooMany, Swizzle, CopyOutside, Shared, Shape, Coordinate, TooShort, CellOutside, MaskSize, Fragment, Reserved, Shift, Idle, Notation, WrongCheck, Unused, Canonical}
 
 -- the refusal that has this number, then with these details
 abbrev refusalOf : ℕ → Numbers → Refusal
@@ -31,7 +31,9 @@ refusalOf n r =
     (cond (eqb n 16) (Shift (r .a))
     (cond (eqb n 17) (Idle (r .a) (r .b))
     (cond (eqb n 18) (Notation (r .a))
-    Canonical)))))))))))))))))
+    (cond (eqb n 19) WrongCheck
+    (cond (eqb n 20) Unused
+    Canonical)))))))))))))))))))
 
 -- the left inverse reads each refusal back, and no refusal has number 0
 back : (p : Refusal) → (refusalOf (refusalNumbers p .number) (refusalNumbers p) ≡ p) × (ltb 0 (refusalNumbers p .number) ≡ true)
@@ -53,6 +55,8 @@ back Reserved = (refl, refl)
 back (Shift limit) = (refl, refl)
 back (Idle a b) = (refl, refl)
 back (Notation beginning) = (refl, refl)
+back WrongCheck = (refl, refl)
+back Unused = (refl, refl)
 back Canonical = (refl, refl)
 
 pub refusal-one-to-one : (p q : Refusal) → refusalNumbers p ≡ refusalNumbers q → p ≡ q

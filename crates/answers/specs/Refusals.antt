@@ -2,7 +2,7 @@
 use Prim.Native.Nat.{ℕ}
 use Rattle.answers.specs.declared.Numbers.{Numbers}
 use Rattle.answers.specs.declared.Refusal.{Refusal}
-use Rattle.answers.specs.declared.Refusal.the-variants.{Counts, Limits, Axis, Space, TooMany, Swizzle, CopyOutside, Shared, Shape, Coordinate, TooShort, CellOutside, MaskSize, Fragment, Reserved, Shift, Idle, Notation, Canonical}
+use Rattle.answers.specs.declared.Refusal.the-variants.{Counts, Limits, Axis, Space, TooMany, Swizzle, CopyOutside, Shared, Shape, Coordinate, TooShort, CellOutside, MaskSize, Fragment, Reserved, Shift, Idle, Notation, WrongCheck, Unused, Canonical}
 
 -- an answer's number and its details a, b, c
 abbrev pub answer : ℕ → ℕ → ℕ → ℕ → Numbers
@@ -28,4 +28,6 @@ refusalNumbers Reserved = answer 15 0 0 0
 refusalNumbers (Shift limit) = answer 16 limit 0 0
 refusalNumbers (Idle a b) = answer 17 a b 0
 refusalNumbers (Notation beginning) = answer 18 beginning 0 0
+refusalNumbers WrongCheck = answer 19 0 0 0
+refusalNumbers Unused = answer 20 0 0 0
 refusalNumbers Canonical = answer 22 0 0 0

@@ -9,7 +9,7 @@ pub struct Flat(pub u64);
 // The number of a cell.
 pub struct Cell(pub u64);
 
-// Why the desk says no, in the order of the refusals' numbers, 1 to 18 and 22.
+// Why the desk says no, in the order of the refusals' numbers, 1 to 20 and 22.
 pub enum Refusal {
     // 1: shard or replica iter count outside limits
     Counts,
@@ -47,6 +47,10 @@ pub enum Refusal {
     Idle { a: u64, b: u64 },
     // 18: a text that is not of the notation
     Notation { beginning: u64 },
+    // 19: a block whose check is wrong
+    WrongCheck,
+    // 20: a note too long, or an unused byte of a block that is not zero
+    Unused,
     // 22: major-ness, m, k or a byte stride of a canonical layout not allowed
     Canonical,
 }
@@ -89,6 +93,8 @@ pub fn refusal_numbers(refusal: Refusal) -> Numbers
         Refusal::Shift { limit } => answer(16, limit, 0, 0),
         Refusal::Idle { a, b } => answer(17, a, b, 0),
         Refusal::Notation { beginning } => answer(18, beginning, 0, 0),
+        Refusal::WrongCheck => answer(19, 0, 0, 0),
+        Refusal::Unused => answer(20, 0, 0, 0),
         Refusal::Canonical => answer(22, 0, 0, 0),
     }
 }

@@ -1,11 +1,12 @@
--- A test of all of a list, and its product, as loops come to them, one more element of the part that is left, and what they say of each element.
-use mathlib.Core.Path.{_≡_, sym, ap, _∙_}
-use mathlib.Core.Bool.{Bool, true, _&&_, and-assoc, and-true, and-eq-true-iff}
+-- A test of all of a list, and its product, as loops come to them, one more element of the part that is left, and what they say of each element;
+-- and lists that are the same.
+use mathlib.Core.Path.{_≡_, refl, sym, ap, ap₂, _∙_}
+use mathlib.Core.Bool.{Bool, true, _&&_, and-assoc, and-true, and-eq-true-iff, true≢false}
 use mathlib.Core.List.{List, [], _∷_}
 use Prim.Native.Nat.{ℕ, zero, suc, _+_, _*_, _≤_, _<_, min}
 use native.Mathlib.Nat.{mul-assoc, mul-one, min-eq-left, not-suc-le-zero, le-of-suc-le-suc, le-refl, one-le-mul}
-use borrow.Author.Tests.{leb-true}
-use lib.Dec.{leb}
+use borrow.Author.Tests.{leb-true, eqb-true, eq-eqb}
+use lib.Dec.{leb, eqb}
 use lib.IntN.{ℤ, natAbs}
 use lib.ListN.{length, getD, take}
 use lib.Seq.{slice, slice-empty}
@@ -13,7 +14,7 @@ use lib.Signed.{mag}
 use Rattle.laws.proofs.Capped.{capped-part, capped-leb}
 use Rattle.laws.proofs.Lists.{slice-next}
 use Rattle.laws.proofs.Signed.{between-far}
-use Rattle.card.specs.Lists.{all, within, withinZ, product}
+use Rattle.card.specs.Lists.{all, within, withinZ, product, same}
 use Rattle.card.specs.Limits.{leastStride, mostStride}
 use Rattle.card.specs.Packed.{beyond, farthest}
 
@@ -72,3 +73,16 @@ product-positive most (n ∷ l) t =
 -- what is told apart below beyond decides a limit below it as the whole number does
 pub capped-test : {n : ℕ} (whole limit : ℕ) → limit < beyond → n ≡ min whole beyond → leb n limit ≡ leb whole limit
 capped-test whole limit small e = ap (λ (m : ℕ). leb m limit) e ∙ capped-leb beyond whole limit small
+
+-- the same numbers
+pub same-true : (l m : List ℕ) → same l m ≡ true → l ≡ m
+same-true [] [] t = refl
+same-true [] (y ∷ ys) t = absurd (true≢false (sym t))
+same-true (x ∷ xs) [] t = absurd (true≢false (sym t))
+same-true (x ∷ xs) (y ∷ ys) t =
+    let both = and-eq-true-iff (eqb x y) (same xs ys) .0 t in
+    ap₂ _∷_ (eqb-true x y (both .0)) (same-true xs ys (both .1))
+
+pub same-refl : (l : List ℕ) → same l l ≡ true
+same-refl [] = refl
+same-refl (x ∷ xs) = and-eq-true-iff (eqb x x) (same xs xs) .1 (eq-eqb x x refl, same-refl xs)

@@ -1,18 +1,21 @@
 -- A packed card read back: each column of the two arrays is one of the card's lists, and up to its count that of the listed iters.
 use mathlib.Core.Path.{_≡_, refl, sym, ap, _∙_}
-use mathlib.Core.Bool.{Bool, true, false, not}
-use mathlib.Core.List.{List, map}
-use Prim.Native.Nat.{ℕ, zero, suc, _+_, _*_, _≤_, _<_, min}
+use mathlib.Core.Bool.{Bool, true, false, cond, not}
+use mathlib.Core.List.{List, _++_, map}
+use Prim.Native.Nat.{ℕ, zero, suc, _+_, _*_, _-_, _≤_, _<_, min}
+use mathlib.Core.Logic.{_⊎_, inl, inr}
 use native.Mathlib.Omega.{arith}
-use lib.Dec.{eqb}
+use borrow.Author.Tests.{lt-ltb, le-ltb}
+use lib.Dec.{eqb, ltb}
 use lib.IntN.{ℤ, pos}
-use lib.ListN.{length, getD, take, length-take, length-map}
-use lib.Seq.{slice, length-slice, ext-getD, getD-take, getD-drop}
+use lib.ListN.{length, getD, take, replicate, length-take, length-map, length-append, length-replicate, getD-replicate, List·getD-append}
+use lib.Seq.{slice, length-slice, length-take-le, ext-getD, getD-take, getD-drop, getD-append-add}
 use Rattle.laws.proofs.Lists.{map-take}
 use Rattle.laws.proofs.Columns.{Filled}
-use Rattle.card.specs.Lists.{slots}
-use Rattle.card.specs.Card.{listed, extentOf, strideOf, axisOf, elements, copies, cells, none}
-use Rattle.card.specs.Packed.{beyond, iterAt, itersOf, markNumber, markAt, cardOf, Whole, Packs, lastColumn, ListOf}
+use Rattle.laws.proofs.Order.{le-or-lt}
+use Rattle.card.specs.Lists.{slots, padded}
+use Rattle.card.specs.Card.{listed, extentOf, strideOf, axisOf, elements, copies, cells, none, markNumber}
+use Rattle.card.specs.Packed.{beyond, iterAt, itersOf, markAt, cardOf, Whole, Packs, lastColumn, ListOf}
 use Rattle.card.specs.declared.Iter.{Iter}
 use Rattle.card.specs.declared.Card.{Card}
 
@@ -31,6 +34,32 @@ eight-at f other (suc (suc (suc (suc (suc (suc (suc (suc k)))))))) h = absurd (o
 -- a list of eight is a function of the slots if it is at each
 pub eight-slots : {A : Type 0} (f : ℕ → A) (other : A) (l : List A) → length l ≡ 8 → ((k : ℕ) → k < 8 → getD l k other ≡ f k) → l ≡ map f slots
 eight-slots f other l eight at = ext-getD other l (map f slots) eight (λ k h. at k (omega arith) ∙ sym (eight-at f other k (omega arith)))
+
+-- the first n of a list of eight, with zeros past them, slot by slot
+module _ {A : Type 0} (other : A) (l : List A) (n : ℕ) (eight : length l ≡ 8) (few : n ≤ 8) where
+  first-n : length (take n l) ≡ n
+  first-n = length-take-le n l (omega arith)
+
+  pub padded-at : (k : ℕ) → k < n → getD (padded other (take n l)) k other ≡ getD l k other
+  padded-at k h =
+      List·getD-append (take n l) (replicate (8 - length (take n l)) other) other k (omega (arith, first-n)) ∙ getD-take n l k other h
+
+  padded-past : (k : ℕ) → n ≤ k → k < 8 → getD (padded other (take n l)) k other ≡ other
+  padded-past k h small =
+      let place : k ≡ length (take n l) + (k - n) = omega (arith, first-n) in
+      ap (λ (x : ℕ). getD (padded other (take n l)) x other) place
+      ∙ getD-append-add (take n l) (replicate (8 - length (take n l)) other) (k - n) other
+      ∙ getD-replicate (8 - length (take n l)) (k - n) other other (omega (arith, first-n))
+
+  pub padded-slots : padded other (take n l) ≡ map (λ (k : ℕ). cond (ltb k n) (getD l k other) other) slots
+  padded-slots =
+      eight-slots (λ (k : ℕ). cond (ltb k n) (getD l k other) other) other (padded other (take n l))
+      (length-append (take n l) (replicate (8 - length (take n l)) other) ∙ omega (arith, first-n, length-replicate (8 - length (take n l)) other))
+      (λ k h. split k h (le-or-lt n k))
+    where
+      split : (k : ℕ) → k < 8 → (n ≤ k) ⊎ (k < n) → getD (padded other (take n l)) k other ≡ cond (ltb k n) (getD l k other) other
+      split k h (inl past) = rw (le-ltb k n past) (padded-past k past h)
+      split k h (inr within) = rw (lt-ltb k n within) (padded-at k within)
 
 pub slice-at : {A : Type 0} (l : List A) (from end : ℕ) (other : A) (k : ℕ) → from + k < end → getD (slice from end l) k other ≡ getD l (from + k) other
 slice-at l from end other k h = getD-drop from (take end l) k other ∙ getD-take end l (from + k) other h

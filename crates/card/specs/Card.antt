@@ -1,7 +1,7 @@
 -- What a layout card holds: its iters are the first count of each list, and their products are the elements, the copies and the cells.
 use Prim.Native.Nat.{ℕ}
 use lib.IntN.{ℤ, pos}
-use mathlib.Core.Bool.{Bool, false}
+use mathlib.Core.Bool.{Bool, false, cond}
 use mathlib.Core.List.{List, [], map}
 use lib.ListN.{length, replicate, take}
 use Rattle.card.specs.Lists.{product, padded}
@@ -16,6 +16,10 @@ listed iters = take (iters .count) (iters .at)
 -- the reuse marks of the shard's iters, and marks past the count are ignored too
 abbrev pub marksOf : Card → List Bool
 marksOf card = take (card .shard .count) (card .marks)
+
+-- a mark as a number
+abbrev pub markNumber : Bool → ℕ
+markNumber mark = cond mark 1 0
 
 abbrev pub extentOf : Iter → ℕ
 extentOf iter = iter .extent
@@ -49,6 +53,20 @@ none = record { extent = 0; stride = pos 0; axis = 0 }
 -- a list of iters as a card has it
 abbrev pub counted : List Iter → Iters
 counted iters = record { at = padded none iters; count = length iters }
+
+-- what of a card is kept where it is written: slots and marks past a count are zeros
+abbrev pub keptIters : Iters → Iters
+keptIters iters = record { at = padded none (listed iters); count = iters .count }
+
+abbrev pub kept : Card → Card
+kept card = record {
+  shard = keptIters (card .shard);
+  marks = padded false (marksOf card);
+  replica = keptIters (card .replica);
+  offset = card .offset;
+  lengths = card .lengths;
+  swizzle = card .swizzle;
+}
 
 -- a card of zeros, which stands where none is given
 abbrev pub noCard : Card

@@ -1,8 +1,8 @@
--- Lists: whether all numbers lie within limits, their product, and the eight slots of an array.
+-- Lists: whether all numbers lie within limits, their product, whether two are the same, and the eight slots of an array.
 use Prim.Native.Nat.{ℕ, _-_, _*_}
-use mathlib.Core.Bool.{Bool, true, _&&_}
+use mathlib.Core.Bool.{Bool, true, false, _&&_}
 use mathlib.Core.List.{List, [], _∷_, _++_}
-use lib.Dec.{leb}
+use lib.Dec.{leb, eqb}
 use lib.IntN.{ℤ}
 use lib.ListN.{length, replicate}
 use lib.Signed.{leZ}
@@ -20,6 +20,12 @@ all p (x ∷ xs) = p x && all p xs
 abbrev pub product : List ℕ → ℕ
 product [] = 1
 product (n ∷ ns) = n * product ns
+
+abbrev pub same : List ℕ → List ℕ → Bool
+same [] [] = true
+same [] (n ∷ ns) = false
+same (m ∷ ms) [] = false
+same (m ∷ ms) (n ∷ ns) = eqb m n && same ms ns
 
 -- an array has eight slots
 abbrev pub slots : List ℕ

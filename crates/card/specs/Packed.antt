@@ -2,7 +2,7 @@
 -- inside promise each other.
 use Prim.Native.Nat.{ℕ, _+_, _*_, _^_, _≤_, min}
 use mathlib.Core.Path.{_≡_}
-use mathlib.Core.Bool.{Bool, cond, not}
+use mathlib.Core.Bool.{Bool, not}
 use mathlib.Core.List.{List, [], _∷_, map}
 use lib.Dec.{eqb}
 use lib.IntN.{ℤ, pos, natAbs}
@@ -37,10 +37,6 @@ itersOf numbers strides list = record { at = map (iterAt numbers strides list) s
 
 abbrev pub swizzleOf : List ℕ → Swizzle
 swizzleOf numbers = record { m = getD numbers 42 0; b = getD numbers 43 0; s = getD numbers 44 0 }
-
--- a mark is 1 or 0
-abbrev pub markNumber : Bool → ℕ
-markNumber mark = cond mark 1 0
 
 abbrev pub markAt : List ℕ → ℕ → Bool
 markAt numbers k = not (eqb (getD numbers (48 + k) 0) 0)

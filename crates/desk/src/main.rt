@@ -1,10 +1,12 @@
 // The program desk: questions in lines on standard input, answers in lines on standard output. It
 // reads numbers, asks the library and prints what came back. Each subject has a module of its own.
+mod books;
 mod encodings;
 mod fragments;
 mod layouts;
 mod masks;
 mod notations;
+mod records;
 mod swizzles;
 mod tables;
 
@@ -34,6 +36,7 @@ fn ask(word: Word, numbers: &[u64; 80], below: &[bool; 80], lent: &mut [u32]) ->
         Word::Stretch => tables::stretch(numbers, lent),
         Word::Write => notations::write(numbers, below),
         Word::Canonical => encodings::canonical(numbers, lent),
+        Word::Block => books::block(numbers, below),
         Word::Unknown => reply::unknown(),
     }
 }
@@ -42,6 +45,9 @@ fn ask(word: Word, numbers: &[u64; 80], below: &[bool; 80], lent: &mut [u32]) ->
 fn answer(line: &[u8; 4096], held: usize, lent: &mut [u32]) -> Reply {
     if words::is_read(line, held) {
         return notations::read(line, held);
+    }
+    if words::is_page(line, held) {
+        return books::page(line, held);
     }
     let mut numbers = [0u64; 80];
     let mut below = [false; 80];

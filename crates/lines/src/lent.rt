@@ -41,12 +41,12 @@ fn entry(b: u8) -> u32 {
     b as u32
 }
 
-// The digest of the first lent bytes.
-pub fn digest_bytes(bytes: &[u8; 1024], count: usize) -> u64 {
+// The digest of lent bytes, or of a note.
+pub fn digest_bytes(bytes: &[u8]) -> u64 {
     let mut sum: u64 = 0;
     let mut i: usize = 0;
-    while i < count {
-        sum = (sum + weighted(i as u64 + 1, entry(bytes[i % 1024]))) % DIGEST;
+    while i < bytes.len() {
+        sum = (sum + weighted(i as u64 + 1, entry(bytes[i]))) % DIGEST;
         i += 1;
     }
     sum

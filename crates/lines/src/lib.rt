@@ -2,6 +2,7 @@
 // text. The program itself asks the questions in between.
 pub mod lent;
 pub mod numbers;
+pub mod pairs;
 pub mod places;
 pub mod print;
 pub mod reply;

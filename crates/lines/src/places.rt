@@ -42,6 +42,27 @@ pub const WRITE_LENT: usize = LENGTHS;
 // After the card of `verdict`.
 pub const VERDICT_LENT: usize = CARD;
 
+// After the card of `block`: how long the note is, its seed, and how much memory is lent.
+pub const NOTE_LENGTH: usize = CARD;
+
+pub const SEED: usize = NOTE_LENGTH + 1;
+
+pub const BLOCK_LENT: usize = SEED + 1;
+
+// After the bar of `read`: a layout's marks, behind its offsets, and how many numbers it has.
+pub const LAYOUT_MARKS: usize = OFFSETS + 8;
+
+pub const LAYOUT: usize = LAYOUT_MARKS + 8;
+
+// After the bar of `page`: a card's marks, the length of the note and its digest, and how many numbers these are.
+pub const CARD_MARKS: usize = CARD;
+
+pub const NOTED: usize = CARD_MARKS + 8;
+
+pub const NOTE_DIGEST: usize = NOTED + 1;
+
+pub const PAGE: usize = NOTE_DIGEST + 1;
+
 // After the card of `owner`: the coordinates of the asked cell.
 pub const CELL: usize = CARD;
 

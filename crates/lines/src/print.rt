@@ -33,18 +33,18 @@ fn value(out: &mut [u8; 65536], at: usize, n: u64, below: bool) -> usize {
     output::decimal(out, sign, n)
 }
 
-// A bar, and each of the values after a space. No count is above 64.
+// A bar, and each of the values after a space. No count is above 80.
 fn values(
     out: &mut [u8; 65536],
     at: usize,
     count: usize,
-    of: &[u64; 64],
-    below: &[bool; 64],
+    of: &[u64; 80],
+    below: &[bool; 80],
 ) -> usize {
     let mut place = output::text(out, at, b" |");
     let mut i = 0;
     while i < count {
-        place = value(out, place, of[i % 64], below[i % 64]);
+        place = value(out, place, of[i % 80], below[i % 80]);
         i += 1;
     }
     place

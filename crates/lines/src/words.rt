@@ -23,6 +23,7 @@ pub enum Word {
     Stretch,
     Write,
     Canonical,
+    Block,
     Unknown,
 }
 
@@ -60,6 +61,9 @@ fn layout_word(line: &[u8; 4096], end: usize) -> Word {
     }
     if is_named(line, end, b"canonical") {
         return Word::Canonical;
+    }
+    if is_named(line, end, b"block") {
+        return Word::Block;
     }
     Word::Unknown
 }
@@ -115,6 +119,7 @@ fn wanted(word: Word) -> usize {
         Word::Stretch => places::STRETCH_LENT + 1,
         Word::Write => places::WRITE_LENT + 1,
         Word::Canonical => places::CANONICAL_LENT + 1,
+        Word::Block => places::BLOCK_LENT + 1,
         Word::Unknown => 0,
     }
 }
@@ -122,7 +127,7 @@ fn wanted(word: Word) -> usize {
 // Whether the question of a word begins with a card, or with the first numbers of one.
 fn has_card(word: Word) -> bool {
     match word {
-        Word::Place | Word::Verdict | Word::Owner | Word::Write => true,
+        Word::Place | Word::Verdict | Word::Owner | Word::Write | Word::Block => true,
         _ => false,
     }
 }
@@ -201,16 +206,28 @@ fn asked_with_marks(
 }
 
 // How long a word is that a text follows, with its space, and the most bytes of a text.
-pub const READ_SPACE: usize = 5;
+pub const SPACED: usize = 5;
 
-pub const MOST_TEXT: usize = 1024;
+const MOST_TEXT: usize = 1024;
 
-// Whether a line asks to read a text: the word and one space, and then any bytes.
-pub fn is_read(line: &[u8; 4096], held: usize) -> bool {
-    if held < READ_SPACE {
+const MOST_DIGITS: usize = 2048;
+
+// Whether a line has such a word and one space, and then at most so many bytes.
+fn has_text(line: &[u8; 4096], held: usize, word: &[u8], most: usize) -> bool {
+    if held < SPACED {
         return false;
     }
-    is_named(line, READ_SPACE, b"read ") & (held - READ_SPACE <= MOST_TEXT)
+    is_named(line, SPACED, word) & (held - SPACED <= most)
+}
+
+// Whether a line asks to read a text of the notation: any bytes.
+pub fn is_read(line: &[u8; 4096], held: usize) -> bool {
+    has_text(line, held, b"read ", MOST_TEXT)
+}
+
+// Whether a line asks to read a block: a text, of which the digits are still to be looked at.
+pub fn is_page(line: &[u8; 4096], held: usize) -> bool {
+    has_text(line, held, b"page ", MOST_DIGITS)
 }
 
 // What a line of so many bytes asks: a word with all its numbers, which are kept in

@@ -13,7 +13,7 @@ use Rattle.laws.proofs.Tests.{four-of}
 use Rattle.laws.proofs.Signed.{between-far}
 use Rattle.card.specs.Lists.{all, within, withinZ, padded}
 use Rattle.card.specs.Limits.{mostExtent, leastStride, mostStride, lastAxis}
-use Rattle.card.specs.Card.{listed, marksOf, extentOf, strideOf, axisOf as iterAxis, none}
+use Rattle.card.specs.Card.{listed, marksOf, extentOf, strideOf, axisOf as iterAxis, none, keptIters}
 use Rattle.card.specs.Admission.{countsFit, itersFit, marksFit, numbersFit, itersOnAxes, axesFit, fieldChecks}
 use Rattle.card.proofs.ReadBack.{OfEight}
 use Rattle.card.specs.declared.Iter.{Iter}
@@ -27,7 +27,7 @@ use Rattle.laws.proofs.Rungs.{apart}
 use Rattle.notation.specs.Text.{axisOf, Lists, Notation, spell, Short, Each, Sound, Unmarked, Plain, Rising, Limits, Within, Correct}
 use Rattle.notation.specs.Meaning.{valueOf, isMarked, markOf, itersOf, listOf, laid, noOffset, layoutOf}
 use Rattle.notation.specs.Promise.{Answered}
-use Rattle.notation.specs.Writing.{isBelow, stepFor, stepsFor, offsetsFrom, noMarks, listsFor, written, textOf, answerFor, writeAnswer, bytesAfter, keptIters, keptOf}
+use Rattle.notation.specs.Writing.{isBelow, stepFor, stepsFor, offsetsFrom, noMarks, listsFor, written, textOf, answerFor, writeAnswer, bytesAfter, keptOf}
 use Rattle.notation.specs.declared.Place.{Place}
 use Rattle.notation.specs.declared.Place.the-variants.{Bare, At, Marked}
 use Rattle.notation.specs.declared.Step.{Step}

@@ -8,8 +8,7 @@ use lib.ListN.{length, drop, replicate}
 use Rattle.answers.specs.Refusals.{answer, refusalNumbers}
 use Rattle.answers.specs.declared.Numbers.{Numbers}
 use Rattle.answers.specs.declared.Refusal.the-variants.{TooShort}
-use Rattle.card.specs.Lists.{padded}
-use Rattle.card.specs.Card.{listed, marksOf, extentOf, none}
+use Rattle.card.specs.Card.{listed, marksOf, extentOf, kept}
 use Rattle.card.specs.Admission.{fieldChecks}
 use Rattle.card.specs.declared.Iter.{Iter}
 use Rattle.card.specs.declared.Iters.{Iters}
@@ -72,9 +71,6 @@ abbrev pub writeNumbers : Written → Numbers
 writeNumbers (Length n) = answer 0 n 0 0
 writeNumbers (NotWritten refusal) = refusalNumbers refusal
 
--- what of a card is written: slots and marks past a count are zeros
-abbrev pub keptIters : Iters → Iters
-keptIters iters = record { at = padded none (listed iters); count = iters .count }
-
+-- what of a card is written: all but the lengths and the swizzle of what is kept of it
 abbrev pub keptOf : Card → Layout
-keptOf card = record { shard = keptIters (card .shard); marks = padded false (marksOf card); replica = keptIters (card .replica); offset = card .offset }
+keptOf card = record { shard = kept card .shard; marks = kept card .marks; replica = kept card .replica; offset = kept card .offset }

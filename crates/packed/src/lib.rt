@@ -4,8 +4,8 @@ use card::Iters;
 ghost use mathlib.Core.Path.{_≡_};
 ghost use mathlib.Core.List.{map};
 ghost use Prim.Native.Nat.{min};
-ghost use Rattle.card.specs.Card.{extentOf, size};
-ghost use Rattle.card.specs.Packed.{beyond, markNumber, lastColumn, Packs};
+ghost use Rattle.card.specs.Card.{markNumber, extentOf, size};
+ghost use Rattle.card.specs.Packed.{beyond, lastColumn, Packs};
 
 // The columns of the two lists of iters: their extents and axes among the unsigned numbers, their strides
 // among the signed ones.

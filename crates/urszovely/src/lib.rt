@@ -1,5 +1,6 @@
 // Every question for C: numbers in arrays, an answer as four numbers, lent memory as a pointer and a length. include/urszovely.h
 // declares them.
+use book::Answer;
 use canonical::Canonical;
 use card::Card;
 use notation::Layout;
@@ -23,8 +24,10 @@ ghost use Rattle.notation.specs.Writing.{writeAnswer as textAnswer, bytesAfter,
 ghost use Rattle.c_card.specs.Card.{cardFrom, four};
 ghost use Rattle.c_fields.specs.Fields.{fieldsFrom, bytesOf};
 ghost use Rattle.canonical.specs.Canonical.{built};
+ghost use Rattle.book.specs.Book.{readAnswer as blockAnswer};
 ghost use Rattle.urszovely.specs.Answers.{AsHolder, AsReading, AsPlacement, AsVerdict, AsOwner, Written};
 ghost use Rattle.urszovely.specs.Canonical.{cardNumbers, AsCanonical};
+ghost use Rattle.urszovely.specs.Book.{notePlace, AsBlock, AsPage};
 
 // The swizzle of an address.
 #[no_mangle]
@@ -445,5 +448,54 @@ pub extern "C" fn urszovely_canonical_card(
     *card = card_numbers(of);
     let told = built.answer;
     let numbers = admission::admission_numbers(told);
+    *answer = c_card::four(numbers);
+}
+
+// A card with a note, written as a block of the layout book.
+#[no_mangle]
+pub extern "C" fn urszovely_block(
+    card: &[u64; 57],
+    marks: u64,
+    note: &[u8],
+    bytes: &mut [u8],
+    answer: &mut [u64; 4],
+)
+    ensures { λ r. ⌜ AsBlock (now (card .entry)) marks (now (note .entry)) (now (bytes .entry)) (now (bytes .exit)) (now (answer .exit)) ⌝ }
+{
+    let written = storing::write_block(c_card::card(card, marks), note, bytes);
+    let numbers = storing::answer_numbers(written);
+    *answer = c_card::four(numbers);
+}
+
+// Where in a block its note begins and how long it is, both 0 where the block is refused.
+fn note_place(told: Answer, block: &[u8]) -> [u64; 2]
+    requires { ⌜ told ≡ blockAnswer (now block) ⌝ }
+    ensures { λ r. ⌜ r ≡ notePlace told (now (block .entry)) ⌝ }
+{
+    match told {
+        Answer::Done => [book::NOTE as u64, book_blocks::noted_in(block)],
+        Answer::Refused(_) => [0, 0],
+    }
+}
+
+// A block of the layout book, read: its card, its marks, and where in the block its note lies.
+#[no_mangle]
+pub extern "C" fn urszovely_page(
+    block: &[u8],
+    card: &mut [u64; 57],
+    marks: &mut [u64; 1],
+    note: &mut [u64; 2],
+    answer: &mut [u64; 4],
+)
+    ensures { λ r. ⌜ AsPage (now (block .entry)) (now (card .exit)) (now (marks .exit)) (now (note .exit)) (now (answer .exit)) ⌝ }
+{
+    let page = storing::read_block(block);
+    let of = page.card;
+    let marked = of.marks;
+    *card = card_numbers(of);
+    *marks = [c_layout::mark_bits(marked)];
+    let told = page.answer;
+    *note = note_place(told, block);
+    let numbers = storing::answer_numbers(told);
     *answer = c_card::four(numbers);
 }

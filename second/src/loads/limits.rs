@@ -47,6 +47,13 @@ pub const BYTE_STRIDES: u64 = 262_144;
 /// The bytes of a text that is read, and of what is lent to a writer.
 pub const TEXT: u64 = 1_024;
 
+/// The bytes of a block, of its note and of what is lent for it, and the seed
+/// of a note.
+pub const BLOCK: u64 = 512;
+pub const NOTE: u64 = 292;
+pub const LENT_BYTES: u64 = 1_024;
+pub const SEED: u64 = 255;
+
 /// The bytes of a line.
 pub const LINE: usize = 4_096;
 

@@ -141,15 +141,15 @@ fn other_case(random: &mut Random, question: &Question) -> Vec<u8> {
     }
 }
 
+/// Only these words get a star: others with one may be questions one day.
+const STARRED: &[&str] = &["verdict*", "owner*", "place*", "write*", "block*"];
+
 /// The word without its star, or with one, before the numbers of the other.
-/// Only these words get one: others with a star may be questions one day.
 fn other_star(_: &mut Random, question: &Question) -> Vec<u8> {
     let starred = format!("{}*", question.word);
     match question.word.strip_suffix('*') {
         Some(plain) => question.under(plain),
-        None if ["verdict*", "owner*", "place*", "write*"].contains(&&starred[..]) => {
-            question.under(&starred)
-        }
+        None if STARRED.contains(&&starred[..]) => question.under(&starred),
         None => question.under("*"),
     }
 }

@@ -108,7 +108,7 @@ mod tests {
 
     /// A question of each of a card's words on tile X, turned round, and how
     /// many numbers come before the card.
-    fn card_questions() -> [(Question<'static>, usize); 8] {
+    fn card_questions() -> [(Question<'static>, usize); 10] {
         let mut card = tile_x();
         turn_some(&mut Random::new(0), &mut card, 1);
         let question = |word: &'static str, marks: &[i128], rest: &[i128]| {
@@ -130,6 +130,8 @@ mod tests {
             question("place*", &[1], &spot),
             question("write", &[], &[100]),
             question("write*", &[1], &[100]),
+            question("block", &[], &[1, 1, 512]),
+            question("block*", &[1], &[1, 1, 512]),
         ]
     }
 

@@ -1,0 +1,19 @@
+-- `book_card::mark_in` reads the mark below the count.
+use borrow.Author.Tests.{lt-ltb, le-ltb}
+use native.Mathlib.Omega.{arith}
+use borrow.Author.Needs.{needs}
+use Rattle.book_card.proofs.mark_in.Statement.{statement}
+use Rattle.book_card.proofs.mark_in.Tie as tie
+
+returns : tie.Need-returns
+returns c =
+    let s = c .before .before .before in
+    rw (lt-ltb (s .args .k) (s .args .count) (c .before .if1 .taken), c .one .ensures .0)
+
+returns-2 : tie.Need-returns-2
+returns-2 c =
+    let s = c .before .before in
+    rw (le-ltb (s .args .k) (s .args .count) (c .if1 .left))
+
+pub mark-in-spec : {M : Type 1} → statement M
+mark-in-spec = tie.close (tie.spec (λ c. search needs) (λ c. search needs) (λ c. search needs) (λ c κs. search needs) returns returns-2)
