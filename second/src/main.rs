@@ -39,6 +39,7 @@ const USAGE: &str = "usage: second answer [MOST]
        second lister-input
        second book SEED COUNT
        second book-changes
+       second book-unused
        second mutations
        second exhaustive
        second masks SEED
@@ -98,6 +99,7 @@ fn run(arguments: &[&[u8]], out: &mut impl Write) -> Option<io::Result<()>> {
         [b"lister-input"] => out.write_all(&frozen::book()),
         [b"book", seed, count] => print(out, loads::books::book(seed, number(count)?)),
         [b"book-changes"] => print(out, loads::books::changes()),
+        [b"book-unused"] => print(out, loads::books::unused()),
         [b"mutations"] => print(out, loads::texts::mutations()),
         [b"exhaustive"] => out.write_all(&every::fragments()),
         [b"masks", seed] => out.write_all(&every::masks(seed)),

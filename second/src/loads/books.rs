@@ -1,6 +1,7 @@
 //! Blocks of the layout book: right ones of random cards and notes, some with
 //! numbers that no writer lets pass, and damaged ones; the lines of `block`,
-//! `block*` and `page`; whole books; and every byte of a few blocks changed.
+//! `block*` and `page`; whole books; every byte of a few blocks changed; and
+//! every unused byte of one set.
 
 use super::cards::{card_of, iter, some_iter, tile_x};
 use super::limits::{BLOCK, LENT_BYTES, LINE, NOTE, SEED};
@@ -326,11 +327,42 @@ fn changed(mut block: book::Block, at: usize) -> book::Block {
     block
 }
 
+fn line_of(block: book::Block) -> Vec<u8> {
+    [b"page ", &digits(&block)[..], b"\n"].concat()
+}
+
 /// Every byte of a few blocks changed once, as lines of the word `page`.
 pub fn changes() -> impl Iterator<Item = Vec<u8>> {
     let each = |block: book::Block| (0..block.len()).map(move |at| changed(block, at));
-    let blocks = changed_blocks().into_iter().flat_map(each);
-    blocks.map(|block| [b"page ", &digits(&block)[..], b"\n"].concat())
+    changed_blocks().into_iter().flat_map(each).map(line_of)
+}
+
+/// The note of the block of which `unused` sets every unused byte.
+const NOTE_X: &[u8] = b"tile X and a note";
+
+/// The unused bytes of the block of tile X with that note: byte 5, the ends of
+/// its four shard iters and of its replica iter, which has no mark, the slots
+/// past them, and what follows the note.
+fn unused_bytes() -> impl Iterator<Item = usize> {
+    let shard_ends = (0..4).flat_map(|k| [8 + 12 * k + 10, 8 + 12 * k + 11]);
+    let slots = (56..104).chain(104 + 9..152);
+    let after_note = 216 + NOTE_X.len()..CHECK_AT;
+    std::iter::once(5)
+        .chain(shard_ends)
+        .chain(slots)
+        .chain(after_note)
+}
+
+/// Every unused byte of a block set once and the check put right, as lines of
+/// the word `page`.
+pub fn unused() -> impl Iterator<Item = Vec<u8>> {
+    let block = block_of(&tile_x(), NOTE_X);
+    let set = move |at| {
+        let mut block = changed(block, at);
+        put_check(&mut block);
+        block
+    };
+    unused_bytes().map(set).map(line_of)
 }
 
 #[cfg(test)]
@@ -409,6 +441,22 @@ mod tests {
         let said = answers(&lines, MOST_ENTRIES);
         let refused = said.filter(|said| said.starts_with("19 0 0 0 | 0 "));
         assert_eq!(refused.count(), 5 * 512);
+    }
+
+    #[test]
+    fn unused_bytes_are_zero_before_and_refused_after() {
+        let block = block_of(&tile_x(), NOTE_X);
+        assert!(read(&block).is_ok());
+        assert!(unused_bytes().all(|at| block[at] == 0));
+        // Byte 5, two of each shard iter, four and three slots, three of the
+        // replica iter, and what a note of 17 bytes leaves of 292.
+        let count = 1 + 4 * 2 + (4 + 3) * 12 + 3 + 292 - 17;
+        let lines: Vec<Vec<u8>> = unused().collect();
+        assert_eq!(BTreeSet::from_iter(&lines).len(), count);
+        let lines = lines.concat();
+        let said = answers(&lines, MOST_ENTRIES);
+        let refused = said.filter(|said| said.starts_with("20 0 0 0 | 0 "));
+        assert_eq!(refused.count(), count);
     }
 
     #[test]
