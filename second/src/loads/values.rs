@@ -40,6 +40,9 @@ const DOUBLES: &[u64] = &[
     0xfff0_0000_0000_0000,
 ];
 
+/// How many of them are not-a-numbers.
+const NOT_NUMBERS: usize = 12;
+
 /// Kinds that are not dealt, some of which look like one when cut.
 const OTHER_KINDS: &[u64] = &[0, 1, 2, 3, 4, 9, 10, (1 << 32) + 5, (1 << 63) + 8, u64::MAX];
 
@@ -245,11 +248,11 @@ fn is_own_field(kind: u64, field: u64) -> bool {
     }
 }
 
-/// All of the patterns where they count, and one of them, each in its turn,
-/// where they are not looked at.
+/// All of the patterns where they count, and one not-a-number, each in its
+/// turn, where they are not looked at.
 fn patterns(sort: u64, own: bool, entry: u64) -> impl Iterator<Item = u64> {
     let all = if sort == 1 { SINGLES } else { DOUBLES };
-    let turn = entry as usize % all.len();
+    let turn = entry as usize % NOT_NUMBERS;
     let these = if own { all } else { &all[turn..=turn] };
     these.iter().copied()
 }
@@ -333,10 +336,16 @@ mod tests {
     fn these_are_not_numbers() {
         let single = |bits: &u64| f32::from_bits(*bits as u32);
         let double = |bits: &u64| f64::from_bits(*bits);
-        assert!(SINGLES[..12].iter().map(single).all(f32::is_nan));
-        assert!(DOUBLES[..12].iter().map(double).all(f64::is_nan));
-        assert!(SINGLES[12..].iter().map(single).all(f32::is_infinite));
-        assert!(DOUBLES[12..].iter().map(double).all(f64::is_infinite));
+        let (singles, others) = SINGLES.split_at(NOT_NUMBERS);
+        assert!(singles.iter().map(single).all(f32::is_nan));
+        assert!(others.iter().map(single).all(f32::is_infinite));
+        let (doubles, others) = DOUBLES.split_at(NOT_NUMBERS);
+        assert!(doubles.iter().map(double).all(f64::is_nan));
+        assert!(others.iter().map(double).all(f64::is_infinite));
+        for entry in 0..256 {
+            assert!(patterns(1, false, entry).all(|bits| singles.contains(&bits)));
+            assert!(patterns(2, false, entry).all(|bits| doubles.contains(&bits)));
+        }
     }
 
     fn said(lines: String) -> Vec<String> {
