@@ -298,6 +298,42 @@ module _ (a : Canonical) where
         fourth-back-inside (a .m) (pieces (a .mode)) T (a .k) 8 (c 1) (c 3) (c 4) (c 0) (c 2) h)
         (λ x. refl)
 
+    -- and both with the columns within and rows beyond them
+    pub K-plain-packed-rows-beyond : isK (a .major) ≡ true → plain (a .mode) ≡ true → columns ≡ 8 * wide → rows ≡ 2 * a .k * columns → a .length ≡ a .m * rows
+        → r .verdict ≡ Approved (elements (canonicalCard a)) (a .length) (a .length)
+    K-plain-packed-rows-beyond k s apart-columns beyond full =
+        let one : a .mode ≡ 0 = eqb-true (a .mode) 0 s in
+        let T-wide : T * 1 ≡ wide = rw one (omega arith) in
+        let es = a .m by rows ∷ (2 * a .k) by columns ∷ 8 by wide ∷ T by 1 ∷ [] in
+        by-packing digitsK (lies-K k) before after r on promise es thirdSecond thirdSecond
+        (sym beyond, (sym apart-columns, (T-wide, (refl, tt)))) (sym full)
+        (λ x h.
+        let c : ℕ → ℕ = λ i. getD (components (sizes digitsK) x) i 0 in
+        swap-inside (2 * a .k) (a .m) (c 2) (c 0) (8 ∷ T ∷ []) (c 1 ∷ c 3 ∷ [])
+        (third-inside (a .m) 8 (2 * a .k) T (c 0) (c 1) (c 2) (c 3) (its-inside (canonicalCard a) digitsK (a .length) (lies-K k) x h)))
+        (λ x. four-swapped _ _ _ _) (λ x y e. ap thirdSecond e)
+        (λ x h.
+        let c : ℕ → ℕ = λ i. getD (decoded es x) i 0 in
+        swap-inside 8 (a .m) (c 2) (c 0) ((2 * a .k) ∷ T ∷ []) (c 1 ∷ c 3 ∷ []) (third-inside (a .m) (2 * a .k) 8 T (c 0) (c 1) (c 2) (c 3) h))
+        (λ x. refl)
+
+    pub MN-packed-rows-beyond : isK (a .major) ≡ false → columns ≡ 8 * wide → rows ≡ a .k * columns → a .length ≡ a .m * rows
+        → r .verdict ≡ Approved (elements (canonicalCard a)) (a .length) (a .length)
+    MN-packed-rows-beyond k apart-columns beyond full =
+        let es = a .m by rows ∷ a .k by columns ∷ 8 by wide ∷ pieces (a .mode) by T ∷ T by 1 ∷ [] in
+        by-packing digitsMN (lies-MN k) before after r on promise es fourthSecond fourthSecond
+        (sym beyond, (sym apart-columns, (refl, (omega arith, (refl, tt))))) (sym full)
+        (λ x h.
+        let c : ℕ → ℕ = λ i. getD (components (sizes digitsMN) x) i 0 in
+        swap-inside (a .k) (a .m) (c 3) (c 0) (8 ∷ pieces (a .mode) ∷ T ∷ []) (c 4 ∷ c 1 ∷ c 2 ∷ [])
+        (fourth-inside (a .m) (pieces (a .mode)) T (a .k) 8 (c 0) (c 1) (c 2) (c 3) (c 4) (its-inside (canonicalCard a) digitsMN (a .length) (lies-MN k) x h)))
+        (λ x. five-swapped _ _ _ _ _) (λ x y e. ap fourthSecond e)
+        (λ x h.
+        let c : ℕ → ℕ = λ i. getD (decoded es x) i 0 in
+        fourth-back-inside (a .m) (pieces (a .mode)) T (a .k) 8 (c 0) (c 3) (c 4) (c 1) (c 2)
+        (swap-inside (a .m) (a .k) (c 0) (c 1) (8 ∷ pieces (a .mode) ∷ T ∷ []) (c 2 ∷ c 3 ∷ c 4 ∷ []) h))
+        (λ x. refl)
+
   -- an approved layout passed the checks, its card's own and the table's length
   approved-checks : (before after : List ℕ) (r : Reported) → CanonicalPromise a before after r → IsApproval (r .verdict)
       → (checked a ≡ Admitted) × Judged (canonicalCard a) (length before)
