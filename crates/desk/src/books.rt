@@ -1,5 +1,5 @@
 // The words of the layout book: block and page.
-use crate::layouts::card;
+use crate::cards;
 use crate::records::put_layout;
 use crate::records::put_lengths;
 use crate::records::put_marks;
@@ -9,6 +9,7 @@ use lines::lent::digest_bytes;
 use lines::numbers::byte;
 use lines::pairs;
 use lines::places;
+use lines::places::Kept;
 use lines::reply;
 use lines::reply::Reply;
 use lines::words;
@@ -32,13 +33,13 @@ fn note_of(seed: u64) -> [u8; 1024] {
 }
 
 // The block that a line asks for, in lent bytes.
-fn ask_block(numbers: &[u64; 80], below: &[bool; 80], note: &[u8], lent: &mut [u8]) -> Reply {
-    let written = storing::write_block(card(numbers, below), note, lent);
+fn ask_block(numbers: &Kept, note: &[u8], lent: &mut [u8]) -> Reply {
+    let written = storing::write_block(cards::first(numbers), note, lent);
     reply::digest_bytes(storing::answer_numbers(written), lent)
 }
 
 // block CARD, note length, seed, length
-pub fn block(numbers: &[u64; 80], below: &[bool; 80]) -> Reply {
+pub fn block(numbers: &Kept) -> Reply {
     let noted = numbers[places::NOTE_LENGTH];
     let seed = numbers[places::SEED];
     let asked = numbers[places::BLOCK_LENT];
@@ -55,7 +56,7 @@ pub fn block(numbers: &[u64; 80], below: &[bool; 80]) -> Reply {
     let length = asked as usize;
     let note = note_of(seed);
     let mut lent = [LENT; 1024];
-    ask_block(numbers, below, &note[0..note_length], &mut lent[0..length])
+    ask_block(numbers, &note[0..note_length], &mut lent[0..length])
 }
 
 // The reply to a block that was read: its answer, the card, and the note's length and digest.

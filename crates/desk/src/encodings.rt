@@ -2,11 +2,12 @@
 use canonical::Canonical;
 use lines::lent::fill;
 use lines::places;
+use lines::places::Kept;
 use lines::reply;
 use lines::reply::Reply;
 
 // The verdict that a line asks for, in entries as they are lent.
-fn ask_canonical(numbers: &[u64; 80], lent: &mut [u32]) -> Reply {
+fn ask_canonical(numbers: &Kept, lent: &mut [u32]) -> Reply {
     fill(lent);
     let asked = Canonical {
         major: numbers[0],
@@ -24,7 +25,7 @@ fn ask_canonical(numbers: &[u64; 80], lent: &mut [u32]) -> Reply {
 }
 
 // canonical major-ness mode bits m k LBO SBO length-of-m length
-pub fn canonical(numbers: &[u64; 80], lent: &mut [u32]) -> Reply {
+pub fn canonical(numbers: &Kept, lent: &mut [u32]) -> Reply {
     let asked = numbers[places::CANONICAL_LENT];
     if (lent.len() as u64) < asked {
         return reply::unknown();

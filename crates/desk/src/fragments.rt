@@ -1,15 +1,16 @@
 // The words of the subject fragment.
+use lines::places::Kept;
 use lines::reply;
 use lines::reply::Reply;
 
 // fragment kind lane register
-pub fn fragment(numbers: &[u64; 80]) -> Reply {
+pub fn fragment(numbers: &Kept) -> Reply {
     let held = fragment::held_by(numbers[0], numbers[1], numbers[2]);
     reply::plain(fragment::held_numbers(held))
 }
 
 // holder kind computation row column
-pub fn holder(numbers: &[u64; 80]) -> Reply {
+pub fn holder(numbers: &Kept) -> Reply {
     let holder = fragment::holder_of(numbers[0], numbers[1], numbers[2], numbers[3]);
     reply::plain(fragment::holder_numbers(holder))
 }

@@ -1,15 +1,17 @@
 // The program desk: questions in lines on standard input, answers in lines on standard output. It
 // reads numbers, asks the library and prints what came back. Each subject has a module of its own.
 mod books;
+mod cards;
 mod encodings;
 mod fragments;
-mod layouts;
 mod masks;
 mod notations;
+mod placements;
 mod records;
 mod swizzles;
 mod tables;
 
+use lines::places::Kept;
 use lines::print;
 use lines::reply;
 use lines::reply::Reply;
@@ -20,7 +22,7 @@ use text::input::Input;
 use text::output;
 
 // Answers a question that has all its numbers.
-fn ask(word: Word, numbers: &[u64; 80], below: &[bool; 80], lent: &mut [u32]) -> Reply {
+fn ask(word: Word, numbers: &Kept, lent: &mut [u32]) -> Reply {
     match word {
         Word::Swizzle => swizzles::swizzle(numbers),
         Word::Mode => swizzles::mode(numbers),
@@ -30,29 +32,27 @@ fn ask(word: Word, numbers: &[u64; 80], below: &[bool; 80], lent: &mut [u32]) ->
         Word::Fields => masks::fields(numbers),
         Word::Descriptor => masks::descriptor(numbers),
         Word::Mask => masks::mask(numbers),
-        Word::Place => layouts::place(numbers, below),
-        Word::Verdict => tables::verdict(numbers, below, lent),
-        Word::Owner => tables::owner(numbers, below, lent),
+        Word::Place => placements::place(numbers),
+        Word::Verdict => tables::verdict(numbers, lent),
+        Word::Owner => tables::owner(numbers, lent),
         Word::Stretch => tables::stretch(numbers, lent),
-        Word::Write => notations::write(numbers, below),
+        Word::Write => notations::write(numbers),
         Word::Canonical => encodings::canonical(numbers, lent),
-        Word::Block => books::block(numbers, below),
+        Word::Block => books::block(numbers),
         Word::Unknown => reply::unknown(),
     }
 }
 
 // Answers a line of so many bytes.
-fn answer(line: &[u8; 4096], held: usize, lent: &mut [u32]) -> Reply {
+fn answer(line: &[u8; 4096], held: usize, numbers: &mut Kept, lent: &mut [u32]) -> Reply {
     if words::is_read(line, held) {
         return notations::read(line, held);
     }
     if words::is_page(line, held) {
         return books::page(line, held);
     }
-    let mut numbers = [0u64; 80];
-    let mut below = [false; 80];
-    let word = words::question(line, held, &mut numbers, &mut below);
-    ask(word, &numbers, &below, lent)
+    let word = words::question(line, held, numbers);
+    ask(word, numbers, lent)
 }
 
 // Writes out what is finished where the next step in the input is a read, which may wait.
@@ -69,10 +69,11 @@ fn answer_whole(
     at: usize,
     line: &[u8; 4096],
     input: Input,
+    numbers: &mut Kept,
     lent: &mut [u32],
 ) -> usize {
     if input.whole & (0 < input.held) {
-        return print::put(out, at, answer(line, input.held, lent));
+        return print::put(out, at, answer(line, input.held, numbers, lent));
     }
     at
 }
@@ -85,6 +86,7 @@ const MOST_LENT: usize = 16384;
 fn answer_all(out: &mut [u8; 65536]) {
     let mut part = io::large_buffer();
     let mut line = io::buffer();
+    let mut numbers = [0u64; 375];
     let mut lent = [0u32; MOST_LENT];
     let mut input = input::start();
     let mut at = 0;
@@ -92,7 +94,7 @@ fn answer_all(out: &mut [u8; 65536]) {
     while turns > 0 {
         at = before_waiting(out, at, input);
         input = input::advance(&mut part, &mut line, input);
-        at = answer_whole(out, at, &line, input, &mut lent);
+        at = answer_whole(out, at, &line, input, &mut numbers, &mut lent);
         if input.ended {
             break;
         }

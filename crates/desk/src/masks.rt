@@ -6,6 +6,7 @@ use lines::numbers::wide;
 use lines::numbers::within;
 use lines::numbers::yes;
 use lines::places;
+use lines::places::Kept;
 use lines::reply;
 use lines::reply::Reply;
 
@@ -16,7 +17,7 @@ const MOST_LENT: u64 = 64;
 const LENT: u8 = 165;
 
 // The start counts that a line gives.
-fn counts(numbers: &[u64; 80]) -> [u8; 4] {
+fn counts(numbers: &Kept) -> [u8; 4] {
     [
         byte(numbers[places::WRITTEN + places::START_COUNTS]),
         byte(numbers[places::WRITTEN + places::START_COUNTS + 1]),
@@ -26,7 +27,7 @@ fn counts(numbers: &[u64; 80]) -> [u8; 4] {
 }
 
 // The first spans that a line gives.
-fn spans(numbers: &[u64; 80]) -> [bool; 4] {
+fn spans(numbers: &Kept) -> [bool; 4] {
     [
         numbers[places::WRITTEN + places::FIRST_SPANS] == 1,
         numbers[places::WRITTEN + places::FIRST_SPANS + 1] == 1,
@@ -36,7 +37,7 @@ fn spans(numbers: &[u64; 80]) -> [bool; 4] {
 }
 
 // The fields that a line gives.
-fn given(numbers: &[u64; 80]) -> Fields {
+fn given(numbers: &Kept) -> Fields {
     Fields {
         start_counts: counts(numbers),
         first_spans: spans(numbers),
@@ -48,7 +49,7 @@ fn given(numbers: &[u64; 80]) -> Fields {
 }
 
 // Whether counts and spans are bytes, and one-bit fields 0 or 1.
-fn are_fields(numbers: &[u64; 80]) -> bool {
+fn are_fields(numbers: &Kept) -> bool {
     within(
         numbers,
         places::WRITTEN + places::START_COUNTS,
@@ -80,7 +81,7 @@ fn shared(fields: Fields) -> [u64; 4] {
 }
 
 // fields descriptor
-pub fn fields(numbers: &[u64; 80]) -> Reply {
+pub fn fields(numbers: &Kept) -> Reply {
     let reading = descriptor::read_descriptor(numbers[0]);
     let answer = reading.answer;
     let fields = reading.fields;
@@ -95,7 +96,7 @@ pub fn fields(numbers: &[u64; 80]) -> Reply {
 }
 
 // descriptor M, with the twelve fields
-pub fn descriptor(numbers: &[u64; 80]) -> Reply {
+pub fn descriptor(numbers: &Kept) -> Reply {
     if are_fields(numbers) {
         let written = descriptor::write_descriptor(numbers[0], given(numbers));
         return reply::plain(descriptor::write_numbers(written));
@@ -104,13 +105,13 @@ pub fn descriptor(numbers: &[u64; 80]) -> Reply {
 }
 
 // The mask that a line asks for, in lent bytes.
-fn ask_mask(numbers: &[u64; 80], lent: &mut [u8]) -> Numbers {
+fn ask_mask(numbers: &Kept, lent: &mut [u8]) -> Numbers {
     let generated = mask::generate_mask(numbers[0], numbers[1], numbers[2], lent);
     mask::mask_numbers(generated)
 }
 
 // mask M N descriptor length
-pub fn mask(numbers: &[u64; 80]) -> Reply {
+pub fn mask(numbers: &Kept) -> Reply {
     let asked = numbers[places::MASK_LENT];
     if MOST_LENT < asked {
         return reply::unknown();

@@ -1,9 +1,10 @@
 // The words of the layout notation: read and write.
-use crate::layouts::card;
+use crate::cards;
 use crate::records::put_layout;
 use crate::records::put_marks;
 use answers::Numbers;
 use lines::places;
+use lines::places::Kept;
 use lines::reply;
 use lines::reply::Reply;
 use lines::words;
@@ -47,18 +48,18 @@ pub fn read(line: &[u8], held: usize) -> Reply {
 }
 
 // The text that a line asks for, in lent bytes.
-fn ask_write(numbers: &[u64; 80], below: &[bool; 80], lent: &mut [u8]) -> Reply {
-    let written = writing::write(card(numbers, below), lent);
+fn ask_write(numbers: &Kept, lent: &mut [u8]) -> Reply {
+    let written = writing::write(cards::first(numbers), lent);
     reply::written(writing::write_numbers(written), lent)
 }
 
 // write shard, replica, offsets, length
-pub fn write(numbers: &[u64; 80], below: &[bool; 80]) -> Reply {
+pub fn write(numbers: &Kept) -> Reply {
     let asked = numbers[places::WRITE_LENT];
     if MOST_LENT < asked {
         return reply::unknown();
     }
     let length = asked as usize;
     let mut lent = [LENT; 1024];
-    ask_write(numbers, below, &mut lent[0..length])
+    ask_write(numbers, &mut lent[0..length])
 }

@@ -1,48 +1,49 @@
 // The words on the owner table of a card: verdict, owner, stretch. One buffer is lent for all lines, no
 // more of it than a line asks for, so nothing is cleared; what it is long is the program's own limit.
-use crate::layouts::card;
+use crate::cards;
 use lines::lent::fill;
 use lines::numbers::eight;
 use lines::places;
+use lines::places::Kept;
 use lines::reply;
 use lines::reply::Reply;
 
 // The verdict that a line asks for, in entries as they are lent.
-fn ask_verdict(numbers: &[u64; 80], below: &[bool; 80], lent: &mut [u32]) -> Reply {
+fn ask_verdict(numbers: &Kept, lent: &mut [u32]) -> Reply {
     fill(lent);
-    let verdict = verdict::judge(card(numbers, below), lent);
+    let verdict = verdict::judge(cards::first(numbers), lent);
     reply::digest(judgement::verdict_numbers(verdict), lent)
 }
 
 // verdict CARD length
-pub fn verdict(numbers: &[u64; 80], below: &[bool; 80], lent: &mut [u32]) -> Reply {
+pub fn verdict(numbers: &Kept, lent: &mut [u32]) -> Reply {
     let asked = numbers[places::VERDICT_LENT];
     if (lent.len() as u64) < asked {
         return reply::unknown();
     }
     let length = asked as usize;
-    ask_verdict(numbers, below, &mut lent[..length])
+    ask_verdict(numbers, &mut lent[..length])
 }
 
 // The owner that a line asks for, in entries as they are lent.
-fn ask_owner(numbers: &[u64; 80], below: &[bool; 80], lent: &mut [u32]) -> Reply {
+fn ask_owner(numbers: &Kept, lent: &mut [u32]) -> Reply {
     fill(lent);
-    let owner = verdict::owner_of(card(numbers, below), eight(numbers, places::CELL), lent);
+    let owner = verdict::owner_of(cards::first(numbers), eight(numbers, places::CELL), lent);
     reply::digest(judgement::owner_numbers(owner), lent)
 }
 
 // owner CARD eight coordinates, length
-pub fn owner(numbers: &[u64; 80], below: &[bool; 80], lent: &mut [u32]) -> Reply {
+pub fn owner(numbers: &Kept, lent: &mut [u32]) -> Reply {
     let asked = numbers[places::OWNER_LENT];
     if (lent.len() as u64) < asked {
         return reply::unknown();
     }
     let length = asked as usize;
-    ask_owner(numbers, below, &mut lent[..length])
+    ask_owner(numbers, &mut lent[..length])
 }
 
 // The answer of a stretch, and the digest of the part that is handed back.
-fn show_stretch(numbers: &[u64; 80], lent: &[u32]) -> Reply {
+fn show_stretch(numbers: &Kept, lent: &[u32]) -> Reply {
     let lengths = eight(numbers, places::STRETCH_LENGTHS);
     let axis = numbers[places::STRETCH_AXIS];
     let coordinates = eight(numbers, places::STRETCH_COORDINATES);
@@ -52,13 +53,13 @@ fn show_stretch(numbers: &[u64; 80], lent: &[u32]) -> Reply {
 }
 
 // The stretch that a line asks for, in entries as they are lent.
-fn ask_stretch(numbers: &[u64; 80], lent: &mut [u32]) -> Reply {
+fn ask_stretch(numbers: &Kept, lent: &mut [u32]) -> Reply {
     fill(lent);
     show_stretch(numbers, lent)
 }
 
 // stretch eight lengths, axis, eight coordinates, length
-pub fn stretch(numbers: &[u64; 80], lent: &mut [u32]) -> Reply {
+pub fn stretch(numbers: &Kept, lent: &mut [u32]) -> Reply {
     let asked = numbers[places::STRETCH_LENT];
     if (lent.len() as u64) < asked {
         return reply::unknown();

@@ -1,4 +1,8 @@
-// Where the numbers of a question stand on its line, counted from 0.
+// Where the numbers of a question stand on its line, counted from 0, and which of them may have a sign.
+
+// The numbers of a line, each in the form that its place has: two's complement where a sign may stand. The
+// longest line has two cards, a count, 256 numbers and two lengths; the last two places keep the marks.
+pub type Kept = [u64; 375];
 
 // A list of iters begins with its count; then come extent, stride and axis of each. These are the
 // places of the first iter, and how many numbers further on the next one stands.
@@ -21,12 +25,14 @@ pub const LENGTHS: usize = OFFSETS + 8;
 
 pub const SWIZZLE: usize = LENGTHS + 8;
 
-// How many numbers a card has.
+// How many numbers a card has, and where the first of a line begins.
 pub const CARD: usize = SWIZZLE + 3;
 
-// The reuse marks of a card: the first number of a line whose word has a star, set apart behind all
-// others, so that the card begins the line as it does without a star; 0 there is no mark.
-pub const MARKS: usize = 79;
+pub const FIRST: usize = 0;
+
+// The reuse marks of the first card and, after them, of the second: the first numbers of a line whose word has
+// a star, kept behind all others, so that the card begins the line as it does without a star; 0 there is no mark.
+pub const MARKS: usize = 373;
 
 // After the card of `place`: the shape and the coordinates, each a count and eight numbers, and how
 // much memory is lent.
@@ -101,3 +107,27 @@ pub const FIELDS: usize = SHIFT + 1;
 
 // Where the first field stands on the line of `descriptor`, after M.
 pub const WRITTEN: usize = 1;
+
+// Whether a number of a list of iters is a stride.
+fn is_stride(i: usize) -> bool {
+    i % ITER == STRIDE
+}
+
+// Whether a number of a card may have a sign: a stride or an offset.
+fn is_signed(i: usize) -> bool {
+    if i < REPLICA {
+        return is_stride(i - SHARD);
+    }
+    if i < OFFSETS {
+        return is_stride(i - REPLICA);
+    }
+    i < LENGTHS
+}
+
+// Whether a number may have a sign on a line that begins with so many cards, one or two of them.
+pub fn may_be_below(place: usize, cards: usize) -> bool {
+    if place < CARD {
+        return (0 < cards) & is_signed(place);
+    }
+    (1 < cards) & is_signed(place - CARD)
+}

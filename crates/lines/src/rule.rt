@@ -1,171 +1,166 @@
-// The rule of a line: a word and then decimal numbers, parted by single spaces; a number may have a
-// minus, which not every place allows.
+// The rule of a line: a word and then decimal numbers, parted by single spaces. A number is judged at
+// its place and kept in one form there: as it is, and where a sign may stand in two's complement.
+use crate::places;
+use crate::places::Kept;
+use std::num::wrapping_sub_u64;
 use text::decimal;
-use text::decimal::Digit;
 use text::decimal::Extended;
+ghost use Prim.Native.Nat.{_≤_};
 
-// The most numbers that a line may have; no question has more.
-const MOST_NUMBERS: usize = 80;
-
-// What a line is: a question, with the end of its word and the count of its numbers, or none.
+// How far the numbers of a line are read: where the last of them ends, and the place after its own.
 pub enum Line {
-    Question(usize, usize),
+    Read(usize, usize),
     Malformed,
 }
 
-// How far a line is read: whether no byte broke the rule, where the word ended, how many numbers
-// have begun, and of the last of them whether it has a minus, whether it has a digit and its value
-// so far.
-struct Reading {
+// What stands where a number should: whether one does, whether it has a minus, its value without it,
+// and where it ends.
+struct Spelled {
     good: bool,
-    word: usize,
-    count: usize,
     minus: bool,
-    digit: bool,
     value: u64,
+    end: usize,
 }
 
-// The farthest number below zero, without its minus.
-const MOST_BELOW: u64 = 9223372036854775808;
-
-// Whether the last number may end here: it has a digit, and with a minus it is neither 0 nor too far.
-fn ends(r: Reading) -> bool {
-    r.digit & !(r.minus & ((r.value == 0) | (MOST_BELOW < r.value)))
+// Digits up to a space or the end of the line: whether nothing else stands there and the number is
+// below 2^64, their value, and where they end.
+struct Digits {
+    good: bool,
+    value: u64,
+    end: usize,
 }
 
-// A space begins a number. It ends the word, or a number that has a digit.
-fn space(r: Reading, at: usize) -> Reading {
-    let count = r.count;
-    if count == 0 {
-        return Reading {
-            good: r.good,
-            word: at,
-            count: 1,
-            minus: false,
-            digit: false,
-            value: 0,
-        };
-    }
-    if count < MOST_NUMBERS {
-        return Reading {
-            good: r.good & ends(r),
-            word: r.word,
-            count: count + 1,
-            minus: false,
-            digit: false,
-            value: 0,
-        };
-    }
-    broken(r)
+// The form in which a number is kept, if its place admits it.
+enum Form {
+    Number(u64),
+    Refused,
 }
 
-// One more digit of a number: none follows a zero that begins it, and the number is below 2^64.
-fn digit(r: Reading, d: u64) -> Reading {
-    let value = r.value;
-    let extended = decimal::extend(value, d);
-    let Extended::Number(longer) = extended else {
-        return broken(r);
-    };
-    Reading {
-        good: r.good & !(r.digit & (value == 0)),
-        word: r.word,
-        count: r.count,
-        minus: r.minus,
-        digit: true,
-        value: longer,
-    }
+// Where the next number begins, at its space.
+enum Next {
+    At(usize),
+    Malformed,
 }
 
-// A minus begins a number.
-fn minus(r: Reading) -> Reading {
-    if r.minus | r.digit {
-        return broken(r);
-    }
-    Reading {
-        good: r.good,
-        word: r.word,
-        count: r.count,
-        minus: true,
-        digit: false,
-        value: r.value,
-    }
-}
+// From here on a number is past every signed one; with a minus it is the farthest below zero.
+const HALF: u64 = 9223372036854775808;
 
-// The line is no question, whatever follows.
-fn broken(r: Reading) -> Reading {
-    Reading {
-        good: false,
-        word: r.word,
-        count: r.count,
-        minus: r.minus,
-        digit: r.digit,
-        value: r.value,
-    }
-}
-
-// One more byte, at this place of the line. The word may hold any byte but a space: it is compared
-// as a whole.
-fn step(r: Reading, b: u8, at: usize) -> Reading {
-    if b == b' ' {
-        return space(r, at);
-    }
-    if r.count == 0 {
-        return r;
-    }
-    if b == b'-' {
-        return minus(r);
-    }
-    let read = decimal::digit_of(b);
-    let Digit::Value(d) = read else {
-        return broken(r);
-    };
-    digit(r, d)
-}
-
-// Keeps the value so far of the last number begun, and whether it has a minus.
-fn keep(numbers: &mut [u64; 80], below: &mut [bool; 80], r: Reading) {
-    let count = r.count;
-    let value = r.value;
-    let minus = r.minus;
-    if 1 <= count {
-        if count <= MOST_NUMBERS {
-            numbers[count - 1] = value;
-            below[count - 1] = minus;
+// The digits from a place of a line on.
+fn read_digits(line: &[u8; 4096], held: usize, from: usize) -> Digits {
+    let mut value: u64 = 0;
+    let mut i = from;
+    while i < held {
+        let b = line[i % 4096];
+        if b == b' ' {
+            break;
         }
+        let longer = decimal::with_byte(value, b);
+        let Extended::Number(n) = longer else {
+            return Digits {
+                good: false,
+                value,
+                end: i,
+            };
+        };
+        value = n;
+        i += 1;
+    }
+    Digits {
+        good: true,
+        value,
+        end: i,
     }
 }
 
-// What the line is once all its bytes are read.
-fn finished(r: Reading, length: usize) -> Line {
-    if r.count == 0 {
-        return Line::Question(length, 0);
+// The number that begins at a place of a line. It has a digit; a zero that begins it stands alone, with
+// neither a digit after it nor a minus before it; with a minus the number is not too far below zero.
+fn read_number(line: &[u8; 4096], held: usize, from: usize) -> Spelled
+    requires { ⌜ from ≤ 4096 ⌝ }
+{
+    let minus = line[from % 4096] == b'-';
+    let first = if minus { from + 1 } else { from };
+    let read = read_digits(line, held, first);
+    let value = read.value;
+    let end = read.end;
+    let zero = (line[first % 4096] == b'0') & (from + 1 < end);
+    Spelled {
+        good: read.good & (first < end) & !zero & !(minus & (HALF < value)),
+        minus,
+        value,
+        end,
     }
-    if r.good & ends(r) {
-        return Line::Question(r.word, r.count);
-    }
-    Line::Malformed
 }
 
-// Reads a line of so many bytes, at most 4,096: its numbers are kept in their order.
+// The form of a number at a place of a line that begins with so many cards. Where a sign may stand, a
+// number without a minus from 2^63 on becomes 2^63 - 1, which is past every limit too.
+fn judge(value: u64, minus: bool, place: usize, cards: usize) -> Form {
+    if !minus & (value < HALF) {
+        return Form::Number(value);
+    }
+    if places::may_be_below(place, cards) {
+        return Form::Number(if minus {
+            wrapping_sub_u64(0, value)
+        } else {
+            HALF - 1
+        });
+    }
+    if minus {
+        return Form::Refused;
+    }
+    Form::Number(value)
+}
+
+// Keeps the number that follows a space, at a place of its own.
+fn keep(
+    line: &[u8; 4096],
+    held: usize,
+    space: usize,
+    cards: usize,
+    place: usize,
+    numbers: &mut Kept,
+) -> Next
+    requires { ⌜ space ≤ 4095 ⌝ }
+{
+    let number = read_number(line, held, space + 1);
+    if !number.good {
+        return Next::Malformed;
+    }
+    let kept = judge(number.value, number.minus, place, cards);
+    let Form::Number(n) = kept else {
+        return Next::Malformed;
+    };
+    if numbers.len() <= place {
+        return Next::Malformed;
+    }
+    numbers[place] = n;
+    Next::At(number.end)
+}
+
+// Reads the numbers of a line of so many bytes, which begins with so many cards, from the space at a
+// place of it on: they are kept in their order from a place of their own up to an end.
 pub fn read(
     line: &[u8; 4096],
     held: usize,
-    numbers: &mut [u64; 80],
-    below: &mut [bool; 80],
-) -> Line {
-    let mut r = Reading {
-        good: true,
-        word: 0,
-        count: 0,
-        minus: false,
-        digit: false,
-        value: 0,
-    };
-    let mut i = 0;
-    while i < held {
-        r = step(r, line[i % 4096], i);
-        keep(numbers, below, r);
-        i += 1;
+    from: usize,
+    cards: usize,
+    first: usize,
+    end: usize,
+    numbers: &mut Kept,
+) -> Line
+    requires { ⌜ held ≤ 4096 ⌝ }
+{
+    let mut at = from;
+    let mut place = first;
+    while place < end {
+        if held <= at {
+            break;
+        }
+        let next = keep(line, held, at, cards, place, numbers);
+        let Next::At(space) = next else {
+            return Line::Malformed;
+        };
+        at = space;
+        place += 1;
     }
-    finished(r, held)
+    Line::Read(at, place)
 }

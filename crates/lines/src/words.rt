@@ -1,7 +1,9 @@
 // The words that are questions, and what a line asks.
 use crate::places;
+use crate::places::Kept;
 use crate::rule;
 use crate::rule::Line;
+ghost use Prim.Native.Nat.{_≤_};
 
 // What a word with marks ends in, and the largest number of marks: bit k for shard iter k.
 const STAR: u8 = 42;
@@ -124,85 +126,54 @@ fn wanted(word: Word) -> usize {
     }
 }
 
-// Whether the question of a word begins with a card, or with the first numbers of one.
-fn has_card(word: Word) -> bool {
+// With how many cards the question of a word begins; `write` has the first numbers of one.
+fn cards(word: Word) -> usize
+    ensures { λ r. ⌜ r ≤ 2 ⌝ }
+{
     match word {
-        Word::Place | Word::Verdict | Word::Owner | Word::Write | Word::Block => true,
-        _ => false,
+        Word::Place | Word::Verdict | Word::Owner | Word::Write | Word::Block => 1,
+        _ => 0,
     }
 }
 
-// Whether a number of a list of iters is a stride.
-fn is_stride(i: usize) -> bool {
-    i % places::ITER == places::STRIDE
-}
-
-// Whether a number of a card may have a minus: a stride or an offset.
-fn may_be_below(i: usize) -> bool {
-    if i < places::REPLICA {
-        return is_stride(i - places::SHARD);
-    }
-    if i < places::OFFSETS {
-        return is_stride(i - places::REPLICA);
-    }
-    i < places::LENGTHS
-}
-
-// Whether each number with a minus may have one.
-fn minus_allowed(below: &[bool; 80], count: usize, card: bool) -> bool {
-    let mut i = 0;
-    while i < count {
-        if below[i % 80] {
-            if !(card & may_be_below(i)) {
-                return false;
-            }
-        }
-        i += 1;
-    }
-    true
-}
-
-// What a word with so many numbers asks.
-fn asked(word: Word, count: usize, below: &[bool; 80]) -> Word {
-    if count != wanted(word) {
+// What a word asks whose numbers begin at a place of the line.
+fn asked(word: Word, line: &[u8; 4096], held: usize, from: usize, numbers: &mut Kept) -> Word
+    requires { ⌜ held ≤ 4096 ⌝ }
+{
+    let count = wanted(word);
+    let read = rule::read(line, held, from, cards(word), 0, count, numbers);
+    let Line::Read(at, read_count) = read else {
+        return Word::Unknown;
+    };
+    if (at < held) | (read_count != count) {
         return Word::Unknown;
     }
-    if minus_allowed(below, count, has_card(word)) {
-        return word;
-    }
-    Word::Unknown
+    word
 }
 
-// Sets the first number of a line apart, behind all others.
-fn set_marks_apart(numbers: &mut [u64; 80], below: &mut [bool; 80]) {
-    let marks = numbers[0];
-    let mut i: usize = 0;
-    while i < places::MARKS {
-        let number = numbers[i + 1];
-        let minus = below[i + 1];
-        numbers[i] = number;
-        below[i] = minus;
-        i += 1;
-    }
-    numbers[places::MARKS] = marks;
-    below[places::MARKS] = false;
-}
-
-// What a word with a star asks: the marks come first, and then it is as without one.
+// What a word with a star asks: the marks of each card come first, and then it is as without one.
 fn asked_with_marks(
     word: Word,
-    count: usize,
-    numbers: &mut [u64; 80],
-    below: &mut [bool; 80],
-) -> Word {
-    if count == 0 {
+    line: &[u8; 4096],
+    held: usize,
+    from: usize,
+    numbers: &mut Kept,
+) -> Word
+    requires { ⌜ held ≤ 4096 ⌝ }
+{
+    let marked = cards(word);
+    if marked == 0 {
         return Word::Unknown;
     }
-    if !has_card(word) | below[0] | (MOST_MARKS < numbers[0]) {
+    let end = places::MARKS + marked;
+    let read = rule::read(line, held, from, 0, places::MARKS, end, numbers);
+    let Line::Read(at, _) = read else {
+        return Word::Unknown;
+    };
+    if MOST_MARKS < numbers[places::MARKS] {
         return Word::Unknown;
     }
-    set_marks_apart(numbers, below);
-    asked(word, count - 1, below)
+    asked(word, line, held, at, numbers)
 }
 
 // How long a word is that a text follows, with its space, and the most bytes of a text.
@@ -230,29 +201,31 @@ pub fn is_page(line: &[u8; 4096], held: usize) -> bool {
     has_text(line, held, b"page ", MOST_DIGITS)
 }
 
-// What a line of so many bytes asks: a word with all its numbers, which are kept in
-// their order, the marks of a star set apart behind them.
-pub fn question(
-    line: &[u8; 4096],
-    held: usize,
-    numbers: &mut [u64; 80],
-    below: &mut [bool; 80],
-) -> Word {
+// Where the word of a line ends: at its first space, or with the line.
+fn word_end(line: &[u8; 4096], held: usize) -> usize {
+    let mut i = 0;
+    while i < held {
+        if line[i % 4096] == b' ' {
+            return i;
+        }
+        i += 1;
+    }
+    held
+}
+
+// What a line of so many bytes asks: a word with all its numbers, which are kept in their order. The word
+// may hold any byte but a space: it is compared as a whole.
+pub fn question(line: &[u8; 4096], held: usize, numbers: &mut Kept) -> Word {
     if line.len() < held {
         return Word::Unknown;
     }
-    let read = rule::read(line, held, numbers, below);
-    let Line::Question(end, count) = read else {
-        return Word::Unknown;
-    };
+    let end = word_end(line, held);
     if end == 0 {
         return Word::Unknown;
     }
-    if line.len() < end {
-        return Word::Unknown;
+    numbers[places::MARKS] = 0;
+    if line[(end - 1) % 4096] == STAR {
+        return asked_with_marks(word_of(line, end - 1), line, held, end, numbers);
     }
-    if line[end - 1] == STAR {
-        return asked_with_marks(word_of(line, end - 1), count, numbers, below);
-    }
-    asked(word_of(line, end), count, below)
+    asked(word_of(line, end), line, held, end, numbers)
 }

@@ -7,18 +7,18 @@ use Rattle.desk.proofs.answer_all.Statement.{statement}
 use Rattle.desk.proofs.answer_all.Tie as tie
 
 abbrev Inv-loop : tie.InvT-loop
-Inv-loop out₀ part₀ line₀ lent₀ input₀ at₀ turns₀ out part line lent input at turns = length lent ≡ 16384
+Inv-loop out₀ part₀ line₀ numbers₀ lent₀ input₀ at₀ turns₀ out part line numbers lent input at turns = length lent ≡ 16384
 
 abbrev μ-loop : tie.MeasureT-loop
-μ-loop out₀ part₀ line₀ lent₀ input₀ at₀ turns₀ out part line lent input at turns = turns
+μ-loop out₀ part₀ line₀ numbers₀ lent₀ input₀ at₀ turns₀ out part line numbers lent input at turns = turns
 
 slice-aggregate-answer-whole : tie.Need-slice-aggregate-answer-whole Inv-loop μ-loop
-slice-aggregate-answer-whole c = sym (c .before .before .before .before .before .before .before .before .before .loop .inv)
+slice-aggregate-answer-whole c = sym (c .before .before .before .before .before .before .before .before .before .before .loop .inv)
 
 loop-again : tie.Need-loop-again Inv-loop μ-loop
 loop-again c =
     let w = c .before .before in
-    w .answer-whole .kept .1 .1 .1 .1 .0 ∙ w .before .before .before .before .before .before .before .before .before .before .loop .inv
+    w .answer-whole .kept .1 .1 .1 .1 .1 .0 ∙ w .before .before .before .before .before .before .before .before .before .before .before .loop .inv
 
 pub answer-all-spec : {M : Type 1} → statement M
 answer-all-spec =

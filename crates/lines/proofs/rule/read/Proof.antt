@@ -1,4 +1,4 @@
--- `lines::rule::read` is safe and ends: the bytes left fall by one a turn.
+-- `lines::rule::read` is safe and ends: the places left fall by one a turn.
 use Prim.Native.Nat.{_-_}
 use native.Mathlib.Omega.{arith}
 use borrow.Author.Needs.{needs}
@@ -6,13 +6,13 @@ use Rattle.lines.proofs.rule.read.Statement.{statement}
 use Rattle.lines.proofs.rule.read.Tie as tie
 
 abbrev Inv-loop : tie.InvT-loop
-Inv-loop line held numbers₀ below₀ r₀ i₀ numbers below r i = Unit
+Inv-loop line held from cards first end numbers₀ at₀ place₀ numbers at place = Unit
 
 abbrev μ-loop : tie.MeasureT-loop
-μ-loop line held numbers₀ below₀ r₀ i₀ numbers below r i = held - i
+μ-loop line held from cards first end numbers₀ at₀ place₀ numbers at place = end - place
 
 pub read-spec : {M : Type 1} → statement M
 read-spec =
     tie.close
-    (tie.spec Inv-loop μ-loop (λ c. search needs) (λ c. omega arith) (λ c κs. search needs) (λ c κs. search needs) (λ c. omega arith)
-    (λ c. omega arith) (λ c. search needs) (λ c κs. search needs) (λ c. search needs))
+    (tie.spec Inv-loop μ-loop (λ c. search needs) (λ c κs. search needs) (λ c. search needs) (λ c. search needs) (λ c. search needs)
+    (λ c. omega arith) (λ c. omega arith) (λ c. search needs) (λ c. search needs) (λ c. search needs))

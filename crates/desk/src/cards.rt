@@ -1,0 +1,13 @@
+// The card of a line, with which the words on layouts begin: the card that 57 numbers and the marks are, by the
+// function that makes a card for C too.
+use card::Card;
+use lines::numbers;
+use lines::places;
+use lines::places::Kept;
+
+// The first card of a line, and its marks. What `write` does not give of one, the lengths and the swizzle, is
+// whatever stands there: its answer does not go by them.
+pub fn first(line: &Kept) -> Card {
+    let given = numbers::card(line, places::FIRST);
+    c_card::card(&given, line[places::MARKS])
+}
