@@ -1,10 +1,12 @@
-/* urszovely.h: tile layouts, swizzles, banks, warp fragments, zero-column masks and the layout book, answered by a proved library. C99 and C++.
+/* urszovely.h: tile layouts, swizzles, banks, warp fragments, zero-column masks, the layout book and move plans, answered by a proved
+ * library. C99 and C++.
  *
  * Every question takes any numbers and answers four: answer[0] is 0 or the number of a refusal, answer[1] to answer[3] are its
  * details, 0 unless said. Pointers are valid, not NULL and do not overlap; nothing else is asked of a caller. A refusal touches
- * nothing that was lent, but that 7 and 8 of verdict, owner and canonical leave the first `cells` entries of the table 0, and that a record
- * is filled with zeros: the fields of urszovely_fields, the card's first 46 numbers and the marks of urszovely_read, the encodings of
- * urszovely_canonical, the card of urszovely_canonical_card, and the card, the marks and the note's place of urszovely_page.
+ * nothing that was lent, but that 7 and 8 of verdict, owner and canonical leave the first `cells` entries of the table 0, that most refusals
+ * of carry and plan write the cells of both tables, as said there, and that a record is filled with zeros: the fields of urszovely_fields, the
+ * card's first 46 numbers and the marks of urszovely_read, the encodings of urszovely_canonical, the card of urszovely_canonical_card, and the
+ * card, the marks and the note's place of urszovely_page.
  *
  * Limits: extents, lengths, elements and cells 1 to 65,536, copies at most 64, strides and offsets -65,536 to 65,535.
  *
@@ -26,14 +28,14 @@ enum { URSZOVELY_CARD = 57 };
 enum urszovely_refusal {
     URSZOVELY_APPROVED = 0,
     URSZOVELY_COUNTS = 1,      /* shard or replica iter count outside limits */
-    URSZOVELY_LIMITS = 2,      /* an extent, stride or offset outside limits */
+    URSZOVELY_LIMITS = 2,      /* an extent, stride or offset outside limits, or a reuse mark where a plan is asked of */
     URSZOVELY_AXIS = 3,        /* an axis above 7 */
-    URSZOVELY_SPACE = 4,       /* a length outside limits, or too many cells */
+    URSZOVELY_SPACE = 4,       /* a length outside limits, too many cells, or two cards of two spaces */
     URSZOVELY_TOO_MANY = 5,    /* too many elements or copies */
     URSZOVELY_SWIZZLE = 6,     /* swizzle numbers, bits or mode not allowed */
     URSZOVELY_OUTSIDE = 7,     /* a copy lies outside the space: flat, axis */
     URSZOVELY_SHARED = 8,      /* two elements that are not one share a cell: x, y, cell */
-    URSZOVELY_SHAPE = 9,       /* shape not admitted */
+    URSZOVELY_SHAPE = 9,       /* shape not admitted, or two cards of unequally many elements */
     URSZOVELY_COORDINATE = 10, /* a coordinate outside its dimension, or an address of 2^32 or more */
     URSZOVELY_TOO_SHORT = 11,  /* lent memory too short: the length needed */
     URSZOVELY_CELL = 12,       /* asked cell coordinate outside the space: axis */
@@ -45,7 +47,9 @@ enum urszovely_refusal {
     URSZOVELY_NOTATION = 18,   /* a text that is not correct: the bytes of its longest beginning that some correct text also has */
     URSZOVELY_WRONG_CHECK = 19, /* a block of the layout book whose check is wrong */
     URSZOVELY_UNUSED = 20,     /* a note of more than 292 bytes, or an unused byte of a block that is not zero */
-    URSZOVELY_CANONICAL = 22   /* major-ness, m, k or a byte stride of a canonical layout not allowed */
+    URSZOVELY_PLAN = 21,       /* a plan with a copy outside: its index plus 1; or one that ends wrongly: 0, the first wrong cell */
+    URSZOVELY_CANONICAL = 22,  /* major-ness, m, k or a byte stride of a canonical layout not allowed */
+    URSZOVELY_OVERLAP = 23     /* two cards occupy one cell: the smallest such cell */
 };
 
 /* Major-ness and mode. A mode is not the layout type of a shared-memory descriptor, which counts the other way: there 1 is 128B, 2 is 64B
@@ -138,20 +142,40 @@ void urszovely_block(const uint64_t card[57], uint64_t marks, const uint8_t *not
  * marks. The note is not copied: note has its first byte in the block, 216, and its length. Refused, card, marks and note are zeros. */
 void urszovely_page(const uint8_t *block, size_t length, uint64_t card[57], uint64_t marks[1], uint64_t note[2], uint64_t answer[4]);
 
+/* A move plan is a list of copies in the one space of two cards, two numbers a copy, from cell and to cell. Checked: each occupied cell of
+ * the first card begins with its owner and every other cell with nothing, the copies are run in order, and at 0 every occupied cell of the
+ * second card then holds its owner. Copying from a cell that holds nothing is allowed. Or 4, also where the lengths of the two cards differ;
+ * 11 with the cells where a table is shorter; the refusals of the first card's verdict, then those of the second's, with their details; 2 for
+ * a reuse mark on either card; 9 for unequally many elements; 21 with the index plus 1 of the first copy that names a cell outside, an odd
+ * number left over being such a copy too; 21 with 0 and the first wrong cell.
+ *
+ * At 0, and at 21 with 0, the cells of the first table are what the copies left, those of the second its card's owners, each plus 1, or 0 for
+ * nobody. 4 and 11 touch nothing. Any other refusal leaves the cells of both tables 0: 1, 2, 3, 5, 6 and 17 too, at which the verdict
+ * touches nothing. Entries past the cells stay in both tables, always. */
+void urszovely_carry(const uint64_t first_card[57], uint64_t first_marks, const uint64_t second_card[57], uint64_t second_marks, const uint64_t *plan, size_t plan_length, uint32_t *first, size_t first_length, uint32_t *second, size_t second_length, uint64_t answer[4]);
+
+/* And written: for each occupied cell of the second card, rising, a copy from the smallest cell of the first with that owner. 0 with the
+ * numbers written, later ones stay, and both tables filled as by the verdict on their cards; or the refusals above as far as 9, then 23 with the
+ * smallest cell that both cards occupy, 11 with twice the occupied cells of the second where plan_length is less. What is written is accepted.
+ *
+ * 4, and 11 for a table, touch nothing. Any other refusal, 23 and 11 for the plan too, leaves the cells of both tables 0. The plan's memory is
+ * untouched by every refusal, and entries past the cells stay in both tables, always. */
+void urszovely_plan(const uint64_t first_card[57], uint64_t first_marks, const uint64_t second_card[57], uint64_t second_marks, uint64_t *plan, size_t plan_length, uint32_t *first, size_t first_length, uint32_t *second, size_t second_length, uint64_t answer[4]);
+
 /* A refusal's number in words. */
 static inline const char *urszovely_refusal_text(uint64_t number)
 {
     switch (number) {
     case 0: return "approved";
     case 1: return "shard or replica iter count outside limits";
-    case 2: return "an extent, stride or offset outside limits";
+    case 2: return "an extent, stride or offset outside limits, or a reuse mark where a plan is asked of";
     case 3: return "an axis above 7";
-    case 4: return "a length outside limits, or too many cells";
+    case 4: return "a length outside limits, too many cells, or two cards of two spaces";
     case 5: return "too many elements or copies";
     case 6: return "swizzle numbers, bits or mode not allowed";
     case 7: return "a copy lies outside the space";
     case 8: return "two elements share a cell";
-    case 9: return "shape not admitted";
+    case 9: return "shape not admitted, or two cards of unequally many elements";
     case 10: return "a coordinate outside its dimension, or an address of 2^32 or more";
     case 11: return "lent memory too short";
     case 12: return "asked cell coordinate outside the space";
@@ -163,7 +187,9 @@ static inline const char *urszovely_refusal_text(uint64_t number)
     case 18: return "a text that is not correct in the layout notation";
     case 19: return "a block of the layout book whose check is wrong";
     case 20: return "a note of more than 292 bytes, or an unused byte of a block that is not zero";
+    case 21: return "a plan with a copy outside, or one that ends wrongly";
     case 22: return "major-ness, m, k or a byte stride of a canonical layout not allowed";
+    case 23: return "two cards occupy one cell";
     default: return "no refusal";
     }
 }

@@ -6,10 +6,14 @@ long read(int file, void *bytes, size_t length);
 long write(int file, const void *bytes, size_t length);
 
 /* the program's own limits; another program over this file may lend longer tables */
-enum { CARD = URSZOVELY_CARD, MOST_LINE = 4096, MOST_NUMBERS = 80, MOST_LENT = 64, LAYOUT = 46, MOST_TEXT = 1024 };
+enum { CARD = URSZOVELY_CARD, MOST_LINE = 4096, MOST_LENT = 64, LAYOUT = 46, MOST_TEXT = 1024, MOST_COUNT = 256 };
 #ifndef MOST_TABLE
 #define MOST_TABLE 16384
 #endif
+#define MOST_PLAN (2 * MOST_TABLE)
+
+/* the longest line of numbers: the marks of two cards, the cards, a plan after its count, two lengths */
+enum { PAIR = 2 * CARD, MOST_NUMBERS = 2 + PAIR + 1 + MOST_COUNT + 2 };
 
 /* input and output: what is finished is written out before the next read */
 static char in[65536], out[131072];
@@ -62,7 +66,7 @@ static size_t line_length;
 static const char *word;
 static size_t word_length;
 static uint64_t numbers[MOST_NUMBERS];
-static uint64_t marks;
+static uint64_t marks[2];
 static int signs[MOST_NUMBERS];
 static int count;
 
@@ -108,19 +112,24 @@ static int is(const char *name)
     return !name[i];
 }
 
-/* the marks of a word with a star: the first number, and then the line is as without one */
+/* the marks of a word with a star, one number for each of its cards: the first numbers, and then the line is as without them */
 static int take_marks(void)
 {
-    int i;
-    marks = 0;
+    int cards = 1, i;
+    marks[0] = marks[1] = 0;
     if (!word_length || word[word_length - 1] != '*') return 1;
     word_length--;
-    if (!(is("verdict") || is("owner") || is("place") || is("write") || is("block")) || !count || signs[0] || numbers[0] > 255) return 0;
-    marks = numbers[0];
-    count--;
+    if (is("carry") || is("plan")) cards = 2;
+    else if (!(is("verdict") || is("owner") || is("place") || is("write") || is("block"))) return 0;
+    if (count < cards) return 0;
+    for (i = 0; i < cards; i++) {
+        if (signs[i] || numbers[i] > 255) return 0;
+        marks[i] = numbers[i];
+    }
+    count -= cards;
     for (i = 0; i < count; i++) {
-        numbers[i] = numbers[i + 1];
-        signs[i] = signs[i + 1];
+        numbers[i] = numbers[i + cards];
+        signs[i] = signs[i + cards];
     }
     return 1;
 }
@@ -132,29 +141,31 @@ static int is_signed(int i)
     return stride || (i >= 38 && i < 46);
 }
 
-/* so many numbers, a minus only before a stride or an offset of a card that begins the line */
-static int fits(int wanted, int with_card)
+/* so many numbers, a minus only before a stride or an offset of the cards that begin the line */
+static int fits(int wanted, int cards)
 {
     int i;
     if (count != wanted) return 0;
     for (i = 0; i < count; i++)
-        if (signs[i] && !(with_card && is_signed(i))) return 0;
+        if (signs[i] && !(i < cards * CARD && is_signed(i % CARD))) return 0;
     return 1;
 }
 
-/* the card: strides and offsets in two's complement, from 2^63 on without a minus the largest */
-static uint64_t card[CARD];
+/* the cards: strides and offsets in two's complement, from 2^63 on without a minus the largest */
+static uint64_t card[CARD], second_card[CARD];
 
-static void take_card(int length)
+static void take_card(uint64_t *to, int from, int length)
 {
     int i;
     for (i = 0; i < length; i++) {
-        card[i] = signs[i] ? 0 - numbers[i] : numbers[i];
-        if (is_signed(i) && !signs[i] && numbers[i] >> 63) card[i] = UINT64_MAX >> 1;
+        uint64_t n = numbers[from + i];
+        to[i] = signs[from + i] ? 0 - n : n;
+        if (is_signed(i) && !signs[from + i] && n >> 63) to[i] = UINT64_MAX >> 1;
     }
 }
 
-static uint32_t table[MOST_TABLE];
+static uint32_t table[MOST_TABLE], second_table[MOST_TABLE];
+static uint64_t planned[MOST_PLAN];
 static uint8_t bytes[MOST_LENT], text[MOST_TEXT], note[MOST_TEXT];
 static uint64_t answer[4];
 
@@ -164,10 +175,20 @@ static void lend(uint64_t length)
     for (i = 0; i < length; i++) table[i] = (uint32_t)(1000000 + i);
 }
 
+/* entry i of what is digested, any number */
+static uint64_t add(uint64_t sum, uint64_t i, uint64_t entry) { return (sum + (i + 1) * (entry % 4294967291u)) % 4294967291u; }
+
 static uint64_t digest(const uint32_t *entries, uint64_t length)
 {
     uint64_t i, sum = 0;
     for (i = 0; i < length; i++) sum = (sum + (i + 1) * entries[i]) % 4294967291u;
+    return sum;
+}
+
+static uint64_t digest_numbers(const uint64_t *from, uint64_t length)
+{
+    uint64_t i, sum = 0;
+    for (i = 0; i < length; i++) sum = add(sum, i, from[i]);
     return sum;
 }
 
@@ -211,10 +232,10 @@ static int layout(void)
     uint64_t length = count ? numbers[count - 1] : 0, i;
     if (is("verdict") || is("owner")) {
         if (!fits(is("verdict") ? CARD + 1 : CARD + 9, 1) || length > MOST_TABLE) return 0;
-        take_card(CARD);
+        take_card(card, 0, CARD);
         lend(length);
-        if (is("verdict")) urszovely_verdict(card, marks, table, (size_t)length, answer);
-        else urszovely_owner(card, marks, numbers + CARD, table, (size_t)length, answer);
+        if (is("verdict")) urszovely_verdict(card, marks[0], table, (size_t)length, answer);
+        else urszovely_owner(card, marks[0], numbers + CARD, table, (size_t)length, answer);
         put_answer();
         put_text(" |");
         put_value(digest(table, length));
@@ -222,9 +243,9 @@ static int layout(void)
     }
     if (is("place")) {
         if (!fits(CARD + 19, 1) || length > MOST_LENT) return 0;
-        take_card(CARD);
+        take_card(card, 0, CARD);
         lend(length);
-        urszovely_place(card, marks, numbers + CARD, numbers + CARD + 9, table, (size_t)length, answer);
+        urszovely_place(card, marks[0], numbers + CARD, numbers + CARD + 9, table, (size_t)length, answer);
         put_answer();
         put_text(" |");
         for (i = 0; i < length; i++) put_value(table[i]);
@@ -261,9 +282,9 @@ static int write_text(void)
 {
     uint64_t length = count ? numbers[count - 1] : 0, i;
     if (!fits(LAYOUT + 1, 1) || length > MOST_TEXT) return 0;
-    take_card(LAYOUT);
+    take_card(card, 0, LAYOUT);
     for (i = 0; i < length; i++) text[i] = 165;
-    urszovely_write(card, marks, text, (size_t)length, answer);
+    urszovely_write(card, marks[0], text, (size_t)length, answer);
     put_answer();
     put_text(" |");
     put_value(digest_bytes(text, length));
@@ -278,10 +299,10 @@ static int block(void)
 {
     uint64_t length = count ? numbers[count - 1] : 0, noted = numbers[CARD], seed = numbers[CARD + 1], i;
     if (!fits(CARD + 3, 1) || noted > MOST_TEXT || seed > 255 || length > MOST_TEXT) return 0;
-    take_card(CARD);
+    take_card(card, 0, CARD);
     for (i = 0; i < noted; i++) note[i] = (uint8_t)(seed + 7 * i);
     for (i = 0; i < length; i++) text[i] = 165;
-    urszovely_block(card, marks, note, (size_t)noted, text, (size_t)length, answer);
+    urszovely_block(card, marks[0], note, (size_t)noted, text, (size_t)length, answer);
     put_answer();
     put_text(" |");
     put_value(digest_bytes(text, length));
@@ -313,6 +334,65 @@ static int page(void)
     put_value(place[1]);
     put_value(digest_bytes(text + place[0], place[1]));
     if (place[0] != (answer[0] ? 0 : 216)) put_text(" a note at another byte");
+    return 1;
+}
+
+/* the two cards that begin a line, and the two tables whose lengths end it */
+static void take_pair(uint64_t length, uint64_t other)
+{
+    uint64_t i;
+    take_card(card, 0, CARD);
+    take_card(second_card, CARD, CARD);
+    lend(length);
+    for (i = 0; i < other; i++) second_table[i] = (uint32_t)(3000000 + i);
+}
+
+static void put_tables(uint64_t length, uint64_t other)
+{
+    put_value(digest(table, length));
+    put_value(digest(second_table, other));
+}
+
+static int carry(void)
+{
+    uint64_t plan_length = count > PAIR ? numbers[PAIR] : 0, length, other;
+    if (plan_length > MOST_COUNT || !fits(PAIR + 1 + (int)plan_length + 2, 2)) return 0;
+    length = numbers[count - 2];
+    other = numbers[count - 1];
+    if (length > MOST_TABLE || other > MOST_TABLE) return 0;
+    take_pair(length, other);
+    urszovely_carry(card, marks[0], second_card, marks[1], numbers + PAIR + 1, (size_t)plan_length, table, (size_t)length, second_table, (size_t)other,
+                    answer);
+    put_answer();
+    put_text(" |");
+    put_tables(length, other);
+    return 1;
+}
+
+/* whether the numbers that were written, checked between the same cards, are accepted */
+static int is_accepted(uint64_t length, uint64_t other)
+{
+    uint64_t checked[4];
+    urszovely_carry(card, marks[0], second_card, marks[1], planned, (size_t)answer[1], table, (size_t)length, second_table, (size_t)other, checked);
+    return !checked[0];
+}
+
+static int plan(void)
+{
+    uint64_t plan_length, length, other, i;
+    if (!fits(PAIR + 3, 2)) return 0;
+    plan_length = numbers[PAIR];
+    length = numbers[PAIR + 1];
+    other = numbers[PAIR + 2];
+    if (plan_length > MOST_PLAN || length > MOST_TABLE || other > MOST_TABLE) return 0;
+    take_pair(length, other);
+    for (i = 0; i < plan_length; i++) planned[i] = 2000000 + i;
+    urszovely_plan(card, marks[0], second_card, marks[1], planned, (size_t)plan_length, table, (size_t)length, second_table, (size_t)other, answer);
+    put_answer();
+    put_text(" |");
+    put_value(digest_numbers(planned, plan_length));
+    put_tables(length, other);
+    if (!answer[0] && !is_accepted(length, other)) put_text(" a plan that is not accepted");
     return 1;
 }
 
@@ -433,8 +513,6 @@ static void hold(void)
     for (i = 0; i < HOLDINGS; i++) holdings.bits[i] = 4611686018427387904u + i;
 }
 
-static uint64_t add(uint64_t sum, uint64_t i, uint64_t entry) { return (sum + (i + 1) * (entry % 4294967291u)) % 4294967291u; }
-
 static void put_registers(const struct registers *r, uint64_t size)
 {
     uint64_t i, bits, sum = 0;
@@ -524,6 +602,8 @@ static int ask(void)
     if (is("write")) return write_text();
     if (is("block")) return block();
     if (is("canonical")) return canonical();
+    if (is("carry")) return carry();
+    if (is("plan")) return plan();
     if (is("mask")) return mask();
     if (is("fields")) return fields();
     if (is("descriptor")) return descriptor();

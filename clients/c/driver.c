@@ -2,7 +2,7 @@
  * right before one, what is only read is write-protected, and the answer begins as two patterns. The first answer says what of the lent
  * memory may be written, where it refuses nothing: from then on all else is write-protected, and where that is a part of an array the
  * question is asked again with that part on a page of its own. A touch outside ends the run, and so does a difference between the answers.
- * It lends tables up to the library's own limit. */
+ * It lends tables up to the library's own limit, and plans of twice as many numbers. */
 #include "urszovely.h"
 
 void *mmap(void *at, size_t length, int access, int kind, int file, long offset);
@@ -14,7 +14,7 @@ long write(int file, const void *bytes, size_t length);
 void _exit(int status) __attribute__((noreturn));
 
 enum { READ = 1, READ_WRITE = 3, PRIVATE_ANONYMOUS = 0x22 };
-enum { EDGE = 65536, MOST = 262144, ROOM = 2 * MOST, SLOT = EDGE + ROOM + EDGE, SIDES = 4 };
+enum { EDGE = 65536, MOST = 1048576, ROOM = 2 * MOST, SLOT = EDGE + ROOM + EDGE, SIDES = 4 };
 enum { FIRST, SECOND, THIRD, LENT, LENT_SINGLES, LENT_DOUBLES, ANSWER, SLOTS };
 
 static void stop(const char *why)
@@ -325,6 +325,53 @@ static void guarded_canonical_card(uint64_t major, uint64_t mode, uint64_t bits,
     settle(ANSWER, 2, answer, 32);
 }
 
+/* a question that lends several is asked on the sides of each */
+static int more(int sides, int others) { return sides > others ? sides : others; }
+
+/* the cells of the two tables of a plan: 4, and 11 where a table is shorter than the cells, touch nothing, every other answer writes them */
+static int may_write_pair(const uint64_t *card, size_t length, size_t other)
+{
+    size_t cells = told()[0] == 4 ? 0 : 1;
+    int i;
+    for (i = 46; i < 54; i++) cells *= card[i];
+    if (length < cells || other < cells) cells = 0;
+    return more(may_write(LENT, 4 * length, 0, 4 * cells), may_write(LENT_SINGLES, 4 * other, 0, 4 * cells));
+}
+
+static void guarded_carry(const uint64_t *first_card, uint64_t first_marks, const uint64_t *second_card, uint64_t second_marks, const uint64_t *plan,
+                          size_t plan_length, uint32_t *first, size_t first_length, uint32_t *second, size_t second_length, uint64_t *answer)
+{
+    int side, sides = 2;
+    for (side = 0; side < sides; side++) {
+        urszovely_carry(given(FIRST, side, first_card, 57 * 8), first_marks, given(SECOND, side, second_card, 57 * 8), second_marks,
+                        given(THIRD, side, plan, 8 * plan_length), plan_length, lent(LENT, side, first, 4 * first_length), first_length,
+                        lent(LENT_SINGLES, side, second, 4 * second_length), second_length, blank(side));
+        if (!side) sides = may_write_pair(first_card, first_length, second_length);
+    }
+    settle(LENT, sides, first, 4 * first_length);
+    settle(LENT_SINGLES, sides, second, 4 * second_length);
+    settle(ANSWER, sides, answer, 32);
+}
+
+/* and of the plan's memory the numbers that are written */
+static void guarded_plan(const uint64_t *first_card, uint64_t first_marks, const uint64_t *second_card, uint64_t second_marks, uint64_t *plan,
+                         size_t plan_length, uint32_t *first, size_t first_length, uint32_t *second, size_t second_length, uint64_t *answer)
+{
+    int side, sides = 2;
+    for (side = 0; side < sides; side++) {
+        urszovely_plan(given(FIRST, side, first_card, 57 * 8), first_marks, given(SECOND, side, second_card, 57 * 8), second_marks,
+                       lent(LENT_DOUBLES, side, plan, 8 * plan_length), plan_length, lent(LENT, side, first, 4 * first_length), first_length,
+                       lent(LENT_SINGLES, side, second, 4 * second_length), second_length, blank(side));
+        if (!side)
+            sides = more(may_write_pair(first_card, first_length, second_length),
+                         may_write(LENT_DOUBLES, 8 * plan_length, 0, told()[0] ? 0 : 8 * told()[1]));
+    }
+    settle(LENT_DOUBLES, sides, plan, 8 * plan_length);
+    settle(LENT, sides, first, 4 * first_length);
+    settle(LENT_SINGLES, sides, second, 4 * second_length);
+    settle(ANSWER, sides, answer, 32);
+}
+
 /* Registers: sorts, singles, doubles in three slots from one on, so many; on every second side an empty register's sort is 3 or 255, which
  * is wrong as 0 is and stays where it is not written. */
 enum { MOST_REGISTERS = 256 };
@@ -465,6 +512,8 @@ static void guarded_collect_f64(uint64_t kind, uint64_t computation, const doubl
 #define urszovely_write guarded_write
 #define urszovely_block guarded_block
 #define urszovely_page guarded_page
+#define urszovely_carry guarded_carry
+#define urszovely_plan guarded_plan
 #define urszovely_canonical guarded_canonical
 #define urszovely_canonical_card guarded_canonical_card
 #define urszovely_deal guarded_deal

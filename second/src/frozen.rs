@@ -15,6 +15,7 @@ const BLOCKS: &[&[u8]] = &[
     include_bytes!("../loads/blocks/09-ask-05.txt"),
     include_bytes!("../loads/blocks/10-ask-07.txt"),
     include_bytes!("../loads/blocks/11-ask-09.txt"),
+    include_bytes!("../loads/blocks/12-ask-13.txt"),
 ];
 
 /// The lines of full size: 16,384 elements and more, up to 64 copies, tables
@@ -26,6 +27,7 @@ const LARGE: &[&[u8]] = &[
     include_bytes!("../loads/large/05-ask-04.txt"),
     include_bytes!("../loads/large/06-ask-11.txt"),
     include_bytes!("../loads/large/10-ask-07.txt"),
+    include_bytes!("../loads/large/12-ask-13.txt"),
 ];
 
 /// The lines about values, which only the client answers.
@@ -80,6 +82,7 @@ mod tests {
         0x03fa_d2d2_c916_7032,
         0x01d1_caef_4ade_f105,
         0x6f26_f574_6e6a_dfb1,
+        0xdd2b_8895_fb85_9de1,
     ];
     const LARGE_CHECKS: &[u64] = &[
         0xa6f5_5d97_af13_b392,
@@ -88,6 +91,7 @@ mod tests {
         0x5b14_d33b_47c5_2648,
         0x299b_0b55_97ab_889d,
         0x939c_00f5_3fc5_1a14,
+        0x86c7_6635_12ff_d668,
     ];
     const JUDGE_CHECKS: &[u64] = &[0x8cbc_3dca_17c8_f36c];
     const VALUES_CHECKS: &[u64] = &[0x57eb_6585_6908_3b30];
@@ -221,6 +225,17 @@ mod tests {
             "7 12799 7 0",
             "8 8 15879 3968",
             "11 16385 0 0",
+            "0 16384 0 0",
+            "11 16384 0 0",
+            "0 32256 0 0",
+            "11 32256 0 0",
+            "0 504 0 0",
+            "23 16383 0 0",
+            "0 0 0 0",
+            "9 0 0 0",
+            "21 2 0 0",
+            "21 0 128 0",
+            "21 0 16383 0",
         ];
         for text in wanted {
             assert!(said.iter().any(|said| said == text), "{text}");

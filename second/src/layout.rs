@@ -227,6 +227,11 @@ impl Card {
         self.shard().iter().zip(self.marks)
     }
 
+    /// Whether an iter of the shard is marked.
+    pub fn reuses(&self) -> bool {
+        self.marked_shard().any(|(_, marked)| marked)
+    }
+
     /// The components of an element that are not marked. Elements that have
     /// these in common are one. For a card that passes checks 1 to 6.
     pub fn unmarked(&self, flat: Flat) -> Vec<u64> {

@@ -115,7 +115,8 @@ fn question(line: &[u8], words: Words) -> Option<(&'static Word, Vec<Number>)> {
     let mut words = words.iter().copied().flatten();
     let word = words.find(|word| word.name.as_bytes() == name)?;
     let numbers = pieces.map(signed_number).collect::<Option<Vec<_>>>()?;
-    (numbers.len() == word.count).then_some((word, numbers))
+    let admitted = word.count.admits(numbers.len());
+    admitted.then_some((word, numbers))
 }
 
 /// The answer to a question with a text, if the line is one: all that follows
@@ -229,6 +230,7 @@ pub fn reached(lines: &[u8], most: u64) -> std::collections::BTreeMap<u64, u64> 
 mod tests {
     use super::*;
     use crate::loads::random::Random;
+    use crate::words::Count;
 
     fn all(input: &[u8]) -> String {
         answers(input, MOST_ENTRIES).collect()
@@ -344,7 +346,11 @@ mod tests {
         let mut random = Random::new(0x6e75_6d62);
         for word in CLIENT.iter().copied().flatten() {
             for _ in 0..2_000 {
-                let numbers: Vec<Number> = (0..word.count).map(|_| random.any_sign()).collect();
+                let count = match word.count {
+                    Count::Just(count) => count,
+                    Count::AtLeast(count) => count + random.index(4),
+                };
+                let numbers: Vec<Number> = (0..count).map(|_| random.any_sign()).collect();
                 (word.answer)(&numbers, MOST_ENTRIES);
             }
         }

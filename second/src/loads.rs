@@ -12,6 +12,7 @@ mod larger;
 mod limits;
 mod malformed;
 mod minus;
+pub mod plans;
 pub mod random;
 pub mod reuse;
 pub mod signed;
@@ -70,6 +71,12 @@ const MAKERS: &[Maker] = &[
     ("canonical", canonical::canonical),
     ("block", books::block),
     ("block*", books::starred_block),
+    ("carry", plans::carry),
+    ("carry", plans::carry),
+    ("plan", plans::plan),
+    ("plan", plans::plan),
+    ("carry*", plans::starred_carry),
+    ("plan*", plans::starred_plan),
 ];
 
 /// Questions about values, which only the client answers.
@@ -87,6 +94,10 @@ const LARGE: &[Maker] = &[
     ("verdict*", full::starred_verdict),
     ("owner*", full::starred_owner),
     ("canonical", canonical::full),
+    ("carry", plans::full_carry),
+    ("plan", plans::full_plan),
+    ("carry*", plans::full_starred_carry),
+    ("plan*", plans::full_starred_plan),
 ];
 
 fn question(random: &mut Random, makers: &[Maker]) -> Question<'static> {
@@ -173,6 +184,20 @@ pub fn large_block(seed: &[u8], count: u64) -> impl Iterator<Item = Vec<u8>> {
     (0..count).map(move |_| ended(question(&mut random, LARGE).bytes()))
 }
 
+/// So many random lines that ask for a plan; most are written one.
+pub fn written_plans(seed: &[u8], count: u64) -> impl Iterator<Item = Vec<u8>> {
+    let mut random = Random::new(seed_of(seed));
+    (0..count).map(move |_| ended(plans::written_plan(&mut random).bytes()))
+}
+
+/// So many times a random line that is written a plan, and the line in which
+/// the same plan is checked.
+pub fn followed_plans(seed: &[u8], count: u64) -> impl Iterator<Item = Vec<u8>> {
+    let mut random = Random::new(seed_of(seed));
+    let both = (0..count).flat_map(move |_| plans::followed_plan(&mut random));
+    both.map(|question| ended(question.bytes()))
+}
+
 /// Lines by hand and then so many random ones, about more cells than the
 /// programs lend.
 pub fn larger_lines(seed: &[u8], count: u64) -> impl Iterator<Item = Vec<u8>> {
@@ -236,7 +261,7 @@ mod tests {
         let reached = reached(&lines.concat(), 65_536);
         assert_eq!(
             Vec::from_iter(reached.into_keys()),
-            [0, 2, 3, 4, 5, 7, 8, 11, 12, 17]
+            [0, 2, 3, 4, 5, 7, 8, 9, 11, 12, 17, 21, 23]
         );
     }
 }

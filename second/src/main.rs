@@ -13,6 +13,7 @@ mod lines;
 mod loads;
 mod mask;
 mod notation;
+mod plans;
 mod swizzle;
 mod values;
 mod verdict;
@@ -47,6 +48,8 @@ const USAGE: &str = "usage: second answer [MOST]
        second block WORD SEED COUNT
        second block large SEED COUNT
        second larger SEED COUNT
+       second plans-accepted SEED COUNT
+       second follow-plans SEED COUNT
 ";
 
 /// More than this may not be asked for: a line could ask for all of it.
@@ -106,6 +109,8 @@ fn run(arguments: &[&[u8]], out: &mut impl Write) -> Option<io::Result<()>> {
         [b"random", seed, count] => print(out, loads::random_lines(seed, number(count)?)),
         [b"block", b"large", seed, count] => print(out, loads::large_block(seed, number(count)?)),
         [b"larger", seed, count] => print(out, loads::larger_lines(seed, number(count)?)),
+        [b"plans-accepted", seed, count] => print(out, loads::written_plans(seed, number(count)?)),
+        [b"follow-plans", seed, count] => print(out, loads::followed_plans(seed, number(count)?)),
         [b"block", word, seed, count] => print(out, loads::block(word, seed, number(count)?)?),
         _ => return None,
     })

@@ -9,12 +9,32 @@ use crate::layout::{self, Marks, NO_MARKS};
 use crate::lines::{plain, Answer, Number};
 use crate::mask;
 use crate::notation;
+use crate::plans;
 use crate::swizzle;
 use crate::values;
 use crate::verdict;
 
 /// Above this, MARKS is past what the programs take.
 const MOST_MARKS: Number = 255;
+
+/// How many numbers follow a word.
+#[derive(Clone, Copy)]
+pub enum Count {
+    Just(usize),
+    /// So many and more, of which one of these says how many.
+    AtLeast(usize),
+}
+
+use Count::{AtLeast, Just};
+
+impl Count {
+    pub fn admits(self, count: usize) -> bool {
+        match self {
+            Just(number) => count == number,
+            AtLeast(number) => count >= number,
+        }
+    }
+}
 
 /// The marks of which bit k marks shard iter k, and the numbers after MARKS.
 fn marked(numbers: &[Number]) -> Option<(Marks, &[Number])> {
@@ -24,13 +44,20 @@ fn marked(numbers: &[Number]) -> Option<(Marks, &[Number])> {
     permitted.then(|| (std::array::from_fn(bit), rest))
 }
 
+/// The same of two cards, whose MARKS follow each other.
+fn both_marked(numbers: &[Number]) -> Option<([Marks; 2], &[Number])> {
+    let (first, rest) = marked(numbers)?;
+    let (second, rest) = marked(rest)?;
+    Some(([first, second], rest))
+}
+
 pub struct Word {
     pub name: &'static str,
-    /// How many numbers follow the word.
-    pub count: usize,
+    pub count: Count,
     /// The answer to so many numbers, with so many entries at most lent to a
     /// table; none where a number breaks the program's own limit or is below
-    /// zero where it may not be.
+    /// zero where it may not be, or where the count is another than a number
+    /// says.
     pub answer: fn(&[Number], u64) -> Option<Answer>,
 }
 
@@ -38,62 +65,62 @@ pub struct Word {
 pub const WORDS: &[Word] = &[
     Word {
         name: "swizzle",
-        count: 4,
+        count: Just(4),
         answer: |numbers, _| swizzle::answer_swizzle(&plain(numbers)?),
     },
     Word {
         name: "mode",
-        count: 2,
+        count: Just(2),
         answer: |numbers, _| swizzle::answer_mode(&plain(numbers)?),
     },
     Word {
         name: "fragment",
-        count: 3,
+        count: Just(3),
         answer: |numbers, _| fragment::answer_fragment(&plain(numbers)?),
     },
     Word {
         name: "holder",
-        count: 4,
+        count: Just(4),
         answer: |numbers, _| fragment::answer_holder(&plain(numbers)?),
     },
     Word {
         name: "fields",
-        count: 1,
+        count: Just(1),
         answer: |numbers, _| mask::answer_fields(&plain(numbers)?),
     },
     Word {
         name: "descriptor",
-        count: 13,
+        count: Just(13),
         answer: |numbers, _| mask::answer_descriptor(&plain(numbers)?),
     },
     Word {
         name: "mask",
-        count: 4,
+        count: Just(4),
         answer: |numbers, _| mask::answer_mask(&plain(numbers)?),
     },
     Word {
         name: "place",
-        count: 76,
+        count: Just(76),
         answer: |numbers, _| layout::answer_place(NO_MARKS, numbers),
     },
     Word {
         name: "verdict",
-        count: 58,
+        count: Just(58),
         answer: |numbers, most| verdict::answer_verdict(NO_MARKS, numbers, most),
     },
     Word {
         name: "owner",
-        count: 66,
+        count: Just(66),
         answer: |numbers, most| verdict::answer_owner(NO_MARKS, numbers, most),
     },
     Word {
         name: "stretch",
-        count: 18,
+        count: Just(18),
         answer: |numbers, most| verdict::answer_stretch(&plain(numbers)?, most),
     },
     Word {
         name: "verdict*",
-        count: 59,
+        count: Just(59),
         answer: |numbers, most| {
             let (marks, numbers) = marked(numbers)?;
             verdict::answer_verdict(marks, numbers, most)
@@ -101,7 +128,7 @@ pub const WORDS: &[Word] = &[
     },
     Word {
         name: "owner*",
-        count: 67,
+        count: Just(67),
         answer: |numbers, most| {
             let (marks, numbers) = marked(numbers)?;
             verdict::answer_owner(marks, numbers, most)
@@ -109,7 +136,7 @@ pub const WORDS: &[Word] = &[
     },
     Word {
         name: "place*",
-        count: 77,
+        count: Just(77),
         answer: |numbers, _| {
             let (marks, numbers) = marked(numbers)?;
             layout::answer_place(marks, numbers)
@@ -117,17 +144,17 @@ pub const WORDS: &[Word] = &[
     },
     Word {
         name: "bank",
-        count: 2,
+        count: Just(2),
         answer: |numbers, _| bank::answer_bank(&plain(numbers)?),
     },
     Word {
         name: "write",
-        count: 47,
+        count: Just(47),
         answer: |numbers, _| notation::answer_write(NO_MARKS, numbers),
     },
     Word {
         name: "write*",
-        count: 48,
+        count: Just(48),
         answer: |numbers, _| {
             let (marks, numbers) = marked(numbers)?;
             notation::answer_write(marks, numbers)
@@ -135,20 +162,46 @@ pub const WORDS: &[Word] = &[
     },
     Word {
         name: "canonical",
-        count: 9,
+        count: Just(9),
         answer: |numbers, most| canonical::answer_canonical(&plain(numbers)?, most),
     },
     Word {
         name: "block",
-        count: 60,
+        count: Just(60),
         answer: |numbers, _| book::answer_block(NO_MARKS, numbers),
     },
     Word {
         name: "block*",
-        count: 61,
+        count: Just(61),
         answer: |numbers, _| {
             let (marks, numbers) = marked(numbers)?;
             book::answer_block(marks, numbers)
+        },
+    },
+    Word {
+        name: "carry",
+        count: AtLeast(117),
+        answer: |numbers, most| plans::answer_carry([NO_MARKS; 2], numbers, most),
+    },
+    Word {
+        name: "plan",
+        count: Just(117),
+        answer: |numbers, most| plans::answer_plan([NO_MARKS; 2], numbers, most),
+    },
+    Word {
+        name: "carry*",
+        count: AtLeast(119),
+        answer: |numbers, most| {
+            let (marks, numbers) = both_marked(numbers)?;
+            plans::answer_carry(marks, numbers, most)
+        },
+    },
+    Word {
+        name: "plan*",
+        count: Just(119),
+        answer: |numbers, most| {
+            let (marks, numbers) = both_marked(numbers)?;
+            plans::answer_plan(marks, numbers, most)
         },
     },
 ];
@@ -177,22 +230,22 @@ pub const TEXT_WORDS: &[TextWord] = &[
 pub const VALUE_WORDS: &[Word] = &[
     Word {
         name: "deal",
-        count: 6,
+        count: Just(6),
         answer: |numbers, _| values::answer_deal(&plain(numbers)?),
     },
     Word {
         name: "collect",
-        count: 7,
+        count: Just(7),
         answer: |numbers, _| values::answer_collect(&plain(numbers)?),
     },
     Word {
         name: "deal-f64",
-        count: 6,
+        count: Just(6),
         answer: |numbers, _| values::answer_deal_f64(&plain(numbers)?),
     },
     Word {
         name: "collect-f64",
-        count: 5,
+        count: Just(5),
         answer: |numbers, _| values::answer_collect_f64(&plain(numbers)?),
     },
 ];
@@ -236,6 +289,10 @@ pub const NUMBERS: &[(&str, &[u64])] = &[
     ("block", &[0, 1, 2, 3, 4, 5, 6, 11, 20]),
     ("block*", &[0, 1, 2, 3, 4, 5, 6, 11, 20]),
     ("page", &[0, 1, 11, 19, 20]),
+    ("carry", &[0, 1, 2, 3, 4, 5, 6, 7, 8, 9, 11, 17, 21]),
+    ("plan", &[0, 1, 2, 3, 4, 5, 6, 7, 8, 9, 11, 17, 23]),
+    ("carry*", &[0, 1, 2, 3, 4, 5, 6, 7, 8, 9, 11, 17, 21]),
+    ("plan*", &[0, 1, 2, 3, 4, 5, 6, 7, 8, 9, 11, 17, 23]),
 ];
 
 #[cfg(test)]

@@ -8,7 +8,7 @@ use borrow.Author.Tests.{ltb-true, ne-eqb}
 use Rattle.answers.specs.Refusals.{refusalNumbers}
 use Rattle.answers.specs.declared.Numbers.{Numbers}
 use Rattle.answers.specs.declared.Refusal.{Refusal}
-use Rattle.answers.specs.declared.Refusal.the-variants.{Counts, Limits, Axis, Space, TooMany, Swizzle, CopyOutside, Shared, Shape, Coordinate, TooShort, CellOutside, MaskSize, Fragment, Reserved, Shift, Idle, Notation, WrongCheck, Unused, Canonical}
+use Rattle.answers.specs.declared.Refusal.the-variants.{Counts, Limits, Axis, Space, TooMany, Swizzle, CopyOutside, Shared, Shape, Coordinate, TooShort, CellOutside, MaskSize, Fragment, Reserved, Shift, Idle, Notation, WrongCheck, Unused, Plan, Canonical, Overlap}
 
 -- the refusal that has this number, then with these details
 abbrev refusalOf : ℕ → Numbers → Refusal
@@ -33,7 +33,9 @@ refusalOf n r =
     (cond (eqb n 18) (Notation (r .a))
     (cond (eqb n 19) WrongCheck
     (cond (eqb n 20) Unused
-    Canonical)))))))))))))))))))
+    (cond (eqb n 21) (Plan (r .a) (record { 0 = r .b }))
+    (cond (eqb n 22) Canonical
+    (Overlap (record { 0 = r .a })))))))))))))))))))))))
 
 -- the left inverse reads each refusal back, and no refusal has number 0
 back : (p : Refusal) → (refusalOf (refusalNumbers p .number) (refusalNumbers p) ≡ p) × (ltb 0 (refusalNumbers p .number) ≡ true)
@@ -57,7 +59,9 @@ back (Idle a b) = (refl, refl)
 back (Notation beginning) = (refl, refl)
 back WrongCheck = (refl, refl)
 back Unused = (refl, refl)
+back (Plan copy cell) = (refl, refl)
 back Canonical = (refl, refl)
+back (Overlap cell) = (refl, refl)
 
 pub refusal-one-to-one : (p q : Refusal) → refusalNumbers p ≡ refusalNumbers q → p ≡ q
 refusal-one-to-one p q e = sym (back p .0) ∙ ap (λ (r : Numbers). refusalOf (r .number) r) e ∙ back q .0

@@ -2,7 +2,7 @@
 use Prim.Native.Nat.{ℕ}
 use Rattle.answers.specs.declared.Numbers.{Numbers}
 use Rattle.answers.specs.declared.Refusal.{Refusal}
-use Rattle.answers.specs.declared.Refusal.the-variants.{Counts, Limits, Axis, Space, TooMany, Swizzle, CopyOutside, Shared, Shape, Coordinate, TooShort, CellOutside, MaskSize, Fragment, Reserved, Shift, Idle, Notation, WrongCheck, Unused, Canonical}
+use Rattle.answers.specs.declared.Refusal.the-variants.{Counts, Limits, Axis, Space, TooMany, Swizzle, CopyOutside, Shared, Shape, Coordinate, TooShort, CellOutside, MaskSize, Fragment, Reserved, Shift, Idle, Notation, WrongCheck, Unused, Plan, Canonical, Overlap}
 
 -- an answer's number and its details a, b, c
 abbrev pub answer : ℕ → ℕ → ℕ → ℕ → Numbers
@@ -30,4 +30,6 @@ refusalNumbers (Idle a b) = answer 17 a b 0
 refusalNumbers (Notation beginning) = answer 18 beginning 0 0
 refusalNumbers WrongCheck = answer 19 0 0 0
 refusalNumbers Unused = answer 20 0 0 0
+refusalNumbers (Plan copy cell) = answer 21 copy (cell .0) 0
 refusalNumbers Canonical = answer 22 0 0 0
+refusalNumbers (Overlap cell) = answer 23 (cell .0) 0 0

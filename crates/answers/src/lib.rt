@@ -9,7 +9,7 @@ pub struct Flat(pub u64);
 // The number of a cell.
 pub struct Cell(pub u64);
 
-// Why the desk says no, in the order of the refusals' numbers, 1 to 20 and 22.
+// Why the desk says no, in the order of the refusals' numbers, 1 to 23.
 pub enum Refusal {
     // 1: shard or replica iter count outside limits
     Counts,
@@ -51,8 +51,12 @@ pub enum Refusal {
     WrongCheck,
     // 20: a note too long, or an unused byte of a block that is not zero
     Unused,
+    // 21: a plan's first copy outside, its index plus 1; or 0, and the first cell that it leaves wrong
+    Plan { copy: u64, cell: Cell },
     // 22: major-ness, m, k or a byte stride of a canonical layout not allowed
     Canonical,
+    // 23: a cell that both layouts occupy
+    Overlap { cell: Cell },
 }
 
 // An answer as plain numbers: its number and three details.
@@ -95,6 +99,8 @@ pub fn refusal_numbers(refusal: Refusal) -> Numbers
         Refusal::Notation { beginning } => answer(18, beginning, 0, 0),
         Refusal::WrongCheck => answer(19, 0, 0, 0),
         Refusal::Unused => answer(20, 0, 0, 0),
+        Refusal::Plan { copy, cell } => answer(21, copy, cell.0, 0),
         Refusal::Canonical => answer(22, 0, 0, 0),
+        Refusal::Overlap { cell } => answer(23, cell.0, 0, 0),
     }
 }

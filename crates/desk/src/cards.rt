@@ -1,4 +1,4 @@
-// The card of a line, with which the words on layouts begin: the card that 57 numbers and the marks are, by the
+// The cards of a line, with which the words on layouts begin, each the card that 57 numbers and the marks are, by the
 // function that makes a card for C too.
 use card::Card;
 use lines::numbers;
@@ -10,4 +10,10 @@ use lines::places::Kept;
 pub fn first(line: &Kept) -> Card {
     let given = numbers::card(line, places::FIRST);
     c_card::card(&given, line[places::MARKS])
+}
+
+// The second card of a line, and its marks.
+pub fn second(line: &Kept) -> Card {
+    let given = numbers::card(line, places::SECOND);
+    c_card::card(&given, line[places::MARKS + 1])
 }

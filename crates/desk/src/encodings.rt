@@ -1,5 +1,6 @@
 // The word canonical: the verdict on a canonical shared-memory layout, with LBO and SBO as a descriptor has them.
 use canonical::Canonical;
+use lines::lent::TABLE;
 use lines::lent::fill;
 use lines::places;
 use lines::places::Kept;
@@ -8,7 +9,7 @@ use lines::reply::Reply;
 
 // The verdict that a line asks for, in entries as they are lent.
 fn ask_canonical(numbers: &Kept, lent: &mut [u32]) -> Reply {
-    fill(lent);
+    fill(lent, TABLE);
     let asked = Canonical {
         major: numbers[0],
         mode: numbers[1],

@@ -2,6 +2,7 @@
 // reads numbers, asks the library and prints what came back. Each subject has a module of its own.
 mod books;
 mod cards;
+mod carrying;
 mod encodings;
 mod fragments;
 mod masks;
@@ -22,7 +23,13 @@ use text::input::Input;
 use text::output;
 
 // Answers a question that has all its numbers.
-fn ask(word: Word, numbers: &Kept, lent: &mut [u32]) -> Reply {
+fn ask(
+    word: Word,
+    numbers: &Kept,
+    lent: &mut [u32],
+    second: &mut [u32],
+    plan: &mut [u64],
+) -> Reply {
     match word {
         Word::Swizzle => swizzles::swizzle(numbers),
         Word::Mode => swizzles::mode(numbers),
@@ -39,12 +46,21 @@ fn ask(word: Word, numbers: &Kept, lent: &mut [u32]) -> Reply {
         Word::Write => notations::write(numbers),
         Word::Canonical => encodings::canonical(numbers, lent),
         Word::Block => books::block(numbers),
+        Word::Carry => carrying::carry(numbers, lent, second),
+        Word::Plan => carrying::plan(numbers, plan, lent, second),
         Word::Unknown => reply::unknown(),
     }
 }
 
 // Answers a line of so many bytes.
-fn answer(line: &[u8; 4096], held: usize, numbers: &mut Kept, lent: &mut [u32]) -> Reply {
+fn answer(
+    line: &[u8; 4096],
+    held: usize,
+    numbers: &mut Kept,
+    lent: &mut [u32],
+    second: &mut [u32],
+    plan: &mut [u64],
+) -> Reply {
     if words::is_read(line, held) {
         return notations::read(line, held);
     }
@@ -52,7 +68,7 @@ fn answer(line: &[u8; 4096], held: usize, numbers: &mut Kept, lent: &mut [u32]) 
         return books::page(line, held);
     }
     let word = words::question(line, held, numbers);
-    ask(word, numbers, lent)
+    ask(word, numbers, lent, second, plan)
 }
 
 // Writes out what is finished where the next step in the input is a read, which may wait.
@@ -71,15 +87,21 @@ fn answer_whole(
     input: Input,
     numbers: &mut Kept,
     lent: &mut [u32],
+    second: &mut [u32],
+    plan: &mut [u64],
 ) -> usize {
     if input.whole & (0 < input.held) {
-        return print::put(out, at, answer(line, input.held, numbers, lent));
+        let reply = answer(line, input.held, numbers, lent, second, plan);
+        return print::put(out, at, reply);
     }
     at
 }
 
-// The most entries that the program lends to a table: its own limit, not the card's.
+// The most entries that the program lends to a table, and the most numbers to a plan: its own limits, not the
+// card's.
 const MOST_LENT: usize = 16384;
+
+const MOST_PLAN: usize = 32768;
 
 // Answers every line of the input. A proved loop has to end, so it counts its turns down from a
 // number that no run uses up.
@@ -88,13 +110,24 @@ fn answer_all(out: &mut [u8; 65536]) {
     let mut line = io::buffer();
     let mut numbers = [0u64; 375];
     let mut lent = [0u32; MOST_LENT];
+    let mut second = [0u32; MOST_LENT];
+    let mut plan = [0u64; MOST_PLAN];
     let mut input = input::start();
     let mut at = 0;
     let mut turns = u64::MAX;
     while turns > 0 {
         at = before_waiting(out, at, input);
         input = input::advance(&mut part, &mut line, input);
-        at = answer_whole(out, at, &line, input, &mut numbers, &mut lent);
+        at = answer_whole(
+            out,
+            at,
+            &line,
+            input,
+            &mut numbers,
+            &mut lent,
+            &mut second,
+            &mut plan,
+        );
         if input.ended {
             break;
         }

@@ -1,6 +1,7 @@
 // The word place.
 use crate::cards;
 use answers::Numbers;
+use lines::lent::TABLE;
 use lines::lent::fill;
 use lines::numbers::nine;
 use lines::places;
@@ -13,7 +14,7 @@ const MOST_LENT: u64 = 64;
 
 // The placement that a line asks for, in entries as they are lent.
 fn ask_place(numbers: &Kept, lent: &mut [u32]) -> Numbers {
-    fill(lent);
+    fill(lent, TABLE);
     let shape = nine(numbers, places::SHAPE);
     let coordinates = nine(numbers, places::COORDINATES);
     let placed = placement::place(

@@ -1,6 +1,7 @@
 // The words on the owner table of a card: verdict, owner, stretch. One buffer is lent for all lines, no
 // more of it than a line asks for, so nothing is cleared; what it is long is the program's own limit.
 use crate::cards;
+use lines::lent::TABLE;
 use lines::lent::fill;
 use lines::numbers::eight;
 use lines::places;
@@ -10,7 +11,7 @@ use lines::reply::Reply;
 
 // The verdict that a line asks for, in entries as they are lent.
 fn ask_verdict(numbers: &Kept, lent: &mut [u32]) -> Reply {
-    fill(lent);
+    fill(lent, TABLE);
     let verdict = verdict::judge(cards::first(numbers), lent);
     reply::digest(judgement::verdict_numbers(verdict), lent)
 }
@@ -27,7 +28,7 @@ pub fn verdict(numbers: &Kept, lent: &mut [u32]) -> Reply {
 
 // The owner that a line asks for, in entries as they are lent.
 fn ask_owner(numbers: &Kept, lent: &mut [u32]) -> Reply {
-    fill(lent);
+    fill(lent, TABLE);
     let owner = verdict::owner_of(cards::first(numbers), eight(numbers, places::CELL), lent);
     reply::digest(judgement::owner_numbers(owner), lent)
 }
@@ -54,7 +55,7 @@ fn show_stretch(numbers: &Kept, lent: &[u32]) -> Reply {
 
 // The stretch that a line asks for, in entries as they are lent.
 fn ask_stretch(numbers: &Kept, lent: &mut [u32]) -> Reply {
-    fill(lent);
+    fill(lent, TABLE);
     show_stretch(numbers, lent)
 }
 

@@ -86,13 +86,17 @@ module _ (card : Card) where
   pub checks-passed : fullAdmission card ≡ Admitted → admission card ≡ Admitted
   checks-passed e = admitted-exactly .0 e .0
 
+  -- what holds of checks 1 to 6, and of 17, holds of the admission with it
+  pub six-or-idle : (goal : Admission → Type 0) → goal (admission card) → ((a b : ℕ) → goal (Refused (Idle a b))) → goal (fullAdmission card)
+  six-or-idle goal six idle = by-cases goal (λ r e. subst goal e six) found
+    where
+      found : (i : Finding) → admission card ≡ Admitted → Finds (card .replica) i → goal (idleCheck i)
+      found (Pair a b) e f = idle a b
+      found NoPair e f = subst goal e six
+
   -- no number is one of the checks on the table
   pub full-number : ofTable (admissionNumbers (fullAdmission card) .number) ≡ false
-  full-number = by-cases (λ (x : Admission). ofTable (admissionNumbers x .number) ≡ false) (λ r e. rw e at (admission-number card .0)) found
-    where
-      found : (i : Finding) → admission card ≡ Admitted → Finds (card .replica) i → ofTable (admissionNumbers (idleCheck i) .number) ≡ false
-      found (Pair a b) e f = refl
-      found NoPair e f = refl
+  full-number = six-or-idle (λ (x : Admission). ofTable (admissionNumbers x .number) ≡ false) (admission-number card .0) (λ a b. refl)
 
 -- the numbers of a question that begins with this admission
 pub record AfterAdmission (card : Card) (n passed : Numbers) : Type 0 where

@@ -49,10 +49,10 @@ module _ (card : Card) where
 
     -- a front of the cells
     module _ (front : List ℕ) (size : length front ≡ cells card) (room : cells card ≤ length before) where
-      front-long : length (front ++ drop (cells card) before) ≡ length before
+      pub front-long : length (front ++ drop (cells card) before) ≡ length before
       front-long = length-front before front (cells card) (size ∙ sym (length-take-le (cells card) before room))
 
-      front-past : (c : ℕ) → cells card ≤ c → getD (front ++ drop (cells card) before) c 0 ≡ getD before c 0
+      pub front-past : (c : ℕ) → cells card ≤ c → getD (front ++ drop (cells card) before) c 0 ≡ getD before c 0
       front-past c h =
           let k : ℕ = c - cells card in
           let place : length front + k ≡ c = omega arith in

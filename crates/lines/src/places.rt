@@ -25,10 +25,12 @@ pub const LENGTHS: usize = OFFSETS + 8;
 
 pub const SWIZZLE: usize = LENGTHS + 8;
 
-// How many numbers a card has, and where the first of a line begins.
+// How many numbers a card has, and where the first and the second of a line begin.
 pub const CARD: usize = SWIZZLE + 3;
 
 pub const FIRST: usize = 0;
+
+pub const SECOND: usize = CARD;
 
 // The reuse marks of the first card and, after them, of the second: the first numbers of a line whose word has
 // a star, kept behind all others, so that the card begins the line as it does without a star; 0 there is no mark.
@@ -54,6 +56,17 @@ pub const NOTE_LENGTH: usize = CARD;
 pub const SEED: usize = NOTE_LENGTH + 1;
 
 pub const BLOCK_LENT: usize = SEED + 1;
+
+// After the two cards of `carry`: how many numbers the plan has, and these. Behind them stands how much memory
+// is lent to each of the two tables.
+pub const COUNT: usize = 2 * CARD;
+
+pub const CARRIED: usize = COUNT + 1;
+
+// After the two cards of `plan`: how much memory is lent to the plan, and to each of the two tables.
+pub const PLAN_LENT: usize = 2 * CARD;
+
+pub const TABLES_LENT: usize = PLAN_LENT + 1;
 
 // After the bar of `read`: a layout's marks, behind its offsets, and how many numbers it has.
 pub const LAYOUT_MARKS: usize = OFFSETS + 8;

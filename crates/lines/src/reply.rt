@@ -101,6 +101,23 @@ pub fn digest(answer: Numbers, from: &[u32]) -> Reply {
     one(answer, lent::digest(from))
 }
 
+// An answer and the digests of two lent tables.
+pub fn digests(answer: Numbers, first: &[u32], second: &[u32]) -> Reply {
+    let mut values = [0u64; 80];
+    values[0] = lent::digest(first);
+    values[1] = lent::digest(second);
+    barred(answer, 2, values)
+}
+
+// An answer and the digests of a lent plan and of two lent tables.
+pub fn planned(answer: Numbers, plan: &[u64], first: &[u32], second: &[u32]) -> Reply {
+    let mut values = [0u64; 80];
+    values[0] = lent::digest_plan(plan);
+    values[1] = lent::digest(first);
+    values[2] = lent::digest(second);
+    barred(answer, 3, values)
+}
+
 // An answer, LBO and SBO as reported, and the digest of lent entries.
 pub fn encoded(answer: Numbers, lbo: u64, sbo: u64, from: &[u32]) -> Reply {
     let mut values = [0u64; 80];

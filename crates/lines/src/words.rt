@@ -26,6 +26,8 @@ pub enum Word {
     Write,
     Canonical,
     Block,
+    Carry,
+    Plan,
     Unknown,
 }
 
@@ -44,7 +46,18 @@ fn is_named(line: &[u8; 4096], end: usize, name: &[u8]) -> bool {
     true
 }
 
-// The line's word, by its name: those of layouts,
+// The line's word, by its name: those of plans,
+fn plan_word(line: &[u8; 4096], end: usize) -> Word {
+    if is_named(line, end, b"carry") {
+        return Word::Carry;
+    }
+    if is_named(line, end, b"plan") {
+        return Word::Plan;
+    }
+    Word::Unknown
+}
+
+// those of layouts,
 fn layout_word(line: &[u8; 4096], end: usize) -> Word {
     if is_named(line, end, b"place") {
         return Word::Place;
@@ -67,7 +80,7 @@ fn layout_word(line: &[u8; 4096], end: usize) -> Word {
     if is_named(line, end, b"block") {
         return Word::Block;
     }
-    Word::Unknown
+    plan_word(line, end)
 }
 
 // those of masks,
@@ -104,8 +117,11 @@ fn word_of(line: &[u8; 4096], end: usize) -> Word {
     mask_word(line, end)
 }
 
-// How many numbers the question of a word has.
-fn wanted(word: Word) -> usize {
+// The most numbers that the plan on a line may have.
+pub const MOST_CARRIED: u64 = 256;
+
+// How many numbers the question of a word has, or of `carry` the most that it can have.
+fn most(word: Word) -> usize {
     match word {
         Word::Swizzle => 4,
         Word::Mode => 2,
@@ -122,6 +138,8 @@ fn wanted(word: Word) -> usize {
         Word::Write => places::WRITE_LENT + 1,
         Word::Canonical => places::CANONICAL_LENT + 1,
         Word::Block => places::BLOCK_LENT + 1,
+        Word::Carry => places::CARRIED + 256 + 2,
+        Word::Plan => places::TABLES_LENT + 2,
         Word::Unknown => 0,
     }
 }
@@ -132,20 +150,32 @@ fn cards(word: Word) -> usize
 {
     match word {
         Word::Place | Word::Verdict | Word::Owner | Word::Write | Word::Block => 1,
+        Word::Carry | Word::Plan => 2,
         _ => 0,
     }
+}
+
+// Whether the question of a word has so many numbers, these; how many `carry` has goes by the count on its line.
+fn has_all(word: Word, count: usize, numbers: &Kept) -> bool {
+    let Word::Carry = word else {
+        return count == most(word);
+    };
+    let carried = numbers[places::COUNT];
+    if MOST_CARRIED < carried {
+        return false;
+    }
+    count == places::CARRIED + carried as usize + 2
 }
 
 // What a word asks whose numbers begin at a place of the line.
 fn asked(word: Word, line: &[u8; 4096], held: usize, from: usize, numbers: &mut Kept) -> Word
     requires { ⌜ held ≤ 4096 ⌝ }
 {
-    let count = wanted(word);
-    let read = rule::read(line, held, from, cards(word), 0, count, numbers);
-    let Line::Read(at, read_count) = read else {
+    let read = rule::read(line, held, from, cards(word), 0, most(word), numbers);
+    let Line::Read(at, count) = read else {
         return Word::Unknown;
     };
-    if (at < held) | (read_count != count) {
+    if (at < held) | !has_all(word, count, numbers) {
         return Word::Unknown;
     }
     word
@@ -170,7 +200,7 @@ fn asked_with_marks(
     let Line::Read(at, _) = read else {
         return Word::Unknown;
     };
-    if MOST_MARKS < numbers[places::MARKS] {
+    if (MOST_MARKS < numbers[places::MARKS]) | (MOST_MARKS < numbers[places::MARKS + 1]) {
         return Word::Unknown;
     }
     asked(word, line, held, at, numbers)
@@ -224,6 +254,7 @@ pub fn question(line: &[u8; 4096], held: usize, numbers: &mut Kept) -> Word {
         return Word::Unknown;
     }
     numbers[places::MARKS] = 0;
+    numbers[places::MARKS + 1] = 0;
     if line[(end - 1) % 4096] == STAR {
         return asked_with_marks(word_of(line, end - 1), line, held, end, numbers);
     }

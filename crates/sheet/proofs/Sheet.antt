@@ -2,7 +2,7 @@
 -- into each load.
 use mathlib.Core.Path.{_≡_, refl, sym, ap, ap₂}
 use mathlib.Core.Bool.{Bool, true, false, _&&_, and-eq-true-iff}
-use mathlib.Core.List.{List, [], _∷_}
+use mathlib.Core.List.{List, [], _∷_, _++_}
 use Prim.Native.Nat.{ℕ, _<_}
 use borrow.Author.Tests.{eqb-true}
 use lib.Dec.{eqb}
@@ -29,7 +29,11 @@ use Rattle.judgement.specs.Run.{judge, ownerRun}
 use Rattle.judgement.specs.declared.Verdict.{Verdict}
 use Rattle.judgement.specs.declared.Owner.{Owner}
 use Rattle.judgement.proofs.Run.{verdict-is-run, owner-is-run}
-use Rattle.sheet.specs.Questions.{verdict, owner, Reply, reply, asked}
+use Rattle.plans_judged.specs.Endings.{CheckPromise, PlanPromise, checkedNumbers, planningNumbers}
+use Rattle.plans_judged.specs.declared.Checked.{Checked}
+use Rattle.plans_judged.specs.declared.Planning.{Planning}
+use Rattle.plans_judged.proofs.Run.{check-is-run, plan-is-run}
+use Rattle.sheet.specs.Questions.{verdict, owner, carry, plan, Reply, reply, asked}
 use Rattle.sheet.specs.Loads.{Load, loads}
 
 -- two replies are the same, tested
@@ -107,3 +111,19 @@ unfolding asked
 owner-carried card coordinates before after o p =
     let run = owner-is-run card coordinates before after o p in
     (ap (λ (w : Owner). reply (ownerNumbers w) []) (sym (run .0)), run .1)
+
+-- and so is one of a plan that is checked, or written
+pub check-carried : (one two : Card) (moves first second f s : List ℕ) (a : Checked) → CheckPromise one two moves first second f s a
+    → asked (carry one two moves first second) ≡ reply (checkedNumbers a) (f ++ s)
+unfolding asked
+check-carried one two moves first second f s a p =
+    let run = check-is-run one two first second moves f s a p in
+    ap₂ reply (ap checkedNumbers (sym (run .0))) (ap₂ (λ (l r : List ℕ). l ++ r) (sym (run .1)) (sym (run .2)))
+
+pub plan-carried : (one two : Card) (memory first second m f s : List ℕ) (a : Planning) → PlanPromise one two memory first second m f s a
+    → asked (plan one two memory first second) ≡ reply (planningNumbers a) (m ++ (f ++ s))
+unfolding asked
+plan-carried one two memory first second m f s a p =
+    let run = plan-is-run one two first second memory m f s a p in
+    ap₂ reply (ap planningNumbers (sym (run .0)))
+    (ap₂ (λ (l r : List ℕ). l ++ r) (sym (run .1)) (ap₂ (λ (l r : List ℕ). l ++ r) (sym (run .2)) (sym (run .3))))

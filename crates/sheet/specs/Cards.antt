@@ -161,3 +161,13 @@ sixtyFive length = onM (65 by 1 on m ∷ []) length (swizzle 3 3 3)
 -- Figure 189's layout as printed
 abbrev pub figure189 : Card
 figure189 = onM (2 by 64 on m ∷ 8 by 8 on m ∷ 4 by 4 on m ∷ 4 by 1 on m ∷ []) 256 (swizzle 2 1 3)
+
+-- two elements in a row from an offset on, in six cells; the same two, the last first; and with copies two cells on
+abbrev pub twoFrom : ℕ → Card
+twoFrom offset = fromM (2 by 1 on m ∷ []) [] (pos offset) 6 unswizzled
+
+abbrev pub twoTurned : Card
+twoTurned = fromM (2 back 1 on m ∷ []) [] (pos 1) 6 unswizzled
+
+abbrev pub twoTwice : Card
+twoTwice = fromM (2 by 1 on m ∷ []) (2 by 2 on m ∷ []) (pos 0) 6 unswizzled

@@ -8,8 +8,8 @@ use lib.ListN.{replicate}
 use Rattle.answers.specs.Refusals.{answer}
 use Rattle.descriptor.specs.Descriptor.{descriptorOf}
 use Rattle.descriptor.specs.declared.Fields.{Fields}
-use Rattle.sheet.specs.Questions.{Question, swizzle, mode, bank, fragment, descriptor, mask, place, verdict, owner, stretch, Reply, reply}
-use Rattle.sheet.specs.Cards.{tuple, tile, tileX, unswizzled, onM, atM, backwards, lastRowFirst, copiesBack, _by_on_, _back_on_, m, TLane, inTensorMemory, wideTile, doubled, copied, bothSides, scaleFactors, marked, reusedFactors, fourEach, sixtyFive, figure189}
+use Rattle.sheet.specs.Questions.{Question, swizzle, mode, bank, fragment, descriptor, mask, place, verdict, owner, stretch, carry, plan, Reply, reply}
+use Rattle.sheet.specs.Cards.{tuple, tile, tileX, unswizzled, onM, atM, backwards, lastRowFirst, copiesBack, _by_on_, _back_on_, m, TLane, inTensorMemory, wideTile, doubled, copied, bothSides, scaleFactors, marked, reusedFactors, fourEach, sixtyFive, figure189, twoFrom, twoTurned, twoTwice}
 use Rattle.sheet.specs.Cards.{swizzle as swizzleBy}
 
 pub record Load : Type 0 where
@@ -263,4 +263,33 @@ loads =
     ∷ (mask 96 32 0 [] is reply (answer 13 0 0 0) [])
     ∷ (fragment 9 0 0 is reply (answer 14 0 0 0) [])
     ∷ (mask 128 8 0x1000000000 [] is reply (answer 15 0 0 0) [])
+    -- a carrier's plan (document 02): two elements to the end of six cells; the seventh entry stays
+    ∷ (carry (twoFrom 0) (twoFrom 4) (0 ∷ 4 ∷ 1 ∷ 5 ∷ []) (table 7) (table 6)
+    is reply (answer 0 0 0 0) ((1 ∷ 2 ∷ 0 ∷ 0 ∷ 1 ∷ 2 ∷ 1000000 ∷ []) ++ 0 ∷ 0 ∷ 0 ∷ 0 ∷ 1 ∷ 2 ∷ []))
+    -- without its second copy cell 5 is the first wrong one, and the tables stand
+    ∷ (carry (twoFrom 0) (twoFrom 4) (0 ∷ 4 ∷ []) (table 6) (table 6)
+    is reply (answer 21 0 5 0) ((1 ∷ 2 ∷ 0 ∷ 0 ∷ 1 ∷ 0 ∷ []) ++ 0 ∷ 0 ∷ 0 ∷ 0 ∷ 1 ∷ 2 ∷ []))
+    -- two elements change places by a third cell; in the wrong order the second is lost
+    ∷ (carry (twoFrom 0) twoTurned (0 ∷ 2 ∷ 1 ∷ 0 ∷ 2 ∷ 1 ∷ []) (table 6) (table 6)
+    is reply (answer 0 0 0 0) ((2 ∷ 1 ∷ 1 ∷ 0 ∷ 0 ∷ 0 ∷ []) ++ 2 ∷ 1 ∷ 0 ∷ 0 ∷ 0 ∷ 0 ∷ []))
+    ∷ (carry (twoFrom 0) twoTurned (0 ∷ 1 ∷ 1 ∷ 0 ∷ []) (table 6) (table 6)
+    is reply (answer 21 0 0 0) ((1 ∷ 1 ∷ 0 ∷ 0 ∷ 0 ∷ 0 ∷ []) ++ 2 ∷ 1 ∷ 0 ∷ 0 ∷ 0 ∷ 0 ∷ []))
+    -- an odd number left over is the second copy; cell 6 of six; a copy outside before the odd number
+    ∷ (carry (twoFrom 0) (twoFrom 4) (0 ∷ 4 ∷ 1 ∷ []) (table 6) (table 7) is reply (answer 21 2 0 0) (replicate 12 0 ++ 1000000 ∷ []))
+    ∷ (carry (twoFrom 0) (twoFrom 4) (0 ∷ 4 ∷ 1 ∷ 6 ∷ []) (table 6) (table 6) is reply (answer 21 2 0 0) (replicate 12 0))
+    ∷ (carry (twoFrom 0) (twoFrom 4) (6 ∷ 4 ∷ 1 ∷ []) (table 6) (table 6) is reply (answer 21 1 0 0) (replicate 12 0))
+    -- two spaces, and a second table that is too short: nothing is touched
+    ∷ (carry (twoFrom 0) tileX [] (table 6) (table 6) is reply (answer 4 0 0 0) (table 12))
+    ∷ (carry (twoFrom 0) (twoFrom 4) [] (table 6) (table 5) is reply (answer 11 6 0 0) (table 11))
+    -- the first card refused, then the second, then a reuse mark, then other elements: each empties both tables
+    ∷ (carry (twoFrom 5) (twoFrom 6) [] (table 6) (table 6) is reply (answer 7 1 7 0) (replicate 12 0))
+    ∷ (carry (twoFrom 0) (twoFrom 6) [] (table 6) (table 6) is reply (answer 7 0 7 0) (replicate 12 0))
+    ∷ (carry (twoFrom 0) (marked (true ∷ []) (atM (pos 4) 6 unswizzled)) [] (table 6) (table 6) is reply (answer 2 0 0 0) (replicate 12 0))
+    ∷ (carry (twoFrom 0) (atM (pos 4) 6 unswizzled) [] (table 6) (table 6) is reply (answer 9 0 0 0) (replicate 12 0))
+    -- the plain plan: from the smaller of an element's two cells; the fifth number stays
+    ∷ (plan twoTwice (twoFrom 4) (table 5) (table 6) (table 6)
+    is reply (answer 0 4 0 0) ((0 ∷ 4 ∷ 1 ∷ 5 ∷ 1000000 ∷ []) ++ (1 ∷ 2 ∷ 1 ∷ 2 ∷ 0 ∷ 0 ∷ []) ++ 0 ∷ 0 ∷ 0 ∷ 0 ∷ 1 ∷ 2 ∷ []))
+    -- a shared cell, judged before the memory, and memory that is too short: the plan is untouched
+    ∷ (plan (twoFrom 0) (twoFrom 1) [] (table 6) (table 6) is reply (answer 23 1 0 0) (replicate 12 0))
+    ∷ (plan (twoFrom 0) (twoFrom 4) (table 3) (table 6) (table 6) is reply (answer 11 4 0 0) (table 3 ++ replicate 12 0))
     ∷ []

@@ -1,5 +1,5 @@
--- The questions that the sheet asks, and the reply to each: by its definition, of a verdict and an owner by the run.
-use mathlib.Core.List.{List, []}
+-- The questions that the sheet asks, and the reply to each: by its definition, of a verdict, an owner and a plan by the run.
+use mathlib.Core.List.{List, [], _++_}
 use lib.ListN.{length}
 use Prim.Native.Nat.{ℕ}
 use Rattle.answers.specs.declared.Numbers.{Numbers}
@@ -10,12 +10,15 @@ use Rattle.fragment.specs.Fragment.{heldAnswer, heldNumbers}
 use Rattle.descriptor.specs.Descriptor.{shiftLimit, writeAnswer, writeNumbers}
 use Rattle.mask.specs.Mask.{maskAnswer, maskMemory, maskNumbers}
 use Rattle.descriptor.specs.declared.Fields.{Fields}
+use Rattle.card.specs.Card.{cells}
 use Rattle.card.specs.declared.Card.{Card}
 use Rattle.placement.specs.Placement.{placementAnswer, placementMemory, placementNumbers}
 use Rattle.placement.specs.declared.Tuple.{Tuple}
 use Rattle.stretch.specs.Stretch.{stretchAnswer, stretchOf, stretchNumbers}
 use Rattle.judgement.specs.Verdict.{verdictOf, ownerOf, verdictNumbers, ownerNumbers}
 use Rattle.judgement.specs.Run.{judge, ownerRun}
+use Rattle.plans_judged.specs.Endings.{answerOf, firstAfter, secondAfter, memoryAfter, checkedNumbers, planningNumbers}
+use Rattle.plans_judged.specs.Run.{checkRun, planRun}
 
 pub data Question : Type 0 where
   -- M, B, S and the address
@@ -38,8 +41,12 @@ pub data Question : Type 0 where
   owner : Card → List ℕ → List ℕ → Question
   -- eight lengths, the axis, eight coordinates and the lent table; the values are the stretch
   stretch : List ℕ → ℕ → List ℕ → List ℕ → Question
+  -- the two cards, the plan and the two lent tables; the values are the tables
+  carry : Card → Card → List ℕ → List ℕ → List ℕ → Question
+  -- the two cards, the plan's memory and the two lent tables; the values are the memory and the tables
+  plan : Card → Card → List ℕ → List ℕ → List ℕ → Question
 
--- a number with its details, and the values left in the lent memory of a mask or a placement, or the stretch; a verdict and an owner have none
+-- a number with its details, and the values left in the lent memory of a mask, a placement or a plan, or the stretch; a verdict and an owner have none
 -- here: that the table they leave is the run's is part of the theorem that carries them to their promise
 pub record Reply : Type 0 where
   pub numbers : Numbers
@@ -65,3 +72,9 @@ asked (owner card coordinates table) =
 asked (stretch lengths axis coordinates table) =
     let located = stretchAnswer lengths axis coordinates (length table) in
     reply (stretchNumbers located) (stretchOf located table)
+asked (carry one two moves first second) =
+    let run = checkRun one two moves (length first) (length second) in
+    reply (checkedNumbers (answerOf run)) (firstAfter (cells one) run first ++ secondAfter (cells one) run second)
+asked (plan one two memory first second) =
+    let run = planRun one two (length memory) (length first) (length second) in
+    reply (planningNumbers (answerOf run)) (memoryAfter run memory ++ (firstAfter (cells one) run first ++ secondAfter (cells one) run second))

@@ -1,3 +1,4 @@
 pub mod Answers
 pub mod Canonical
 pub mod Book
+pub mod Plans

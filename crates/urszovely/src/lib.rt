@@ -28,6 +28,7 @@ ghost use Rattle.book.specs.Book.{readAnswer as blockAnswer};
 ghost use Rattle.urszovely.specs.Answers.{AsHolder, AsReading, AsPlacement, AsVerdict, AsOwner, Written};
 ghost use Rattle.urszovely.specs.Canonical.{cardNumbers, AsCanonical};
 ghost use Rattle.urszovely.specs.Book.{notePlace, AsBlock, AsPage};
+ghost use Rattle.urszovely.specs.Plans.{AsCheck, AsPlan};
 
 // The swizzle of an address.
 #[no_mangle]
@@ -497,5 +498,47 @@ pub extern "C" fn urszovely_page(
     let told = page.answer;
     *note = note_place(told, block);
     let numbers = storing::answer_numbers(told);
+    *answer = c_card::four(numbers);
+}
+
+// A carrier's plan, checked: whether its copies turn the first card's layout into the second's.
+#[no_mangle]
+pub extern "C" fn urszovely_carry(
+    first_card: &[u64; 57],
+    first_marks: u64,
+    second_card: &[u64; 57],
+    second_marks: u64,
+    plan: &[u64],
+    first: &mut [u32],
+    second: &mut [u32],
+    answer: &mut [u64; 4],
+)
+    ensures { λ r. ⌜ AsCheck (now («first_card» .entry)) «first_marks» (now («second_card» .entry)) «second_marks» (now (plan .entry)) (now (first .entry)) (now (second .entry)) (now (first .exit)) (now (second .exit)) (now (answer .exit)) ⌝ }
+{
+    let one = c_card::card(first_card, first_marks);
+    let two = c_card::card(second_card, second_marks);
+    let checked = planning::check_plan(one, two, plan, first, second);
+    let numbers = plans_judged::checked_numbers(checked);
+    *answer = c_card::four(numbers);
+}
+
+// A plain plan, written into lent memory.
+#[no_mangle]
+pub extern "C" fn urszovely_plan(
+    first_card: &[u64; 57],
+    first_marks: u64,
+    second_card: &[u64; 57],
+    second_marks: u64,
+    plan: &mut [u64],
+    first: &mut [u32],
+    second: &mut [u32],
+    answer: &mut [u64; 4],
+)
+    ensures { λ r. ⌜ AsPlan (now («first_card» .entry)) «first_marks» (now («second_card» .entry)) «second_marks» (now (plan .entry)) (now (first .entry)) (now (second .entry)) (now (plan .exit)) (now (first .exit)) (now (second .exit)) (now (answer .exit)) ⌝ }
+{
+    let one = c_card::card(first_card, first_marks);
+    let two = c_card::card(second_card, second_marks);
+    let written = planning::write_plan(one, two, plan, first, second);
+    let numbers = plans_judged::planning_numbers(written);
     *answer = c_card::four(numbers);
 }

@@ -18,7 +18,7 @@ fn wrapped_inverse(odd: u64) -> u64 {
 }
 
 /// A shape of so many elements: its prime factors dealt out to dimensions.
-fn random_sizes(random: &mut Random, elements: u64, dimensions: usize) -> [u64; 8] {
+pub fn random_sizes(random: &mut Random, elements: u64, dimensions: usize) -> [u64; 8] {
     let mut sizes = [0; 8].map(|_: u64| random.below(9));
     if random.once_in(8) {
         sizes = sizes.map(|_| random.hostile());

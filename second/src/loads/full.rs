@@ -25,16 +25,21 @@ fn dealt(random: &mut Random, bits: u64, iters: usize) -> Vec<u64> {
 /// A tile without gaps: the iters of shard and replica, in any order, count
 /// through some axes, some of them turned round.
 pub fn tile(random: &mut Random, shard: &[u64], replica: &[u64]) -> Card {
+    let axes = random_axes(random);
+    tile_on(random, &axes, shard, replica)
+}
+
+/// The same on some of these axes.
+pub fn tile_on(random: &mut Random, axes: &[u64], shard: &[u64], replica: &[u64]) -> Card {
     let shard = shard.iter().map(|extent| (*extent, false));
     let replica = replica.iter().map(|extent| (*extent, true));
     let mut extents: Vec<(u64, bool)> = shard.chain(replica).collect();
     shuffle(random, &mut extents);
 
-    let axes = random_axes(random);
     let mut reached = [1; AXES];
     let (mut shard, mut replica) = (Vec::new(), Vec::new());
     for (extent, copied) in extents {
-        let axis = random.pick(&axes);
+        let axis = random.pick(axes);
         let stride: u64 = reached[axis as usize];
         reached[axis as usize] *= extent;
         let iters = if copied { &mut replica } else { &mut shard };

@@ -5,8 +5,9 @@ use super::asked::random_asked;
 use super::canonical::{self, Tile};
 use super::cards::{accumulator, card_of, iter};
 use super::full::{bit_tile, finished, tile};
-use super::limits::{LARGEST_TABLE, LENT_TABLE};
+use super::limits::{LARGEST_PLAN, LARGEST_TABLE, LENT_TABLE};
 use super::malformed::Question;
+use super::plans::{self, carry_question, plan_question, Pair};
 use super::random::Random;
 use super::reuse::{number_of, reuse};
 use crate::layout::{whole_product, Card, Coordinates, Iter, Marks, AXES, M_AXIS, SHARD_SLOTS};
@@ -275,6 +276,106 @@ fn canonical_tiles() -> Vec<Tile> {
     ]
 }
 
+/// The accumulator, and beside it one of another column order.
+fn two_accumulators() -> Pair {
+    let mut first = accumulator();
+    first.space[6] = 448;
+    let shard = [iter(2, -112, 6), iter(128, 1, 5), iter(112, -1, 6)];
+    let mut second = card_of(&shard, &[]);
+    second.space = first.space;
+    second.offset[6] = 447;
+    [first, second]
+}
+
+/// So many elements from a cell on, rising or falling.
+fn run(elements: u64, stride: i32, offset: i32) -> Card {
+    on_m(&[iter(elements, stride, 7)], &[], offset, ALL)
+}
+
+/// Few elements, and beside them 64 copies of each.
+fn one_and_many() -> Pair {
+    let many = on_m(&[iter(1_008, 1, 7)], &[iter(64, 1_008, 7)], 1_008, ALL);
+    [run(1_008, 1, 0), many]
+}
+
+/// Pairs for which a plan is written, and its numbers.
+fn planned() -> Vec<(Pair, u64)> {
+    let [one, many] = one_and_many();
+    vec![
+        (two_accumulators(), 57_344),
+        ([run(32_768, 1, 0), run(32_768, 1, 32_768)], 65_536),
+        ([run(32_768, -1, 65_535), run(32_768, 2, 1)], 0),
+        ([run(32_768, 2, 0), run(32_768, -2, 65_535)], 65_536),
+        ([one, many], 129_024),
+        ([many, one], 2_016),
+        ([run(1, 0, 0), run(1, 0, 65_535)], 2),
+    ]
+}
+
+/// Plans that are written, then one number too little lent, then refused
+/// ones, each of two cards.
+fn plans_by_hand() -> Vec<Asked> {
+    let ask = |pair: &Pair, length: u64| plan_question(pair, false, [length, ALL, ALL]);
+    let planned = planned();
+    let just = planned.iter().map(|(pair, needed)| ask(pair, *needed));
+    let more = planned.iter().map(|(pair, _)| ask(pair, LARGEST_PLAN));
+    let short = planned
+        .iter()
+        .map(|(pair, needed)| ask(pair, needed.saturating_sub(1)));
+    let last = [run(2, 65_535, 0), run(2, -1, 65_535)];
+    let all = run(65_536, 1, 0);
+    let reused = reused_tiles().swap_remove(0);
+    let refused = [
+        ask(&last, 0),
+        ask(&[all, all], LARGEST_PLAN),
+        ask(&[all, run(65_535, 1, 0)], LARGEST_PLAN),
+        ask(&[all, reused], LARGEST_PLAN),
+        ask(&[met_late(32_768, 7), all], 0),
+        ask(
+            &[
+                all,
+                on_m(&[iter(32_768, 1, 7)], &[iter(2, 32_767, 7)], 0, ALL),
+            ],
+            0,
+        ),
+        ask(&[all, run(65_536, 1, 1)], 0),
+        plan_question(&last, false, [4, ALL - 1, ALL]),
+        plan_question(&last, false, [4, ALL, ALL - 1]),
+    ];
+    just.chain(more).chain(short).chain(refused).collect()
+}
+
+/// Plans that are checked on as many cells as there may be.
+fn checks_by_hand() -> Vec<Asked> {
+    let all = run(65_536, 1, 0);
+    let ask = |second: &Card, plan: &[u64]| carry_question(&[all, *second], false, plan, [ALL; 2]);
+    let mut swizzled = all;
+    swizzled.swizzle = Swizzle { m: 4, b: 3, s: 3 };
+    let [one, many] = one_and_many();
+    let first: Vec<u64> = (0..128).flat_map(|cell| [cell, 1_008 + cell]).collect();
+    let last = |apart: u64| -> Vec<u64> {
+        let back = |cell: u64| [64 * apart + cell, cell];
+        (0..128).flat_map(back).collect()
+    };
+    let few = on_m(&[iter(128, 1, 7)], &[iter(64, 1_000, 7)], 1_000, ALL);
+    vec![
+        ask(&all, &[]),
+        ask(&all, &[65_535, 65_535]),
+        ask(&all, &[65_535; 256]),
+        ask(&all, &[65_536, 0]),
+        ask(&all, &[0, 65_536]),
+        ask(&all, &[0, 0, 5]),
+        ask(&all, &[1, 0]),
+        ask(&all, &[0, 65_535]),
+        ask(&run(65_536, -1, 65_535), &[]),
+        ask(&swizzled, &[]),
+        carry_question(&[one, many], false, &first, [ALL; 2]),
+        carry_question(&[many, one], false, &last(1_008), [ALL; 2]),
+        carry_question(&[few, run(128, 1, 0)], false, &last(1_000), [ALL; 2]),
+        carry_question(&[all, all], false, &[], [ALL, ALL - 1]),
+    ]
+}
+
 pub fn by_hand() -> Vec<Asked> {
     let full = full_tiles();
     let enough = full.iter().map(|card| verdict(card, ALL));
@@ -289,7 +390,9 @@ pub fn by_hand() -> Vec<Asked> {
     let canonical = tiles.iter().map(|tile| canonical_question(tile, ALL));
     let short = canonical_question(&tiles[0], ALL - 1);
     let questions = questions.chain(stretches()).chain(reused());
-    questions.chain(canonical).chain([short]).collect()
+    let questions = questions.chain(canonical).chain([short]);
+    let plans = plans_by_hand().into_iter().chain(checks_by_hand());
+    questions.chain(plans).collect()
 }
 
 /// So many sizes whose product with a number lies above what the programs
@@ -388,6 +491,9 @@ pub fn question(random: &mut Random) -> Asked {
         let tile = canonical::larger_tile(random);
         let length = lent(random, tile.length_of_m.into());
         return canonical_question(&tile, length);
+    }
+    if random.once_in(6) {
+        return plans::larger(random);
     }
     let mut card = card(random);
     if random.once_in(3) {
@@ -506,6 +612,55 @@ mod tests {
             "7 58367 7 0",
         ];
         assert_eq!(said, wanted);
+    }
+
+    #[test]
+    fn what_is_said_to_plans() {
+        let said_to: Vec<String> = plans_by_hand().iter().map(said).collect();
+        let needed = [57_344, 65_536, 0, 65_536, 129_024, 2_016, 2];
+        for (at, needed) in needed.iter().enumerate() {
+            let (just, more, short) = match needed {
+                // These two meet.
+                0 => ["23 32769 0 0"; 3].map(str::to_string).into(),
+                _ => (
+                    format!("0 {needed} 0 0"),
+                    format!("0 {needed} 0 0"),
+                    format!("11 {needed} 0 0"),
+                ),
+            };
+            let own = [&said_to[at], &said_to[7 + at], &said_to[14 + at]];
+            assert_eq!(own, [&just, &more, &short]);
+        }
+        let wanted = [
+            "23 65535 0 0",
+            "23 0 0 0",
+            "9 0 0 0",
+            "2 0 0 0",
+            "4 0 0 0",
+            "8 0 32767 32767",
+            "7 65535 7 0",
+            "11 65536 0 0",
+            "11 65536 0 0",
+        ];
+        assert_eq!(said_to[21..], wanted);
+        let said_to: Vec<String> = checks_by_hand().iter().map(said).collect();
+        let wanted = [
+            "0 0 0 0",
+            "0 0 0 0",
+            "0 0 0 0",
+            "21 1 0 0",
+            "21 1 0 0",
+            "21 2 0 0",
+            "21 0 0 0",
+            "21 0 65535 0",
+            "21 0 0 0",
+            "21 0 128 0",
+            "21 0 1136 0",
+            "21 0 128 0",
+            "0 0 0 0",
+            "11 65536 0 0",
+        ];
+        assert_eq!(said_to, wanted);
     }
 
     #[test]

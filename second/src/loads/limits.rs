@@ -40,6 +40,12 @@ pub const LENT_TABLE: u64 = 16_384;
 /// What a caller of the library may have to lend.
 pub const LARGEST_TABLE: u64 = 65_536;
 
+/// The numbers of a plan that is checked, and what is lent to one that is
+/// written, by the program and by a caller of the library.
+pub const PLAN: u64 = 256;
+pub const LENT_PLAN: u64 = 32_768;
+pub const LARGEST_PLAN: u64 = 131_072;
+
 /// m and k of a canonical layout, and what its byte strides are below.
 pub const REPEATS: u64 = 8;
 pub const BYTE_STRIDES: u64 = 262_144;

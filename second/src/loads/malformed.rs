@@ -142,7 +142,9 @@ fn other_case(random: &mut Random, question: &Question) -> Vec<u8> {
 }
 
 /// Only these words get a star: others with one may be questions one day.
-const STARRED: &[&str] = &["verdict*", "owner*", "place*", "write*", "block*"];
+const STARRED: &[&str] = &[
+    "verdict*", "owner*", "place*", "write*", "block*", "carry*", "plan*",
+];
 
 /// The word without its star, or with one, before the numbers of the other.
 fn other_star(_: &mut Random, question: &Question) -> Vec<u8> {

@@ -51,6 +51,17 @@ fn signed_places() -> Vec<usize> {
     shard.chain(replica).chain(38..46).collect()
 }
 
+/// Where the cards of a question begin, after MARKS; for questions that have
+/// one.
+fn cards_at(word: &str) -> &'static [usize] {
+    match word {
+        "carry" | "plan" => &[0, 57],
+        "carry*" | "plan*" => &[2, 59],
+        _ if word.ends_with('*') => &[1],
+        _ => &[0],
+    }
+}
+
 /// The number with a minus; a 1 in the place of 0, since `-0` is no number
 /// anywhere.
 fn negated(number: &str) -> String {
@@ -68,8 +79,7 @@ pub fn misspelt(random: &mut Random, question: &Question) -> Vec<u8> {
         return question.with(any, &negated(&question.numbers[any]));
     }
     let place = match question.numbers.len() > BEFORE_LENGTHS {
-        // MARKS stands before the card.
-        true => random.pick(&signed_places()) + usize::from(question.word.ends_with('*')),
+        true => random.pick(&signed_places()) + random.pick(cards_at(question.word)),
         false => any,
     };
     question.with(place, random.pick(SPELLINGS))
@@ -106,9 +116,9 @@ mod tests {
         PLAIN.iter().map(question).collect()
     }
 
-    /// A question of each of a card's words on tile X, turned round, and how
-    /// many numbers come before the card.
-    fn card_questions() -> [(Question<'static>, usize); 10] {
+    /// A question of each of a card's words on tile X, turned round, or on two
+    /// of them, and where the cards begin.
+    fn card_questions() -> [(Question<'static>, &'static [usize]); 14] {
         let mut card = tile_x();
         turn_some(&mut Random::new(0), &mut card, 1);
         let question = |word: &'static str, marks: &[i128], rest: &[i128]| {
@@ -117,7 +127,14 @@ mod tests {
                 false => Card::NUMBERS,
             };
             let numbers = [marks, &card.numbers()[..own], rest].concat();
-            (Question::new(word, &numbers), marks.len())
+            let at: &[usize] = if marks.is_empty() { &[0] } else { &[1] };
+            (Question::new(word, &numbers), at)
+        };
+        let two = |word: &'static str, marks: &[i128], rest: &[i128]| {
+            let card = &card.numbers()[..];
+            let at: &[usize] = if marks.is_empty() { &[0, 57] } else { &[2, 59] };
+            let numbers = [marks, card, card, rest].concat();
+            (Question::new(word, &numbers), at)
         };
         let spot = [2, 8, 16, 1, 1, 1, 1, 1, 1, 2, 7, 15, 1, 1, 1, 1, 1, 1, 2];
         let asked = [0, 9, 31, 0, 0, 0, 0, 1, 704];
@@ -132,6 +149,10 @@ mod tests {
             question("write*", &[1], &[100]),
             question("block", &[], &[1, 1, 512]),
             question("block*", &[1], &[1, 1, 512]),
+            two("carry", &[], &[3, 5, 6, 7, 704, 705]),
+            two("plan", &[], &[600, 704, 705]),
+            two("carry*", &[1, 16], &[4, 5, 6, 7, 8, 704, 705]),
+            two("plan*", &[16, 1], &[600, 704, 705]),
         ]
     }
 
@@ -147,10 +168,12 @@ mod tests {
                 assert!(unknown(&question.with(at, "-1")), "{} {at}", question.word);
             }
         }
-        for (question, before) in card_questions() {
+        for (question, cards) in card_questions() {
+            assert_eq!(cards, cards_at(question.word));
             assert!(!unknown(&question.bytes()));
             for at in 0..question.numbers.len() {
-                let allowed = at >= before && signed_places().contains(&(at - before));
+                let within = |card: &usize| at >= *card && signed_places().contains(&(at - card));
+                let allowed = cards.iter().any(within);
                 let line = question.with(at, "-1");
                 assert_eq!(unknown(&line), !allowed, "{} {at}", question.word);
             }

@@ -52,7 +52,7 @@ pub fn reuse(random: &mut Random, card: &mut Card, most: u64) {
 }
 
 /// Marks in the slots past the count, which must be ignored.
-fn mark_past(random: &mut Random, card: &mut Card) {
+pub fn mark_past(random: &mut Random, card: &mut Card) {
     let used = used(card);
     for mark in &mut card.marks[used..] {
         *mark = random.once_in(2);

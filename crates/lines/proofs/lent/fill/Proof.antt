@@ -8,10 +8,10 @@ use Rattle.lines.proofs.lent.fill.Statement.{statement}
 use Rattle.lines.proofs.lent.fill.Tie as tie
 
 abbrev Inv-loop : tie.InvT-loop
-Inv-loop lent₀ i₀ lent i = (i ≤ length lent₀) × (length lent ≡ length lent₀)
+Inv-loop lent₀ first i₀ lent i = (i ≤ length lent₀) × (length lent ≡ length lent₀)
 
 abbrev μ-loop : tie.MeasureT-loop
-μ-loop lent₀ i₀ lent i = length lent₀ - i
+μ-loop lent₀ first i₀ lent i = length lent₀ - i
 
 pub fill-spec : {M : Type 1} → statement M
 fill-spec =

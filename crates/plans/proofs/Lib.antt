@@ -1,0 +1,4 @@
+pub mod Search
+pub mod Plans
+pub mod Theorems
+pub mod Passes

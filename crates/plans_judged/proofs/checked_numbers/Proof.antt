@@ -1,0 +1,11 @@
+-- `plans_judged::checked_numbers` takes an answer to its number: in each arm the answer is the arm's own.
+use borrow.Author.Needs.{needs}
+use Rattle.plans_judged.proofs.checked_numbers.Statement.{statement}
+use Rattle.plans_judged.proofs.checked_numbers.Tie as tie
+
+pub checked-numbers-spec : {M : Type 1} → statement M
+checked-numbers-spec =
+    tie.close
+    (tie.spec (λ c. search needs) (λ c κs. search needs) (λ c. search needs) (λ c κs. search needs)
+    (λ c. rw (c .before .enum-told .given .1) (c .answer .ensures))
+    (λ c. rw (c .before .before .checked .given .1) (c .refusal-numbers .ensures)))

@@ -1,0 +1,119 @@
+-- A carrier's plan checked, and a plain plan written: how each question ends, its answer and what it leaves in the two tables and in the plan's memory.
+use mathlib.Core.Path.{_≡_}
+use mathlib.Core.Bool.{cond}
+use mathlib.Core.List.{List, _++_}
+use Prim.Native.Nat.{ℕ, zero, suc, _*_}
+use lib.Dec.{ltb}
+use lib.ListN.{length, drop, replicate}
+use Rattle.answers.specs.Refusals.{answer, refusalNumbers}
+use Rattle.answers.specs.declared.Numbers.{Numbers}
+use Rattle.answers.specs.declared.Refusal.{Refusal}
+use Rattle.answers.specs.declared.Refusal.the-variants.{TooShort, Plan, Overlap}
+use Rattle.card.specs.Card.{cells}
+use Rattle.card.specs.declared.Card.{Card}
+use Rattle.claims.specs.Claims.{occupied}
+use Rattle.judgement.specs.Judgement.{Judgement, ComesTo}
+use Rattle.plans.specs.Plans.{carried, firstOutside, firstWrong, firstShared, planned}
+use Rattle.plans_judged.specs.Pair.{Opening, Untouched, Emptied, Ready, opening}
+use Rattle.plans_judged.specs.declared.Checked.{Checked}
+use Rattle.plans_judged.specs.declared.Checked.the-variants.{Accepted, Refused}
+use Rattle.plans_judged.specs.declared.Planning.{Planning}
+use Rattle.plans_judged.specs.declared.Planning.the-variants.{Written, Refused as NoPlan}
+
+-- an answer, and what the cells of the two tables then hold
+pub record Held (A : Type 0) : Type 0 where
+  pub answer : A
+  pub first : List ℕ
+  pub second : List ℕ
+
+-- an answer with the cells of both tables emptied
+abbrev pub emptying : {A : Type 0} → ℕ → A → Held A
+emptying cells answer = record { answer = answer; first = replicate cells 0; second = replicate cells 0 }
+
+-- how a question ends: with nothing touched, or with the cells of both tables so
+pub data Ending (A : Type 0) : Type 0 where
+  Kept : (answer : A) → Ending A
+  Left : (held : Held A) → Ending A
+
+abbrev pub answerOf : {A : Type 0} → Ending A → A
+answerOf (Kept answer) = answer
+answerOf (Left held) = held .answer
+
+-- the two tables after it: entries past the cells stay
+abbrev pub firstAfter : {A : Type 0} → ℕ → Ending A → List ℕ → List ℕ
+firstAfter cells (Kept answer) table = table
+firstAfter cells (Left held) table = held .first ++ drop cells table
+
+abbrev pub secondAfter : {A : Type 0} → ℕ → Ending A → List ℕ → List ℕ
+secondAfter cells (Kept answer) table = table
+secondAfter cells (Left held) table = held .second ++ drop cells table
+
+-- a refusal of the two cards is the question's own; where both are ready it goes by their owners
+abbrev pub endingOf : {A : Type 0} → ℕ → (Refusal → A) → (List ℕ → List ℕ → Held A) → Opening → Ending A
+endingOf cells refused ready (Untouched refusal) = Kept (refused refusal)
+endingOf cells refused ready (Emptied refusal) = Left (emptying cells (refused refusal))
+endingOf cells refused ready (Ready first second) = Left (ready first second)
+
+-- the promise of a question on two cards: what each comes to, how the question then ends, and the answer and the tables that follow from it
+pub record PairPromise {A : Type 0} (one two : Card) (refused : Refusal → A) (ready : List ℕ → List ℕ → Held A)
+    (first second first-after second-after : List ℕ) (answer : A) : Type 0 where
+  pub judgement : Judgement
+  pub other : Judgement
+  pub comes : ComesTo one (length first) judgement
+  pub comes-other : ComesTo two (length second) other
+  pub ending : Ending A
+  pub follows : ending ≡ endingOf (cells one) refused ready (opening one two (length first) (length second) judgement other)
+  pub answers : answer ≡ answerOf ending
+  pub leaves : first-after ≡ firstAfter (cells one) ending first
+  pub leaves-other : second-after ≡ secondAfter (cells one) ending second
+
+-- a plan between two tables of owners: all its copies are judged for being outside before any is run; then the first wrong cell is looked for
+abbrev pub checkedBy : ℕ → List ℕ → List ℕ → ℕ → ℕ → Held Checked
+checkedBy cells held second (suc copy) wrong = emptying cells (Refused (Plan (suc copy) (record { 0 = 0 })))
+checkedBy cells held second zero (suc cell) =
+    record { answer = Refused (Plan 0 (record { 0 = cell })); first = held; second = second }
+checkedBy cells held second zero zero = record { answer = Accepted; first = held; second = second }
+
+abbrev pub planChecked : ℕ → List ℕ → List ℕ → List ℕ → Held Checked
+planChecked cells plan first second =
+    checkedBy cells (carried plan first) second (firstOutside cells plan) (firstWrong (carried plan first) second)
+
+-- the promise of checking a plan
+abbrev pub CheckPromise : Card → Card → (plan first second first-after second-after : List ℕ) → Checked → Type 0
+CheckPromise one two plan = PairPromise one two Refused (planChecked (cells one) plan)
+
+-- a plan written between two tables of owners, in memory of so many numbers: 23, then 11
+abbrev pub writtenBy : ℕ → ℕ → List ℕ → List ℕ → ℕ → Held Planning
+writtenBy cells room first second (suc cell) = emptying cells (NoPlan (Overlap (record { 0 = cell })))
+writtenBy cells room first second zero =
+    cond (ltb room (2 * occupied second)) (emptying cells (NoPlan (TooShort (2 * occupied second))))
+    (record { answer = Written (2 * occupied second); first = first; second = second })
+
+abbrev pub planWritten : ℕ → ℕ → List ℕ → List ℕ → Held Planning
+planWritten cells room first second = writtenBy cells room first second (firstShared first second)
+
+-- the plan's memory: it begins with what is written, and later numbers stay; every refusal leaves it untouched
+abbrev pub withPlan : Planning → List ℕ → List ℕ → List ℕ
+withPlan (Written numbers) plan memory = plan ++ drop numbers memory
+withPlan (NoPlan refusal) plan memory = memory
+
+abbrev pub memoryIn : Held Planning → List ℕ → List ℕ
+memoryIn held memory = withPlan (held .answer) (planned (held .first) (held .second)) memory
+
+abbrev pub memoryAfter : Ending Planning → List ℕ → List ℕ
+memoryAfter (Kept answer) memory = memory
+memoryAfter (Left held) memory = memoryIn held memory
+
+-- the promise of writing a plan
+pub record PlanPromise (one two : Card) (memory first second memory-after first-after second-after : List ℕ) (answer : Planning) : Type 0 where
+  pub pair : PairPromise one two NoPlan (planWritten (cells one) (length memory)) first second first-after second-after answer
+  pub writes : memory-after ≡ memoryAfter (pair .ending) memory
+
+abbrev pub checkedNumbers : Checked → Numbers
+checkedNumbers Accepted = answer 0 0 0 0
+checkedNumbers (Refused refusal) = refusalNumbers refusal
+
+-- at number 0 the numbers written
+abbrev pub planningNumbers : Planning → Numbers
+planningNumbers (Written numbers) = answer 0 numbers 0 0
+planningNumbers (NoPlan refusal) = refusalNumbers refusal

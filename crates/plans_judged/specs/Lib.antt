@@ -1,0 +1,3 @@
+pub mod Pair
+pub mod Endings
+pub mod Run

@@ -1,0 +1,56 @@
+-- What the functions inside promise each other: what two verdicts come to, and what is left in the tables before a plan is looked at.
+use mathlib.Core.Path.{_≡_}
+use mathlib.Core.Bool.{Bool, cond, not, _||_}
+use mathlib.Core.List.{List}
+use Prim.Native.Nat.{ℕ}
+use lib.Dec.{eqb}
+use lib.ListN.{length}
+use Rattle.answers.specs.declared.Refusal.the-variants.{Limits, Shape}
+use Rattle.card.specs.Card.{cells}
+use Rattle.card.specs.declared.Card.{Card}
+use Rattle.claims.specs.Claims.{occupied}
+use Rattle.judgement.specs.Judgement.{Judgement, ComesTo}
+use Rattle.judgement.specs.Verdict.{verdictOf, tableAfter}
+use Rattle.judgement.specs.declared.Verdict.{Verdict}
+use Rattle.judgement.specs.declared.Verdict.the-variants.{Approved, Refused as NotApproved}
+use Rattle.plans_judged.specs.Pair.{marked}
+use Rattle.plans_judged.specs.Endings.{Held, PairPromise}
+use Rattle.plans_pair.specs.declared.Pairing.{Pairing}
+use Rattle.plans_pair.specs.declared.Pairing.the-variants.{Matching, Refused}
+
+-- the second verdict, where the first approved so many elements
+abbrev pub pairedBy : Verdict → Bool → ℕ → Pairing
+pairedBy (Approved elements occupied cells) marks n = cond marks (Refused Limits) (cond (not (eqb n elements)) (Refused Shape) (Matching cells occupied))
+pairedBy (NotApproved refusal) marks n = Refused refusal
+
+-- both verdicts
+abbrev pub pairing : Verdict → Verdict → Bool → Pairing
+pairing (Approved elements occupied cells) verdict marks = pairedBy verdict marks elements
+pairing (NotApproved refusal) verdict marks = Refused refusal
+
+-- the second table is judged where the first card is approved, and else stays
+abbrev pub ifApproved : Verdict → List ℕ → List ℕ → List ℕ
+ifApproved (Approved elements occupied cells) judged table = judged
+ifApproved (NotApproved refusal) judged table = table
+
+pub record OtherPromise (one two : Card) (n : ℕ) (second second-after : List ℕ) (answer : Pairing) : Type 0 where
+  pub other : Judgement
+  pub comes-other : ComesTo two (length second) other
+  pub answers : answer ≡ pairedBy (verdictOf two other) (marked one || marked two) n
+  pub leaves-other : second-after ≡ tableAfter two other second
+
+pub record BothPromise (one two : Card) (first second first-after second-after : List ℕ) (answer : Pairing) : Type 0 where
+  pub judgement : Judgement
+  pub other : Judgement
+  pub comes : ComesTo one (length first) judgement
+  pub comes-other : ComesTo two (length second) other
+  pub answers : answer ≡ pairing (verdictOf one judgement) (verdictOf two other) (marked one || marked two)
+  pub leaves : first-after ≡ tableAfter one judgement first
+  pub leaves-other : second-after ≡ ifApproved (verdictOf one judgement) (tableAfter two other second) second
+
+-- both cards are ready, in tables that begin with their owners
+abbrev pub bothReady : ℕ → List ℕ → List ℕ → Held Pairing
+bothReady cells first second = record { answer = Matching cells (occupied second); first = first; second = second }
+
+abbrev pub OpenPromise : Card → Card → (first second first-after second-after : List ℕ) → Pairing → Type 0
+OpenPromise one two = PairPromise one two Refused (bothReady (cells one))
