@@ -1,6 +1,6 @@
 // The words of the layout book: block and page.
 use crate::cards;
-use crate::records::put_layout;
+use crate::records::layout_values;
 use crate::records::put_lengths;
 use crate::records::put_marks;
 use answers::Numbers;
@@ -13,6 +13,7 @@ use lines::places::Kept;
 use lines::reply;
 use lines::reply::Reply;
 use lines::words;
+use notation::Layout;
 
 // What a lent byte is before the question, the most that the program lends, of a note too, and the largest seed.
 const LENT: u8 = 165;
@@ -61,14 +62,17 @@ pub fn block(numbers: &Kept) -> Reply {
 
 // The reply to a block that was read: its answer, the card, and the note's length and digest.
 fn shown(answer: Numbers, card: Card, noted: u64, digest: u64) -> Reply {
-    let mut values = [0u64; 80];
-    let mut below = [false; 80];
     let shard = card.shard;
+    let marks = card.marks;
     let replica = card.replica;
     let offset = card.offset;
     let lengths = card.lengths;
-    let marks = card.marks;
-    put_layout(&mut values, &mut below, shard, replica, offset);
+    let mut values = layout_values(Layout {
+        shard,
+        replica,
+        offset,
+        marks,
+    });
     put_lengths(&mut values, lengths);
     values[places::SWIZZLE] = card.swizzle.m;
     values[places::SWIZZLE + 1] = card.swizzle.b;
@@ -76,7 +80,7 @@ fn shown(answer: Numbers, card: Card, noted: u64, digest: u64) -> Reply {
     put_marks(&mut values, places::CARD_MARKS, marks);
     values[places::NOTED] = noted;
     values[places::NOTE_DIGEST] = digest;
-    reply::signed(answer, places::PAGE, values, below)
+    reply::signed(answer, places::PAGE, values)
 }
 
 // The reply to a block.

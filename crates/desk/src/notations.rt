@@ -1,6 +1,6 @@
 // The words of the layout notation: read and write.
 use crate::cards;
-use crate::records::put_layout;
+use crate::records::layout_values;
 use crate::records::put_marks;
 use answers::Numbers;
 use lines::places;
@@ -17,15 +17,10 @@ const MOST_LENT: u64 = 1024;
 
 // The reply to a reading: its answer, and the layout beside it.
 fn shown(answer: Numbers, layout: Layout) -> Reply {
-    let mut values = [0u64; 80];
-    let mut below = [false; 80];
-    let shard = layout.shard;
-    let replica = layout.replica;
-    let offset = layout.offset;
     let marks = layout.marks;
-    put_layout(&mut values, &mut below, shard, replica, offset);
+    let mut values = layout_values(layout);
     put_marks(&mut values, places::LAYOUT_MARKS, marks);
-    reply::signed(answer, places::LAYOUT, values, below)
+    reply::signed(answer, places::LAYOUT, values)
 }
 
 // The reply to a text.

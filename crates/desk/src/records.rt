@@ -1,54 +1,19 @@
-// A layout or a card as values after the bar of a reply, each where it stands among the numbers of a line.
-use card::Iters;
+// A layout as values after the bar of a reply, each where it stands among the numbers of a line.
 use lines::numbers::yes;
 use lines::places;
-use writing::magnitude;
+use notation::Layout;
 
-// Puts the count and the first iters of a list from a place on.
-fn put_list(
-    values: &mut [u64; 80],
-    below: &mut [bool; 80],
-    from: usize,
-    slots: usize,
-    iters: Iters,
-) {
-    let at = iters.at;
-    values[from % 80] = iters.count;
-    let mut k: usize = 0;
-    while k < slots {
-        let iter = at[k % 8];
-        let place = from % 80 + places::ITER * (k % 8);
-        values[(place + places::EXTENT) % 80] = iter.extent;
-        let stride = iter.stride;
-        values[(place + places::STRIDE) % 80] = magnitude(stride);
-        below[(place + places::STRIDE) % 80] = stride < 0;
-        values[(place + places::AXIS) % 80] = iter.axis;
-        k += 1;
+// The shard, the replica and the offsets, as they are handed over to C.
+pub fn layout_values(layout: Layout) -> [u64; 80] {
+    let mut card = [0u64; 57];
+    c_layout::put_layout(layout, &mut card);
+    let mut values = [0u64; 80];
+    let mut i: usize = 0;
+    while i < places::LENGTHS {
+        values[i] = card[i];
+        i += 1;
     }
-}
-
-// Puts the offsets.
-fn put_offsets(values: &mut [u64; 80], below: &mut [bool; 80], offset: [i64; 8]) {
-    let mut k: usize = 0;
-    while k < 8 {
-        let number = offset[k];
-        values[places::OFFSETS + k] = magnitude(number);
-        below[places::OFFSETS + k] = number < 0;
-        k += 1;
-    }
-}
-
-// Puts the shard, the replica and the offsets.
-pub fn put_layout(
-    values: &mut [u64; 80],
-    below: &mut [bool; 80],
-    shard: Iters,
-    replica: Iters,
-    offset: [i64; 8],
-) {
-    put_list(values, below, places::SHARD, 8, shard);
-    put_list(values, below, places::REPLICA, 4, replica);
-    put_offsets(values, below, offset);
+    values
 }
 
 // Puts the lengths.

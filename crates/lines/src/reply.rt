@@ -12,20 +12,20 @@ pub enum Form {
     Plain,
     // these, and after a bar the values
     Barred,
+    // so too, the values those of a layout or a card, which have signs in two's complement
+    Signed,
     // these, and after the values a text
     Written,
 }
 
-// What a line is answered; the values are the first `count`, each below zero or not, and the text is the
-// first `length` bytes.
+// What a line is answered; the values are the first `count`. A text stands behind the first of them, eight bytes
+// to a value, the first the lowest, and is as long as A says: a reply is copied where it is returned, so it has no
+// room that most replies leave empty.
 pub struct Reply {
     pub form: Form,
     pub answer: Numbers,
     pub count: usize,
     pub values: [u64; 80],
-    pub below: [bool; 80],
-    pub text: [u8; 512],
-    pub length: usize,
 }
 
 // The reply to a line that is no question.
@@ -35,9 +35,6 @@ pub fn unknown() -> Reply {
         answer: answers::answer(0, 0, 0, 0),
         count: 0,
         values: [0; 80],
-        below: [false; 80],
-        text: [0; 512],
-        length: 0,
     }
 }
 
@@ -48,9 +45,6 @@ pub fn plain(answer: Numbers) -> Reply {
         answer,
         count: 0,
         values: [0; 80],
-        below: [false; 80],
-        text: [0; 512],
-        length: 0,
     }
 }
 
@@ -61,9 +55,6 @@ fn barred(answer: Numbers, count: usize, values: [u64; 80]) -> Reply {
         answer,
         count,
         values,
-        below: [false; 80],
-        text: [0; 512],
-        length: 0,
     }
 }
 
@@ -140,31 +131,14 @@ pub fn fields(answer: Numbers, counts: [u8; 4], spans: [bool; 4], shared: [u64; 
     barred(answer, places::FIELDS, values)
 }
 
-// An answer and the numbers of a layout or of a card, each with its sign.
-pub fn signed(answer: Numbers, count: usize, values: [u64; 80], below: [bool; 80]) -> Reply {
+// An answer and the numbers of a layout or of a card.
+pub fn signed(answer: Numbers, count: usize, values: [u64; 80]) -> Reply {
     Reply {
-        form: Form::Barred,
+        form: Form::Signed,
         answer,
         count,
         values,
-        below,
-        text: [0; 512],
-        length: 0,
     }
-}
-
-// The first bytes of a text, at most 512.
-fn first_bytes(from: &[u8]) -> [u8; 512] {
-    let mut text = [0u8; 512];
-    let mut i: usize = 0;
-    while i < 512 {
-        if from.len() <= i {
-            return text;
-        }
-        text[i] = from[i];
-        i += 1;
-    }
-    text
 }
 
 // An answer and the digest of lent bytes.
@@ -172,20 +146,34 @@ pub fn digest_bytes(answer: Numbers, from: &[u8]) -> Reply {
     one(answer, lent::digest_bytes(from))
 }
 
-// These, and at number 0 the text in the bytes.
+// A value, and behind it the first bytes of a text, at most 512.
+fn with_text(value: u64, from: &[u8], length: u64) -> [u64; 80] {
+    let mut values = [0u64; 80];
+    values[0] = value;
+    let mut i: usize = 0;
+    while i < 512 {
+        if from.len() <= i {
+            return values;
+        }
+        if length <= i as u64 {
+            return values;
+        }
+        let place = 1 + i / 8;
+        values[place] = values[place] | (numbers::wide(from[i]) << (i % 8 * 8));
+        i += 1;
+    }
+    values
+}
+
+// The digest of lent bytes, and at number 0 the text in them.
 pub fn written(answer: Numbers, from: &[u8]) -> Reply {
     if answer.number != 0 {
         return digest_bytes(answer, from);
     }
-    let mut values = [0u64; 80];
-    values[0] = lent::digest_bytes(from);
     Reply {
         form: Form::Written,
         answer,
         count: 1,
-        values,
-        below: [false; 80],
-        text: first_bytes(from),
-        length: answer.a as usize,
+        values: with_text(lent::digest_bytes(from), from, answer.a),
     }
 }

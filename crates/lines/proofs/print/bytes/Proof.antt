@@ -12,4 +12,4 @@ abbrev μ-loop : tie.MeasureT-loop
 μ-loop out₀ at count of place₀ i₀ out place i = count - i
 
 pub bytes-spec : {M : Type 1} → statement M
-bytes-spec = tie.close (tie.spec Inv-loop μ-loop (λ c. search needs) (λ c. omega arith) (λ c κs. search needs) (λ c. omega arith) (λ c. omega arith) (λ c. search needs) (λ c. search needs))
+bytes-spec = tie.close (tie.spec Inv-loop μ-loop (λ c. search needs) (λ c κs. search needs) (λ c κs. search needs) (λ c. omega arith) (λ c. omega arith) (λ c. search needs) (λ c. search needs))

@@ -6,10 +6,10 @@ use Rattle.lines.proofs.print.values.Statement.{statement}
 use Rattle.lines.proofs.print.values.Tie as tie
 
 abbrev Inv-loop : tie.InvT-loop
-Inv-loop out₀ at count of below place₀ i₀ out place i = Unit
+Inv-loop out₀ at count of signed place₀ i₀ out place i = Unit
 
 abbrev μ-loop : tie.MeasureT-loop
-μ-loop out₀ at count of below place₀ i₀ out place i = count - i
+μ-loop out₀ at count of signed place₀ i₀ out place i = count - i
 
 pub values-spec : {M : Type 1} → statement M
 values-spec =
