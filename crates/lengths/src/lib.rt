@@ -51,7 +51,7 @@ fn begin() -> Reader
 fn before(r: Reader, b: u8) -> Reader
     ensures { λ s. ⌜ s ≡ beforeMove r b ⌝ }
 {
-    let d = reader::digit(b);
+    let d = reading_letters::digit(b);
     if d < 10 {
         let lengths = r.lengths;
         return to(Phase::Inside, d, r.count, lengths);
@@ -63,11 +63,16 @@ fn before(r: Reader, b: u8) -> Reader
 fn inside(r: Reader, b: u8) -> Reader
     ensures { λ s. ⌜ s ≡ insideMove r b ⌝ }
 {
-    let d = reader::digit(b);
+    let d = reading_letters::digit(b);
     let count = r.count;
     let mut lengths = r.lengths;
-    if reader::goes_on(r.value, d) {
-        return to(Phase::Inside, reader::longer(r.value, d), count, lengths);
+    if reading_letters::goes_on(r.value, d) {
+        return to(
+            Phase::Inside,
+            reading_letters::longer(r.value, d),
+            count,
+            lengths,
+        );
     }
     if (b == b' ') & (count < 7) {
         lengths[count] = r.value;

@@ -1,7 +1,7 @@
 -- The layout that the reader holds is what has been said so far: each event adds to it what it adds to what is said.
 use Prim.Native.Nat.{ℕ, zero, suc, _+_, _-_, _≤_, _<_}
 use mathlib.Core.Path.{_≡_, refl, sym, ap, _∙_, subst, subst⁻¹}
-use mathlib.Core.Bool.{Bool, true, false, cond, _&&_}
+use mathlib.Core.Bool.{Bool, true, false, cond, _&&_, true≢false}
 use mathlib.Core.List.{List, [], _∷_, _++_, append-nil, append-assoc, map}
 use native.Mathlib.Omega.{arith}
 use lib.Dec.{leb, ltb, eqb}
@@ -14,7 +14,7 @@ use Rattle.card.specs.declared.Iter.{Iter}
 use Rattle.card.specs.declared.Iters.{Iters}
 use Rattle.notation.specs.Text.{axisOf, Lists, Notation, Correct}
 use Rattle.notation.specs.Meaning.{valueOf, isMarked, markOf, itersOf, listOf, laid, noOffset, layoutOf}
-use Rattle.notation.specs.Machine.{digitOf, continues, initialOf, letter, most, least, parens, isShard, go, stepOf, listMove, follow, phaseMove, moved, inOffset, isStuck, isWhole, ending, lastEvent, nextSpot, Room, readerOf, firstReader, nextReader, moveOf, endsWell, refusedAt, concluded, enter, stepped, start, runs, recorded, extentAdded, stepAdded, addExtent, addStep, Seen, spotOf, noLists, here, said, withExtent, withStep, asPart, seeing, State}
+use Rattle.notation.specs.Machine.{digitOf, continues, initialOf, letter, most, least, parens, isShard, go, stepOf, listMove, follow, phaseMove, moved, inOffset, isStuck, isWhole, ending, lastEvent, adds, nextSpot, readerOf, firstReader, nextReader, moveOf, endsWell, refusedAt, concluded, enter, stepped, start, runs, recorded, extentAdded, stepAdded, addExtent, addStep, Seen, spotOf, noLists, here, said, withExtent, withStep, asPart, seeing, State}
 use Rattle.notation.specs.declared.Layout.{Layout}
 use Rattle.notation.specs.declared.Phase.{Phase}
 use Rattle.notation.specs.declared.Phase.the-variants.{First, Extent, Begun, Minus, Size, At, Tee, Named, Starred, Closed, Plus, Opened, Ended, Stuck}
@@ -104,19 +104,6 @@ Fits Same p s = Unit {0}
 Fits AnExtent p s = (s .steps ≡ []) × (length (s .extents) < 8)
 Fits (AStep place) p s = (p .value < 100000) × (axisOf place ≤ 7) × StepFits (s .part) s
 Fits (APart part) p s = PartFits part s
-
-step-room : (part : Part) (s : Seen) → StepFits part s → length (s .steps) < 8
-step-room Shard s f = omega (arith, f .0, f .1)
-step-room Several s f = omega (arith, f .0, f .1)
-step-room Single s f = omega (arith, f .0, f .1)
-step-room Offset s f = f
-
--- then the reader has room for it
-pub fits-room : (e : Event) (p : Piece) (s : Seen) → Fits e p s → Room e p (spotOf s)
-fits-room Same p s f = tt
-fits-room AnExtent p s f = f .1
-fits-room (AStep place) p s f = (f .0, f .1, step-room (s .part) s (f .2))
-fits-room (APart part) p s f = tt
 
 -- where the reader stands in the part after an event
 pub spot-next : (e : Event) (p : Piece) (s : Seen) → spotOf (seeing e p s) ≡ nextSpot e (spotOf s)
@@ -257,7 +244,6 @@ holds-start = record { stands = refl; holds = refl }
 
 -- a byte more
 pub record Goes (text : List ℕ) (m : Move) (s : Spot) (layout : Layout) : Type 0 where
-  pub room : Room (m .event) (m .piece) s
   pub next : Holds text (nextReader m s) (recorded (m .event) (m .piece) s layout)
 
 goes-state : (state : State) (t more : List ℕ) (b : ℕ) → Good state t → runs stepped start more ≡ stepped state b
@@ -267,7 +253,6 @@ goes-state state t more b g e =
     let m : Move = moveOf (readerOf state) b in
     let f : Fits (m .event) (m .piece) (state .seen) = good-fits state t b g in
     record {
-      room = fits-room (m .event) (m .piece) (state .seen) f;
       next = record {
         stands = ap (λ (q : Spot). record { phase = m .phase; owed = m .owed; piece = m .piece; spot = q }) (sym (spot-next (m .event) (m .piece) (state .seen))) ∙ ap readerOf (sym e);
         holds = sym (image (m .event) (m .piece) (state .seen) f) ∙ ap (λ (q : State). layoutOf (said (q .seen))) (sym e);
@@ -282,12 +267,6 @@ goes-on text i inside r layout h =
     (goes-state state (take i text) (take (i + 1) text) (getD text i 0) (good (take i text)) (run-more text i inside)))
 
 -- a text at its end
-pub holds-last : (text : List ℕ) (r : Reader) (layout : Layout) → Holds text r layout → Room (lastEvent (r .phase) (r .piece)) (r .piece) (r .spot)
-holds-last text r layout h =
-    let s : State = runs stepped start text in
-    subst⁻¹ (λ (q : Reader). Room (lastEvent (q .phase) (q .piece)) (q .piece) (q .spot)) (h .stands)
-    (fits-room (lastEvent (s .phase) (s .piece)) (s .piece) (s .seen) (last-fits (s .piece) (s .seen) 0 (s .phase) (text ++ owing (s .owed)) (good text)))
-
 pub accepted-at-end : (text : List ℕ) (r : Reader) (layout : Layout) → Holds text r layout → endsWell r ≡ true
     → Accepted text (recorded (lastEvent (r .phase) (r .piece)) (r .piece) (r .spot) layout)
 accepted-at-end text r layout h w =
@@ -321,9 +300,9 @@ answered-at-end text i e r layout h alive =
     (λ w. accepted-at-end text r layout whole w)
     (λ w. record { a = i; eighteen = refl; longest = subst⁻¹ (Refused Correct text) e (refused-at-end text r layout whole alive w); zeros = refl })
 
--- a byte counts at most one extent and one stride
-pub spot-grows : (e : Event) (s : Spot) → (nextSpot e s .extents ≤ s .extents + 1) × (nextSpot e s .steps ≤ s .steps + 1)
-spot-grows Same s = (omega arith, omega arith)
-spot-grows AnExtent s = (omega arith, omega arith)
-spot-grows (AStep place) s = (omega arith, omega arith)
-spot-grows (APart part) s = (omega arith, omega arith)
+-- an event that adds nothing leaves the layout
+pub unrecorded : (e : Event) (p : Piece) (s : Spot) (l : Layout) → adds e ≡ false → recorded e p s l ≡ l
+unrecorded Same p s l n = refl
+unrecorded AnExtent p s l n = absurd (true≢false n)
+unrecorded (AStep place) p s l n = absurd (true≢false n)
+unrecorded (APart part) p s l n = refl

@@ -1,6 +1,6 @@
 -- The reader as a machine: where it stands and a byte give a move. Nothing here has to be believed: it is what the functions of the reader promise each
 -- other, and what the proofs run over a text.
-use Prim.Native.Nat.{ℕ, _+_, _-_, _*_, _%_, _^_, _≤_, _<_}
+use Prim.Native.Nat.{ℕ, _+_, _-_, _*_, _%_}
 use mathlib.Core.Bool.{Bool, true, false, cond, _&&_}
 use mathlib.Core.List.{List, [], _∷_, _++_}
 use lib.Dec.{leb, ltb, eqb}
@@ -210,17 +210,6 @@ nextSpot AnExtent s = record { part = s .part; from = s .from; extents = s .exte
 nextSpot (AStep place) s = record { part = s .part; from = cond (inOffset (s .part)) (axisOf place + 1) (s .from); extents = s .extents; steps = s .steps + 1 }
 nextSpot (APart part) s = record { part = part; from = 0; extents = 0; steps = 0 }
 
--- counts that do not wrap
-abbrev pub Counted : Spot → Type 0
-Counted s = (s .extents + 1 < 2 ^ 64) × (s .steps + 1 < 2 ^ 64)
-
--- what an event needs: room for one more, and numbers of the grammar
-abbrev pub Room : Event → Piece → Spot → Type 0
-Room Same p s = Unit {0}
-Room AnExtent p s = s .extents < 8
-Room (AStep place) p s = (p .value < 100000) × (axisOf place ≤ 7) × (s .steps < 8)
-Room (APart part) p s = Unit {0}
-
 abbrev pub noPiece : Piece
 noPiece = record { value = 0; negative = false; axis = 7 }
 
@@ -301,6 +290,13 @@ recorded Same p s l = l
 recorded AnExtent p s l = addExtent (s .part) (s .extents) (p .value) l
 recorded (AStep place) p s l = addStep (s .part) (s .steps) (stepOf p place) l
 recorded (APart part) p s l = l
+
+-- whether it adds anything
+abbrev pub adds : Event → Bool
+adds Same = false
+adds AnExtent = true
+adds (AStep place) = true
+adds (APart part) = false
 
 -- the answer where no correct text goes on, and at the end of a text
 abbrev pub refusedAt : ℕ → Reading

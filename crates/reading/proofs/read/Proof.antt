@@ -1,80 +1,62 @@
--- `reading::read` meets the promise: after so many bytes the reader stands where the machine does, not stuck, and holds what has been said.
-use Prim.Native.Nat.{_+_, _-_, _≤_}
-use mathlib.Core.Path.{_≡_, refl, sym, ap, _∙_}
-use mathlib.Core.Bool.{false}
+-- `reading::read` meets the promise: the tokens are a run of the machine over the text, or the text goes wrong where one of them does.
+use mathlib.Core.Path.{refl}
 use native.Mathlib.Omega.{arith}
 use borrow.Author.Needs.{needs}
-use lib.ListN.{length, take, getD}
-use Rattle.notation.specs.Machine.{isStuck, moveOf}
-use Rattle.notation.proofs.Image.{Holds, holds-start, goes-on, holds-last, answered-in-text, answered-at-end, spot-grows}
+use borrow.Author.Tests.{not-true, not-false}
+use Rattle.notation.specs.declared.Phase.the-variants.{Closed}
+use Rattle.reading_lists.specs.Lists.{spotIn, Standing}
+use Rattle.notation.specs.declared.Part.the-variants.{Shard}
+use Rattle.reading.proofs.Laws.{open-wrong, shard-wrong, shard-right, shardLayout, shard-stops, closed-wrong, closed-plus}
 use Rattle.reading.proofs.read.Statement.{statement}
 use Rattle.reading.proofs.read.Tie as tie
 
-abbrev Inv-loop : tie.InvT-loop
-Inv-loop text r₀ layout₀ i₀ r layout i =
-    (i ≤ length text) × Holds (take i text) r layout × (isStuck (r .phase) ≡ false) × (r .spot .extents ≤ i) × (r .spot .steps ≤ i)
-
-abbrev μ-loop : tie.MeasureT-loop
-μ-loop text r₀ layout₀ i₀ r layout i = length text - i
-
-loop-holds : tie.Need-loop-holds Inv-loop μ-loop
-loop-holds c = rw (c .no-layout .ensures, c .before .begin .ensures) (omega arith, holds-start, refl, omega arith, omega arith)
-
-advance-requires : tie.Need-advance-requires Inv-loop μ-loop
-advance-requires c κs =
-    let l = c .before .before in
-    (omega (arith, l .loop .inv .3), omega (arith, l .loop .inv .4))
-
-returns : tie.Need-returns Inv-loop μ-loop
+returns : tie.Need-returns
 returns c =
-    let a = c .before .before .before in
-    let l = a .before .before .before in
-    let t = l .before .before .before .before .args .text .now in
-    let dead = sym (c .before .before .is-stuck .ensures) ∙ c .before .if1 .taken in
-    rw (c .refuse .ensures) (answered-in-text t (l .loop .i) (omega arith) (l .loop .r) (l .loop .layout) (l .loop .inv .1) (l .loop .inv .2) (rw (a .advance .ensures) at dead))
+    let w = c .before .before .before in
+    rw (c .refuse .ensures) (open-wrong (w .before .before .args .text .now) (w .word .result) (w .word .ensures) (not-true _ (c .before .if1 .taken)))
 
-record-event-requires : tie.Need-record-event-requires Inv-loop μ-loop
-record-event-requires c κs =
-    let a = c .before .before .before .before in
-    let l = a .before .before .before in
-    let t = l .before .before .before .before .args .text .now in
-    rw (a .advance .ensures) (goes-on t (l .loop .i) (omega arith) (l .loop .r) (l .loop .layout) (l .loop .inv .1) .room)
-
-enter-requires : tie.Need-enter-requires Inv-loop μ-loop
-enter-requires c κs =
-    let a = c .before .before .before .before .before in
-    let l = a .before .before .before in
-    let t = l .before .before .before .before .args .text .now in
-    rw (a .advance .ensures) (goes-on t (l .loop .i) (omega arith) (l .loop .r) (l .loop .layout) (l .loop .inv .1) .room)
-
-add-i : tie.Need-add-i Inv-loop μ-loop
-add-i c = let k = c .before .before .before .before .before .before .before in omega (arith, k)
-
-loop-again : tie.Need-loop-again Inv-loop μ-loop
-loop-again c =
-    let a = c .before .before .before .before .before .before in
-    let l = a .before .before .before in
-    let t = l .before .before .before .before .args .text .now in
-    let m = moveOf (l .loop .r) (getD t (l .loop .i) 0) in
-    let alive = sym (c .before .before .before .before .before .is-stuck .ensures) ∙ c .before .before .before .before .if1 .left in
-    let grows = spot-grows (m .event) (l .loop .r .spot) in
-    rw (c .enter .ensures, c .before .record-event .ensures, a .advance .ensures)
-    (omega arith, goes-on t (l .loop .i) (omega arith) (l .loop .r) (l .loop .layout) (l .loop .inv .1) .next, (rw (a .advance .ensures) at alive), omega (arith, grows .0, l .loop .inv .3), omega (arith, grows .1, l .loop .inv .4))
-
-conclude-requires : tie.Need-conclude-requires Inv-loop μ-loop
-conclude-requires c κs =
-    let l = c .before in
-    let t = l .before .before .before .before .args .text .now in
-    holds-last (take (l .loop .i) t) (l .loop .r) (l .loop .layout) (l .loop .inv .1)
-
-returns-2 : tie.Need-returns-2 Inv-loop μ-loop
+returns-2 : tie.Need-returns-2
 returns-2 c =
-    let l = c .before .before in
-    let t = l .before .before .before .before .args .text .now in
-    rw (c .conclude .ensures) (answered-at-end t (l .loop .i) (omega arith) (l .loop .r) (l .loop .layout) (l .loop .inv .1) (l .loop .inv .2))
+    let k = c .before .before .before .before .before in
+    let w = k .before .before .before in
+    rw (c .refuse2 .ensures) (shard-wrong (w .before .before .args .text .now) (w .word .result) (k .read-list .result) (w .word .ensures) (not-false _ (k .before .if1 .left)) (k .read-list .ensures) (not-true _ (c .before .if2 .taken)))
+
+-- where the shard ends
+shard : (c : tie.After-shard-alone)
+    → let k = c .before .before .before .before .before in
+    let t = k .before .before .before .before .before .args .text .now in
+    Standing t (k .read-list .result .next) Closed (spotIn Shard (k .read-list .result .iters .count) (k .read-list .result .iters .count)) (shardLayout (k .read-list .result .iters) (k .read-list .result .marks))
+shard c =
+    let k = c .before .before .before .before .before in
+    let w = k .before .before .before in
+    shard-right (w .before .before .args .text .now) (w .word .result) (k .read-list .result) (w .word .ensures) (not-false _ (k .before .if1 .left)) (k .read-list .ensures) (not-false _ (c .before .if2 .left))
+
+returns-3 : tie.Need-returns-3
+returns-3 c =
+    let s = c .before .before in
+    let k = s .before .before .before .before .before in
+    let t = k .before .before .before .before .before .args .text .now in
+    let n = k .read-list .result .iters .count in
+    rw (c .done .ensures, s .shard-alone .ensures) (shard-stops t (k .read-list .result .next) (spotIn Shard n n) (shardLayout (k .read-list .result .iters) (k .read-list .result .marks)) (omega arith) (shard s))
+
+returns-4 : tie.Need-returns-4
+returns-4 c =
+    let s = c .before .before .before .before in
+    let k = s .before .before .before .before .before in
+    let t = k .before .before .before .before .before .args .text .now in
+    let n = k .read-list .result .iters .count in
+    rw (c .refuse3 .ensures) (closed-wrong t (k .read-list .result .next) (spotIn Shard n n) (shardLayout (k .read-list .result .iters) (k .read-list .result .marks)) (omega arith) (c .before .if4 .taken) (shard s))
+
+returns-5 : tie.Need-returns-5
+returns-5 c =
+    let s = c .before .before .before .before in
+    let k = s .before .before .before .before .before in
+    let t = k .before .before .before .before .before .args .text .now in
+    let n = k .read-list .result .iters .count in
+    (rw (s .shard-alone .ensures) at (c .after-plus .ensures)) (refl, refl) (spotIn Shard n n)
+    (closed-plus t (k .read-list .result .next) (spotIn Shard n n) (shardLayout (k .read-list .result .iters) (k .read-list .result .marks)) (omega arith) (c .before .if4 .left) (shard s))
 
 pub read-spec : {M : Type 1} → statement M
 read-spec =
     tie.close
-    (tie.spec Inv-loop μ-loop (λ c κs. search needs) (λ c κs. search needs) loop-holds (λ c. omega arith) advance-requires (λ c κs. search needs)
-    (λ c κs. search needs) returns record-event-requires enter-requires add-i (λ c. omega arith) loop-again conclude-requires returns-2)
+    (tie.spec (λ c κs. omega arith) (λ c κs. search needs) returns (λ c κs. (omega arith, omega arith)) (λ c κs. search needs) returns-2 (λ c κs. search needs) (λ c κs. search needs) returns-3 (λ c. omega arith) (λ c κs. search needs) returns-4 (λ c. omega arith) (λ c κs. search needs) returns-5)
