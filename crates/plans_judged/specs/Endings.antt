@@ -28,7 +28,7 @@ pub record Held (A : Type 0) : Type 0 where
 
 -- an answer with the cells of both tables emptied
 abbrev pub emptying : {A : Type 0} → ℕ → A → Held A
-emptying cells answer = record { answer = answer; first = replicate cells 0; second = replicate cells 0 }
+emptying size answer = record { answer = answer; first = replicate size 0; second = replicate size 0 }
 
 -- how a question ends: with nothing touched, or with the cells of both tables so
 pub data Ending (A : Type 0) : Type 0 where
@@ -41,18 +41,18 @@ answerOf (Left held) = held .answer
 
 -- the two tables after it: entries past the cells stay
 abbrev pub firstAfter : {A : Type 0} → ℕ → Ending A → List ℕ → List ℕ
-firstAfter cells (Kept answer) table = table
-firstAfter cells (Left held) table = held .first ++ drop cells table
+firstAfter size (Kept answer) table = table
+firstAfter size (Left held) table = held .first ++ drop size table
 
 abbrev pub secondAfter : {A : Type 0} → ℕ → Ending A → List ℕ → List ℕ
-secondAfter cells (Kept answer) table = table
-secondAfter cells (Left held) table = held .second ++ drop cells table
+secondAfter size (Kept answer) table = table
+secondAfter size (Left held) table = held .second ++ drop size table
 
 -- a refusal of the two cards is the question's own; where both are ready it goes by their owners
 abbrev pub endingOf : {A : Type 0} → ℕ → (Refusal → A) → (List ℕ → List ℕ → Held A) → Opening → Ending A
-endingOf cells refused ready (Untouched refusal) = Kept (refused refusal)
-endingOf cells refused ready (Emptied refusal) = Left (emptying cells (refused refusal))
-endingOf cells refused ready (Ready first second) = Left (ready first second)
+endingOf size refused ready (Untouched refusal) = Kept (refused refusal)
+endingOf size refused ready (Emptied refusal) = Left (emptying size (refused refusal))
+endingOf size refused ready (Ready first second) = Left (ready first second)
 
 -- the promise of a question on two cards: what each comes to, how the question then ends, and the answer and the tables that follow from it
 pub record PairPromise {A : Type 0} (one two : Card) (refused : Refusal → A) (ready : List ℕ → List ℕ → Held A)
@@ -69,14 +69,14 @@ pub record PairPromise {A : Type 0} (one two : Card) (refused : Refusal → A) (
 
 -- a plan between two tables of owners: all its copies are judged for being outside before any is run; then the first wrong cell is looked for
 abbrev pub checkedBy : ℕ → List ℕ → List ℕ → ℕ → ℕ → Held Checked
-checkedBy cells held second (suc copy) wrong = emptying cells (Refused (Plan (suc copy) (record { 0 = 0 })))
-checkedBy cells held second zero (suc cell) =
+checkedBy size held second (suc copy) wrong = emptying size (Refused (Plan (suc copy) (record { 0 = 0 })))
+checkedBy size held second zero (suc cell) =
     record { answer = Refused (Plan 0 (record { 0 = cell })); first = held; second = second }
-checkedBy cells held second zero zero = record { answer = Accepted; first = held; second = second }
+checkedBy size held second zero zero = record { answer = Accepted; first = held; second = second }
 
 abbrev pub planChecked : ℕ → List ℕ → List ℕ → List ℕ → Held Checked
-planChecked cells plan first second =
-    checkedBy cells (carried plan first) second (firstOutside cells plan) (firstWrong (carried plan first) second)
+planChecked size plan first second =
+    checkedBy size (carried plan first) second (firstOutside size plan) (firstWrong (carried plan first) second)
 
 -- the promise of checking a plan
 abbrev pub CheckPromise : Card → Card → (plan first second first-after second-after : List ℕ) → Checked → Type 0
@@ -84,13 +84,13 @@ CheckPromise one two plan = PairPromise one two Refused (planChecked (cells one)
 
 -- a plan written between two tables of owners, in memory of so many numbers: 23, then 11
 abbrev pub writtenBy : ℕ → ℕ → List ℕ → List ℕ → ℕ → Held Planning
-writtenBy cells room first second (suc cell) = emptying cells (NoPlan (Overlap (record { 0 = cell })))
-writtenBy cells room first second zero =
-    cond (ltb room (2 * occupied second)) (emptying cells (NoPlan (TooShort (2 * occupied second))))
+writtenBy size room first second (suc cell) = emptying size (NoPlan (Overlap (record { 0 = cell })))
+writtenBy size room first second zero =
+    cond (ltb room (2 * occupied second)) (emptying size (NoPlan (TooShort (2 * occupied second))))
     (record { answer = Written (2 * occupied second); first = first; second = second })
 
 abbrev pub planWritten : ℕ → ℕ → List ℕ → List ℕ → Held Planning
-planWritten cells room first second = writtenBy cells room first second (firstShared first second)
+planWritten size room first second = writtenBy size room first second (firstShared first second)
 
 -- the plan's memory: it begins with what is written, and later numbers stay; every refusal leaves it untouched
 abbrev pub withPlan : Planning → List ℕ → List ℕ → List ℕ

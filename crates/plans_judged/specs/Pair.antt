@@ -33,7 +33,7 @@ ownersOf (NotAdmitted refusal) = []
 ownersOf NoRoom = []
 ownersOf (OutsideAt flat axis) = []
 ownersOf (Clashing x y cell) = []
-ownersOf (Passed owners occupied) = owners
+ownersOf (Passed owners count) = owners
 
 -- what the two cards come to: refused with nothing touched, refused with the cells of both tables emptied, or both approved, each with its owners
 pub data Opening : Type 0 where
@@ -43,7 +43,7 @@ pub data Opening : Type 0 where
 
 -- a card that is not approved is refused by its verdict's own number and details
 abbrev pub afterVerdict : Verdict → Opening → Opening
-afterVerdict (Approved elements occupied cells) then = then
+afterVerdict (Approved n o c) then = then
 afterVerdict (Refused refusal) then = Emptied refusal
 
 -- both approved, the first judged first; no reuse mark on either; equally many elements
