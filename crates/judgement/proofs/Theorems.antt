@@ -12,7 +12,7 @@ use Rattle.answers.specs.declared.Cell.{Cell}
 use Rattle.answers.specs.declared.Flat.{Flat}
 use Rattle.answers.specs.declared.Numbers.{Numbers}
 use Rattle.answers.specs.declared.Refusal.{Refusal}
-use Rattle.answers.specs.declared.Refusal.the-variants.{Shared}
+use Rattle.answers.specs.declared.Refusal.the-variants.{CopyOutside, Shared}
 use Rattle.answers.proofs.OneToOne.{readBack, refused-back, pinned}
 use Rattle.card.specs.Card.{elements, copies, cells}
 use Rattle.card.specs.Admission.{admission}
@@ -29,7 +29,7 @@ use Rattle.idle.proofs.Theorems.{admitted-exactly}
 use Rattle.claims.specs.Claims.{Claims, Share, occupied, OwnedTable as Owned, FirstClash}
 use Rattle.claims.specs.Outcome.{NoneShare}
 use Rattle.claims.proofs.Theorems.{owners-none-share, clash-shares, nobody-exactly}
-use Rattle.judgement.specs.Judgement.{placed, LiesInside, AllInside, Judgement, NotAdmitted, NoRoom, OutsideAt, Clashing, Passed, ComesTo}
+use Rattle.judgement.specs.Judgement.{placed, LiesInside, AllInside, FirstOutside, Judgement, NotAdmitted, NoRoom, OutsideAt, Clashing, Passed, ComesTo}
 use Rattle.judgement.specs.Verdict.{verdictOf, tableAfter, VerdictPromise, askedSpot, OwnerJudgement, NoCell, ByVerdict, OwnerComesTo, readEntry, ownerTableAfter, ownerOf, OwnerPromise, verdictNumbers, ownerNumbers}
 use Rattle.judgement.specs.declared.Verdict.{Verdict}
 use Rattle.judgement.specs.declared.Verdict.the-variants.{Approved, Refused}
@@ -425,6 +425,27 @@ module _ (card : Card) (before after : List ℕ) (verdict : Verdict) (admitted :
           let same-y : b ≡ y .0 = ap (λ v. verdictNumbers v .b) q in
           let same-cell : c ≡ cell .0 = ap (λ v. verdictNumbers v .c) q in
           rw (sym same-x, sym same-y, sym same-cell) (first-shared card admitted a b c (h .1) (h .2))
+      go (Passed owners n) h q = absurd (omega (arith, ap (λ v. verdictNumbers v .number) q))
+
+  -- 7 is given exactly with the first: the smallest flat of which a copy lies outside the space, and the smallest axis for it
+  pub outside-means : (flat : Flat) (axis : ℕ) → (verdict ≡ Refused (CopyOutside flat axis)) ↔ FirstOutside card (flat .0) axis
+  outside-means flat axis = (
+    λ e. go (promise .judgement) (promise .comes) (sym (promise .answers) ∙ e),
+    λ first.
+        promise .answers
+        ∙ ap (verdictOf card)
+        (judgement-unique card (length before) (promise .judgement) (OutsideAt (flat .0) axis) (promise .comes)
+        (record { admitted = admitted-exactly card .1 (admitted, no-pair); enough = long }, first)),
+  )
+    where
+      go : (j : Judgement) → ComesTo card (length before) j → verdictOf card j ≡ Refused (CopyOutside flat axis) → FirstOutside card (flat .0) axis
+      go (NotAdmitted r) h q = absurd (not-both card h (admitted-exactly card .1 (admitted, no-pair)))
+      go NoRoom h q = absurd (omega arith)
+      go (OutsideAt f a) h q =
+          let same-flat : f ≡ flat .0 = ap (λ v. verdictNumbers v .a) q in
+          let same-axis : a ≡ axis = ap (λ v. verdictNumbers v .b) q in
+          rw (sym same-flat, sym same-axis) (h .1)
+      go (Clashing x y cell) h q = absurd (omega (arith, ap (λ v. verdictNumbers v .number) q))
       go (Passed owners n) h q = absurd (omega (arith, ap (λ v. verdictNumbers v .number) q))
 
 -- the owner of a cell is the verdict with one entry read, for coordinates that name a cell

@@ -62,7 +62,7 @@ OwnerComesTo card coordinates room (ByVerdict judgement) =
     (fullAdmission card ≡ Admitted → LiesInside (askedSpot card coordinates)) × ComesTo card room judgement
 
 abbrev pub readEntry : Verdict → ℕ → Owner
-readEntry (Approved elements occupied cells) entry = Entry entry
+readEntry (Approved n o c) entry = Entry entry
 readEntry (Refused refusal) entry = NoOwner refusal
 
 abbrev pub ownerTableAfter : Card → OwnerJudgement → List ℕ → List ℕ
@@ -83,7 +83,7 @@ pub record OwnerPromise (card : Card) (coordinates before after : List ℕ) (own
 
 -- at number 0 elements, occupied cells, cells; of the owner the entry read
 abbrev pub verdictNumbers : Verdict → Numbers
-verdictNumbers (Approved elements occupied cells) = answer 0 elements occupied cells
+verdictNumbers (Approved n o c) = answer 0 n o c
 verdictNumbers (Refused refusal) = refusalNumbers refusal
 
 abbrev pub ownerNumbers : Owner → Numbers

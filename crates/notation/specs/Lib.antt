@@ -4,3 +4,4 @@ pub mod Meaning
 pub mod Promise
 pub mod Writing
 pub mod Machine
+pub mod Quoted

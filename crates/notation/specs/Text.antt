@@ -5,6 +5,7 @@ use mathlib.Core.Bool.{Bool, true, false, cond}
 use mathlib.Core.List.{List, [], _∷_, _++_, map}
 use lib.Dec.{ltb}
 use lib.ListN.{length, getD}
+use Rattle.notation.specs.Quoted.{bytes}
 use Rattle.notation.specs.declared.Place.{Place}
 use Rattle.notation.specs.declared.Place.the-variants.{Bare, At, Marked}
 use Rattle.notation.specs.declared.Step.{Step}
@@ -19,16 +20,7 @@ decimal n = digits 5 n
 
 -- pid, warpid, laneid, P, F, TLane, TCol, m
 abbrev pub names : List (List ℕ)
-names =
-    (112 ∷ 105 ∷ 100 ∷ []) ∷
-    (119 ∷ 97 ∷ 114 ∷ 112 ∷ 105 ∷ 100 ∷ []) ∷
-    (108 ∷ 97 ∷ 110 ∷ 101 ∷ 105 ∷ 100 ∷ []) ∷
-    (80 ∷ []) ∷
-    (70 ∷ []) ∷
-    (84 ∷ 76 ∷ 97 ∷ 110 ∷ 101 ∷ []) ∷
-    (84 ∷ 67 ∷ 111 ∷ 108 ∷ []) ∷
-    (109 ∷ []) ∷
-    []
+names = map bytes ("pid" ∷ "warpid" ∷ "laneid" ∷ "P" ∷ "F" ∷ "TLane" ∷ "TCol" ∷ "m" ∷ [])
 
 abbrev pub name : ℕ → List ℕ
 name axis = getD names axis []
@@ -42,12 +34,12 @@ axisOf (Marked axis) = axis
 -- nothing, `@` and the name, or these and a star
 abbrev pub spellPlace : Place → List ℕ
 spellPlace Bare = []
-spellPlace (At axis) = 64 ∷ name axis
-spellPlace (Marked axis) = 64 ∷ (name axis ++ (42 ∷ []))
+spellPlace (At axis) = bytes "@" ++ name axis
+spellPlace (Marked axis) = bytes "@" ++ (name axis ++ bytes "*")
 
 -- a minus or nothing, the number, and the place
 abbrev pub spellSigned : Bool → ℕ → List ℕ
-spellSigned negative size = cond negative (45 ∷ []) [] ++ decimal size
+spellSigned negative size = cond negative (bytes "-") [] ++ decimal size
 
 abbrev pub spellStep : Step → List ℕ
 spellStep s = spellSigned (s .negative) (s .size) ++ spellPlace (s .place)
@@ -55,7 +47,7 @@ spellStep s = spellSigned (s .negative) (s .size) ++ spellPlace (s .place)
 -- parted by commas
 abbrev pub tails : List (List ℕ) → List ℕ
 tails [] = []
-tails (t ∷ ts) = 44 ∷ (t ++ tails ts)
+tails (t ∷ ts) = bytes "," ++ (t ++ tails ts)
 
 abbrev pub joined : List (List ℕ) → List ℕ
 joined [] = []
@@ -63,10 +55,10 @@ joined (t ∷ ts) = t ++ tails ts
 
 -- with parentheses or without
 abbrev pub opening : Bool → List ℕ
-opening paren = cond paren (40 ∷ []) []
+opening paren = cond paren (bytes "(") []
 
 abbrev pub closing : Bool → List ℕ
-closing paren = cond paren (41 ∷ []) []
+closing paren = cond paren (bytes ")") []
 
 abbrev pub enclosed : Bool → List (List ℕ) → List ℕ
 enclosed paren ts = opening paren ++ (joined ts ++ closing paren)
@@ -77,11 +69,11 @@ pub record Lists : Type 0 where
   pub steps : List Step
 
 abbrev pub spellLists : Bool → Lists → List ℕ
-spellLists paren l = enclosed paren (map decimal (l .extents)) ++ (58 ∷ enclosed paren (map spellStep (l .steps)))
+spellLists paren l = enclosed paren (map decimal (l .extents)) ++ (bytes ":" ++ enclosed paren (map spellStep (l .steps)))
 
 -- S[..]
 abbrev pub spellShard : Lists → List ℕ
-spellShard l = 83 ∷ 91 ∷ (spellLists true l ++ (93 ∷ []))
+spellShard l = bytes "S[" ++ (spellLists true l ++ bytes "]")
 
 -- nothing, or +R[..]: a single iter is bare
 abbrev pub several : List ℕ → Bool
@@ -90,7 +82,7 @@ several (e ∷ []) = false
 several (e ∷ f ∷ es) = true
 
 abbrev pub spellSome : Lists → List ℕ
-spellSome l = 43 ∷ 82 ∷ 91 ∷ (spellLists (several (l .extents)) l ++ (93 ∷ []))
+spellSome l = bytes "+R[" ++ (spellLists (several (l .extents)) l ++ bytes "]")
 
 abbrev pub isNone : List ℕ → Bool
 isNone [] = true
@@ -102,7 +94,7 @@ spellReplica l = cond (isNone (l .extents)) [] (spellSome l)
 -- each after a `+`
 abbrev pub spellOffsets : List Step → List ℕ
 spellOffsets [] = []
-spellOffsets (s ∷ ss) = (43 ∷ spellStep s) ++ spellOffsets ss
+spellOffsets (s ∷ ss) = (bytes "+" ++ spellStep s) ++ spellOffsets ss
 
 -- what a text says
 pub record Notation : Type 0 where

@@ -73,11 +73,11 @@ pub record Met (numbers : List ℕ) (strides : List ℤ) (flat : ℕ) (row table
   pub meets : 0 < entryMet table (copyCells (cardOf numbers strides) flat)
 
 -- the elements are runs of this length, in each of which every sum grows by one step, and all elements of a run lead if the first does
-pub record RunsBy (card : Card) (length : ℕ) : Type 0 where
-  pub some : 1 ≤ length
-  pub few : length ≤ elements card
+pub record RunsBy (card : Card) (long : ℕ) : Type 0 where
+  pub some : 1 ≤ long
+  pub few : long ≤ elements card
   pub runs : ℕ
-  pub whole-runs : elements card ≡ runs * length
-  pub goes-on : (q c axis : ℕ) → c < length → base card (q * length + c) axis ≡ base card (q * length) axis +ℤ pos c *ℤ part (card .shard) 1 axis
-  pub lead : (q c : ℕ) → c < length → q * length + c < elements card → leader card (q * length) ≡ q * length → leader card (q * length + c) ≡ q * length + c
-  pub alone : (q : ℕ) → q * length < elements card → (leader card (q * length) ≡ q * length → ⊥) → length ≡ 1
+  pub whole-runs : elements card ≡ runs * long
+  pub goes-on : (q c axis : ℕ) → c < long → base card (q * long + c) axis ≡ base card (q * long) axis +ℤ pos c *ℤ part (card .shard) 1 axis
+  pub lead : (q c : ℕ) → c < long → q * long + c < elements card → leader card (q * long) ≡ q * long → leader card (q * long + c) ≡ q * long + c
+  pub alone : (q : ℕ) → q * long < elements card → (leader card (q * long) ≡ q * long → ⊥) → long ≡ 1

@@ -20,17 +20,17 @@ use Rattle.plans_pair.specs.declared.Pairing.the-variants.{Matching, Ref
 
 -- the second verdict, where the first approved so many elements
 abbrev pub pairedBy : Verdict → Bool → ℕ → Pairing
-pairedBy (Approved elements occupied cells) marks n = cond marks (Refused Limits) (cond (not (eqb n elements)) (Refused Shape) (Matching cells occupied))
+pairedBy (Approved n o c) marks first = cond marks (Refused Limits) (cond (not (eqb first n)) (Refused Shape) (Matching c o))
 pairedBy (NotApproved refusal) marks n = Refused refusal
 
 -- both verdicts
 abbrev pub pairing : Verdict → Verdict → Bool → Pairing
-pairing (Approved elements occupied cells) verdict marks = pairedBy verdict marks elements
+pairing (Approved n o c) verdict marks = pairedBy verdict marks n
 pairing (NotApproved refusal) verdict marks = Refused refusal
 
 -- the second table is judged where the first card is approved, and else stays
 abbrev pub ifApproved : Verdict → List ℕ → List ℕ → List ℕ
-ifApproved (Approved elements occupied cells) judged table = judged
+ifApproved (Approved n o c) judged table = judged
 ifApproved (NotApproved refusal) judged table = table
 
 pub record OtherPromise (one two : Card) (n : ℕ) (second second-after : List ℕ) (answer : Pairing) : Type 0 where
@@ -50,7 +50,7 @@ pub record BothPromise (one two : Card) (first second first-after second-after :
 
 -- both cards are ready, in tables that begin with their owners
 abbrev pub bothReady : ℕ → List ℕ → List ℕ → Held Pairing
-bothReady cells first second = record { answer = Matching cells (occupied second); first = first; second = second }
+bothReady size first second = record { answer = Matching size (occupied second); first = first; second = second }
 
 abbrev pub OpenPromise : Card → Card → (first second first-after second-after : List ℕ) → Pairing → Type 0
 OpenPromise one two = PairPromise one two Refused (bothReady (cells one))

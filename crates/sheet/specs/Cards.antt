@@ -72,13 +72,13 @@ tileX = tile 11 4
 
 -- iters and replica iters from an offset on m
 abbrev pub fromM : List Iter → List Iter → ℤ → ℕ → Swizzle → Card
-fromM shard replica offset length w =
+fromM shard replica offset long w =
     record {
       shard = iters shard;
       marks = noMarks;
       replica = iters replica;
       offset = pos 0 ∷ pos 0 ∷ pos 0 ∷ pos 0 ∷ pos 0 ∷ pos 0 ∷ pos 0 ∷ offset ∷ [];
-      lengths = 1 ∷ 1 ∷ 1 ∷ 1 ∷ 1 ∷ 1 ∷ 1 ∷ length ∷ [];
+      lengths = 1 ∷ 1 ∷ 1 ∷ 1 ∷ 1 ∷ 1 ∷ 1 ∷ long ∷ [];
       swizzle = w;
     }
 
@@ -152,15 +152,35 @@ reusedFactors = inTensorMemory (2 by 0 on TCol ∷ 32 by 1 on TLane ∷ 4 by 1 o
 
 -- three cells, each with four elements, and copies further on
 abbrev pub fourEach : ℕ → ℕ → Card
-fourEach stride length = fromM (2 by 0 on m ∷ 3 by 1 on m ∷ 2 by 0 on m ∷ []) (2 by stride on m ∷ []) (pos 0) length unswizzled
+fourEach stride long = fromM (2 by 0 on m ∷ 3 by 1 on m ∷ 2 by 0 on m ∷ []) (2 by stride on m ∷ []) (pos 0) long unswizzled
 
 -- 65 elements in a row, swizzled
 abbrev pub sixtyFive : ℕ → Card
-sixtyFive length = onM (65 by 1 on m ∷ []) length (swizzle 3 3 3)
+sixtyFive long = onM (65 by 1 on m ∷ []) long (swizzle 3 3 3)
 
 -- Figure 189's layout as printed
 abbrev pub figure189 : Card
 figure189 = onM (2 by 64 on m ∷ 8 by 8 on m ∷ 4 by 4 on m ∷ 4 by 1 on m ∷ []) 256 (swizzle 2 1 3)
+
+-- a card that says to have so many shard and replica iters, whatever stands in their slots
+abbrev pub saying : ℕ → ℕ → Card → Card
+saying shards replicas card =
+    record {
+      shard = record { at = card .shard .at; count = shards };
+      marks = card .marks;
+      replica = record { at = card .replica .at; count = replicas };
+      offset = card .offset;
+      lengths = card .lengths;
+      swizzle = card .swizzle;
+    }
+
+-- one element with so many copies in a row
+abbrev pub inARow : ℕ → Card
+inARow copies = fromM (1 by 0 on m ∷ []) (copies by 1 on m ∷ []) (pos 0) copies unswizzled
+
+-- as many iters as a card has room for, all of extent 1
+abbrev pub fullCard : Card
+fullCard = fromM (replicate 8 (1 by 0 on m)) (replicate 4 (1 by 0 on m)) (pos 0) 1 unswizzled
 
 -- two elements in a row from an offset on, in six cells; the same two, the last first; and with copies two cells on
 abbrev pub twoFrom : ℕ → Card

@@ -9,7 +9,7 @@ use Rattle.answers.specs.Refusals.{answer}
 use Rattle.descriptor.specs.Descriptor.{descriptorOf}
 use Rattle.descriptor.specs.declared.Fields.{Fields}
 use Rattle.sheet.specs.Questions.{Question, swizzle, mode, bank, fragment, descriptor, mask, place, verdict, owner, stretch, carry, plan, Reply, reply}
-use Rattle.sheet.specs.Cards.{tuple, tile, tileX, unswizzled, onM, atM, backwards, lastRowFirst, copiesBack, _by_on_, _back_on_, m, TLane, inTensorMemory, wideTile, doubled, copied, bothSides, scaleFactors, marked, reusedFactors, fourEach, sixtyFive, figure189, twoFrom, twoTurned, twoTwice}
+use Rattle.sheet.specs.Cards.{tuple, tile, tileX, unswizzled, onM, atM, backwards, lastRowFirst, copiesBack, _by_on_, _back_on_, m, TLane, inTensorMemory, wideTile, doubled, copied, bothSides, scaleFactors, marked, reusedFactors, fourEach, sixtyFive, figure189, saying, inARow, fullCard, twoFrom, twoTurned, twoTwice}
 use Rattle.sheet.specs.Cards.{swizzle as swizzleBy}
 
 pub record Load : Type 0 where
@@ -245,6 +245,16 @@ loads =
     ∷ (verdict (onM (32768 by 0 on m ∷ 2 by 0 on m ∷ []) 1 unswizzled) [] is reply (answer 11 1 0 0) [])
     ∷ (verdict (onM (32769 by 0 on m ∷ 2 by 0 on m ∷ []) 1 unswizzled) [] is reply (answer 5 0 0 0) [])
     ∷ (verdict (onM (65536 by 0 on m ∷ 65536 by 0 on m ∷ []) 1 unswizzled) [] is reply (answer 5 0 0 0) [])
+    -- the copies, the iters and the swizzle's numbers at their limits and past them
+    ∷ (verdict (inARow 64) (table 64) is reply (answer 0 1 64 64) [])
+    ∷ (verdict (inARow 65) (table 65) is reply (answer 5 0 0 0) [])
+    ∷ (verdict fullCard (table 1) is reply (answer 0 1 1 1) [])
+    ∷ (verdict (saying 9 4 fullCard) (table 1) is reply (answer 1 0 0 0) [])
+    ∷ (verdict (saying 8 5 fullCard) (table 1) is reply (answer 1 0 0 0) [])
+    ∷ (verdict (atM (pos 0) 1 (swizzleBy 8 4 8)) (table 1) is reply (answer 0 1 1 1) [])
+    ∷ (verdict (atM (pos 0) 1 (swizzleBy 9 4 8)) (table 1) is reply (answer 6 0 0 0) [])
+    ∷ (verdict (atM (pos 0) 1 (swizzleBy 8 5 8)) (table 1) is reply (answer 6 0 0 0) [])
+    ∷ (verdict (atM (pos 0) 1 (swizzleBy 8 4 9)) (table 1) is reply (answer 6 0 0 0) [])
     -- the stretch of tile X's table under warpid 6; a table one entry too short; warpid 11, judged before the table; 28,672 and 65,536 cells
     -- that are not lent, too many cells
     ∷ (stretch (tileX .lengths) 1 (0 ∷ 6 ∷ 99 ∷ 0 ∷ 0 ∷ 0 ∷ 0 ∷ 0 ∷ []) (table 704) is reply (answer 0 384 64 0) (replicate 64 1000000))

@@ -33,13 +33,13 @@ stretchAnswer lengths axis coordinates room =
 
 -- the stretch of the table itself: empty where refused
 abbrev pub stretchOf : Located → List ℕ → List ℕ
-stretchOf (Stretch first length) table = take length (drop (first .0) table)
+stretchOf (Stretch first long) table = take long (drop (first .0) table)
 stretchOf (Refused refusal) table = []
 
 -- and where in memory it begins, a place being a block and a byte of it: in the table's own block, four bytes a cell into the table, and
 -- where refused at the table's start
 abbrev pub cellsBefore : Located → ℕ
-cellsBefore (Stretch first length) = first .0
+cellsBefore (Stretch first long) = first .0
 cellsBefore (Refused refusal) = 0
 
 abbrev pub Begins : Located → ℕ × ℕ → ℕ × ℕ → Type 0
@@ -47,5 +47,5 @@ Begins located table part = (part .0 ≡ table .0) × (part .1 ≡ table .1 + 4 
 
 -- at number 0 its first cell and length
 abbrev pub stretchNumbers : Located → Numbers
-stretchNumbers (Stretch first length) = answer 0 (first .0) length 0
+stretchNumbers (Stretch first long) = answer 0 (first .0) long 0
 stretchNumbers (Refused refusal) = refusalNumbers refusal
