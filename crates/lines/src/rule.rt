@@ -137,7 +137,8 @@ fn keep(
 }
 
 // Reads the numbers of a line of so many bytes, which begins with so many cards, from the space at a
-// place of it on: they are kept in their order from a place of their own up to an end.
+// place of it on: they are kept in their order from a place of their own up to an end. Public, with a
+// requires, for the words.
 pub fn read(
     line: &[u8; 4096],
     held: usize,
