@@ -5,14 +5,14 @@ use crate::records::put_lengths;
 use crate::records::put_marks;
 use answers::Numbers;
 use card::Card;
-use lines::lent::digest_bytes;
 use lines::numbers::byte;
-use lines::pairs;
 use lines::places;
 use lines::places::Kept;
-use lines::reply;
-use lines::reply::Reply;
-use lines::words;
+use lines_read::pairs;
+use lines_read::words;
+use lines_reply::lent::digest_bytes;
+use lines_reply::reply;
+use lines_reply::reply::Reply;
 use notation::Layout;
 
 // What a lent byte is before the question, the most that the program lends, of a note too, and the largest seed.

@@ -1,14 +1,14 @@
 // The words on a carrier's move plan: carry and plan. The buffers are lent for all lines, no more of each than a
 // line asks for; what they are long is the program's own limit.
 use crate::cards;
-use lines::lent;
-use lines::lent::fill;
-use lines::lent::fill_plan;
 use lines::places;
 use lines::places::Kept;
-use lines::reply;
-use lines::reply::Reply;
-use lines::words::MOST_CARRIED;
+use lines_read::words::MOST_CARRIED;
+use lines_reply::lent;
+use lines_reply::lent::fill;
+use lines_reply::lent::fill_plan;
+use lines_reply::reply;
+use lines_reply::reply::Reply;
 
 // The check of a plan that a line asks for, in tables as they are lent.
 fn ask_carry(numbers: &Kept, plan: &[u64], first: &mut [u32], second: &mut [u32]) -> Reply {

@@ -1,11 +1,11 @@
 // The word canonical: the verdict on a canonical shared-memory layout, with LBO and SBO as a descriptor has them.
 use canonical::Canonical;
-use lines::lent::TABLE;
-use lines::lent::fill;
 use lines::places;
 use lines::places::Kept;
-use lines::reply;
-use lines::reply::Reply;
+use lines_reply::lent::TABLE;
+use lines_reply::lent::fill;
+use lines_reply::reply;
+use lines_reply::reply::Reply;
 
 // The verdict that a line asks for, in entries as they are lent.
 fn ask_canonical(numbers: &Kept, lent: &mut [u32]) -> Reply {

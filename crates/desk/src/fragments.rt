@@ -1,7 +1,7 @@
 // The words of the subject fragment.
 use lines::places::Kept;
-use lines::reply;
-use lines::reply::Reply;
+use lines_reply::reply;
+use lines_reply::reply::Reply;
 
 // fragment kind lane register
 pub fn fragment(numbers: &Kept) -> Reply {

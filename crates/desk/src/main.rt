@@ -13,11 +13,11 @@ mod swizzles;
 mod tables;
 
 use lines::places::Kept;
-use lines::print;
-use lines::reply;
-use lines::reply::Reply;
-use lines::words;
-use lines::words::Word;
+use lines_read::words;
+use lines_read::words::Word;
+use lines_reply::print;
+use lines_reply::reply;
+use lines_reply::reply::Reply;
 use text::input;
 use text::input::Input;
 use text::output;

@@ -7,8 +7,8 @@ use lines::numbers::within;
 use lines::numbers::yes;
 use lines::places;
 use lines::places::Kept;
-use lines::reply;
-use lines::reply::Reply;
+use lines_reply::reply;
+use lines_reply::reply::Reply;
 
 // The most bytes that the program lends to a mask.
 const MOST_LENT: u64 = 64;

@@ -5,9 +5,9 @@ use crate::records::put_marks;
 use answers::Numbers;
 use lines::places;
 use lines::places::Kept;
-use lines::reply;
-use lines::reply::Reply;
-use lines::words;
+use lines_read::words;
+use lines_reply::reply;
+use lines_reply::reply::Reply;
 use notation::Layout;
 
 // What a lent byte is before the question, and the most that the program lends.

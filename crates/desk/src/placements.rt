@@ -1,13 +1,13 @@
 // The word place.
 use crate::cards;
 use answers::Numbers;
-use lines::lent::TABLE;
-use lines::lent::fill;
 use lines::numbers::nine;
 use lines::places;
 use lines::places::Kept;
-use lines::reply;
-use lines::reply::Reply;
+use lines_reply::lent::TABLE;
+use lines_reply::lent::fill;
+use lines_reply::reply;
+use lines_reply::reply::Reply;
 
 // The most entries that the program lends to a placement.
 const MOST_LENT: u64 = 64;

@@ -1,7 +1,7 @@
 // The words of the subject swizzle, and that of the banks where a swizzled address lies.
 use lines::places::Kept;
-use lines::reply;
-use lines::reply::Reply;
+use lines_reply::reply;
+use lines_reply::reply::Reply;
 
 // swizzle M B S address
 pub fn swizzle(numbers: &Kept) -> Reply {

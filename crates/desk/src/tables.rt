@@ -1,13 +1,13 @@
 // The words on the owner table of a card: verdict, owner, stretch. One buffer is lent for all lines, no
 // more of it than a line asks for, so nothing is cleared; what it is long is the program's own limit.
 use crate::cards;
-use lines::lent::TABLE;
-use lines::lent::fill;
 use lines::numbers::eight;
 use lines::places;
 use lines::places::Kept;
-use lines::reply;
-use lines::reply::Reply;
+use lines_reply::lent::TABLE;
+use lines_reply::lent::fill;
+use lines_reply::reply;
+use lines_reply::reply::Reply;
 
 // The verdict that a line asks for, in entries as they are lent.
 fn ask_verdict(numbers: &Kept, lent: &mut [u32]) -> Reply {

@@ -1,10 +1,3 @@
-// The protocol of the program desk: a line is read by its rule and its word, and a reply is put into
-// text. The program itself asks the questions in between.
-pub mod lent;
+// The numbers of a line of the program desk: where those of each question stand, and several of them at once.
 pub mod numbers;
-pub mod pairs;
 pub mod places;
-pub mod print;
-pub mod reply;
-pub mod rule;
-pub mod words;
