@@ -6,12 +6,13 @@ use card::Card;
 ghost use mathlib.Core.Path.{_≡_};
 ghost use mathlib.Core.Bool.{true};
 ghost use mathlib.Core.List.{List};
-ghost use Prim.Native.Nat.{_≤_};
+ghost use Prim.Native.Nat.{ℕ, _≤_};
 ghost use lib.IntN.{ℤ};
 ghost use lib.ListN.{length};
 ghost use lib.Seq.{slice};
 ghost use Rattle.card.specs.Lists.{all, within, withinZ};
-ghost use Rattle.card.specs.Admission.{countsFit, itersFit, marksFit, numbersFit, itersOnAxes, spaceFits, fewEnough, fieldChecks, admission, admissionNumbers};
+ghost use Rattle.card.specs.Limits.{leastStride, mostStride};
+ghost use Rattle.card.specs.Admission.{countsFit, itersFit, marksFit, itersOnAxes, spaceFits, fewEnough, fieldChecks, admission, admissionNumbers};
 ghost use Rattle.card.specs.Packed.{itersOf, marksThere, stridesThere, cardOf, Whole, ListOf};
 ghost use Rattle.card.specs.declared.Admission.the-variants.{Admitted};
 
@@ -77,20 +78,36 @@ fn counts_fit(numbers: &[u64; 56]) -> bool
     (1 <= shard) & (shard <= MOST_SHARD) & (replica <= MOST_REPLICA)
 }
 
-// Whether the extents and the strides of a list of iters lie within the limits.
-fn iters_fit(numbers: &[u64; 56], strides: &[i64; 24], list: usize) -> bool
+// What one walk over a list of iters says of it for checks 2 and 3.
+struct Fits {
+    limits: bool,
+    axes: bool,
+}
+
+// Whether the extents and the strides of a list of iters lie within the limits, and whether every axis is one.
+fn list_fits(numbers: &[u64; 56], strides: &[i64; 24], list: usize) -> Fits
     requires { ⌜ ListOf (now numbers) list ⌝ }
-    ensures { λ r. ⌜ r ≡ itersFit (itersOf (now (numbers .entry)) (now (strides .entry)) list) ⌝ }
+    ensures { λ r. ⌜ r .limits ≡ itersFit (itersOf (now (numbers .entry)) (now (strides .entry)) list) ⌝ }
+    ensures { λ r. ⌜ r .axes ≡ itersOnAxes (itersOf (now (numbers .entry)) (now (strides .entry)) list) ⌝ }
 {
     let count = numbers[card::COUNTS + list] as usize;
-    all_within(numbers, 16 * list, 16 * list + count, 1, MOST_EXTENT)
-        & all_between(
-            strides,
-            8 * list,
-            8 * list + count,
-            LEAST_STRIDE,
-            MOST_STRIDE,
-        )
+    let mut extents = true;
+    let mut steps = true;
+    let mut axes = true;
+    let mut k: usize = 0;
+    while k < count {
+        let extent = numbers[16 * list + k];
+        let stride = strides[8 * list + k];
+        let axis = numbers[16 * list + 8 + k];
+        extents = extents & ((1 <= extent) & (extent <= MOST_EXTENT));
+        steps = steps & ((LEAST_STRIDE <= stride) & (stride <= MOST_STRIDE));
+        axes = axes & (axis <= card::LAST_AXIS);
+        k += 1;
+    }
+    Fits {
+        limits: extents & steps,
+        axes,
+    }
 }
 
 // Whether the strides of the marked iters lie within theirs.
@@ -111,35 +128,16 @@ fn marks_fit(numbers: &[u64; 56], strides: &[i64]) -> bool
     fit
 }
 
-// Check 2: every extent, stride and offset.
-fn numbers_fit(numbers: &[u64; 56], strides: &[i64; 24]) -> bool
-    requires { ⌜ countsFit (cardOf (now numbers) (now strides)) ≡ true ⌝ }
-    ensures { λ r. ⌜ r ≡ numbersFit (cardOf (now (numbers .entry)) (now (strides .entry))) ⌝ }
+// The offset, of check 2.
+fn offset_fits(strides: &[i64; 24]) -> bool
+    ensures { λ r. ⌜ ((numbers : List ℕ) → r ≡ all (withinZ leastStride mostStride) (cardOf numbers (now (strides .entry)) .offset)) ⌝ }
 {
-    iters_fit(numbers, strides, card::SHARD)
-        & marks_fit(numbers, strides)
-        & iters_fit(numbers, strides, card::REPLICA)
-        & all_between(
-            strides,
-            card::OFFSET,
-            card::OFFSET + 8,
-            LEAST_STRIDE,
-            MOST_STRIDE,
-        )
-}
-
-// Whether every axis of a list of iters is one.
-fn iters_on_axes(numbers: &[u64; 56], list: usize) -> bool
-    requires { ⌜ ListOf (now numbers) list ⌝ }
-    ensures { λ r. ⌜ ((strides : List ℤ) → r ≡ itersOnAxes (itersOf (now (numbers .entry)) strides list)) ⌝ }
-{
-    let count = numbers[card::COUNTS + list] as usize;
-    all_within(
-        numbers,
-        16 * list + 8,
-        16 * list + 8 + count,
-        0,
-        card::LAST_AXIS,
+    all_between(
+        strides,
+        card::OFFSET,
+        card::OFFSET + 8,
+        LEAST_STRIDE,
+        MOST_STRIDE,
     )
 }
 
@@ -150,10 +148,12 @@ pub fn check_fields(numbers: &[u64; 56], strides: &[i64; 24]) -> Admission
     if !counts_fit(numbers) {
         return Admission::Refused(Refusal::Counts);
     }
-    if !numbers_fit(numbers, strides) {
+    let shard = list_fits(numbers, strides, card::SHARD);
+    let replica = list_fits(numbers, strides, card::REPLICA);
+    if !(shard.limits & marks_fit(numbers, strides) & replica.limits & offset_fits(strides)) {
         return Admission::Refused(Refusal::Limits);
     }
-    if !(iters_on_axes(numbers, card::SHARD) & iters_on_axes(numbers, card::REPLICA)) {
+    if !(shard.axes & replica.axes) {
         return Admission::Refused(Refusal::Axis);
     }
     Admission::Admitted

@@ -17,45 +17,60 @@ asked s = cardOf (s .args .numbers .now) (s .args .strides .now)
 counts : (c : tie.Else1) → countsFit (asked (c .before .before)) ≡ true
 counts c = sym (c .before .counts-fit .ensures (c .before .before .args .strides .now)) ∙ not-false _ (c .if1 .left)
 
-numbers : (c : tie.Else2) → numbersFit (asked (c .before .before .before .before)) ≡ true
-numbers c = sym (c .before .numbers-fit .ensures) ∙ not-false _ (c .if2 .left)
+-- what the walks over both lists, the marks and the offset say of checks 2 and 3
+abbrev passed : tie.After-list-fits2 → tie.Else1
+passed w = w .before .before
 
-axes : (c : tie.After-iters-on-axes2) → let s = c .before .before .before .before .before .before in
-    axesFit (asked s) ≡ (c .before .iters-on-axes .result && c .iters-on-axes2 .result)
-axes c =
-    let strides = c .before .before .before .before .before .before .args .strides .now in
-    sym (ap₂ _&&_ (c .before .iters-on-axes .ensures strides) (c .iters-on-axes2 .ensures strides))
+abbrev marked : tie.After-offset-fits → tie.After-marks-fit
+marked c = c .before .before .before
+
+abbrev walked : tie.After-offset-fits → tie.After-list-fits2
+walked c = marked c .before .before
+
+numbers : (c : tie.After-offset-fits) → let w = walked c in
+    numbersFit (asked (passed w .before .before))
+    ≡ (w .before .list-fits .result .limits && marked c .marks-fit .result && w .list-fits2 .result .limits && c .offset-fits .result)
+numbers c =
+    let w = walked c in
+    sym (ap₂ _&&_ (ap₂ _&&_ (ap₂ _&&_ (w .before .list-fits .ensures .0) (marked c .marks-fit .ensures)) (w .list-fits2 .ensures .0))
+    (c .offset-fits .ensures (passed w .before .before .args .numbers .now)))
+
+axes : (w : tie.After-list-fits2) → axesFit (asked (passed w .before .before)) ≡ (w .before .list-fits .result .axes && w .list-fits2 .result .axes)
+axes w = sym (ap₂ _&&_ (w .before .list-fits .ensures .1) (w .list-fits2 .ensures .1))
 
 returns : tie.Need-returns
 returns c = rw (sym (c .before .counts-fit .ensures (c .before .before .args .strides .now)) ∙ not-true _ (c .if1 .taken))
 
-numbers-fit-requires : tie.Need-numbers-fit-requires
-numbers-fit-requires c κs = counts c
+list-fits-requires : tie.Need-list-fits-requires
+list-fits-requires c κs = let a = c .before .before .args in shard-list (a .numbers .now) (a .strides .now) (counts c)
+
+list-fits-requires-2 : tie.Need-list-fits-requires-2
+list-fits-requires-2 c κs = let a = c .before .before .before .args in replica-list (a .numbers .now) (a .strides .now) (counts (c .before))
+
+marks-fit-requires : tie.Need-marks-fit-requires
+marks-fit-requires c κs =
+    let e = passed (c .before) in
+    let a = e .before .before .args in
+    (shard-list (a .numbers .now) (a .strides .now) (counts e), search needs)
 
 returns-2 : tie.Need-returns-2
-returns-2 c = rw (counts (c .before .before), sym (c .before .numbers-fit .ensures) ∙ not-true _ (c .if2 .taken))
-
-iters-on-axes-requires : tie.Need-iters-on-axes-requires
-iters-on-axes-requires c κs =
-    let e = c .before .before in let a = e .before .before .args in shard-list (a .numbers .now) (a .strides .now) (counts e)
-
-iters-on-axes-requires-2 : tie.Need-iters-on-axes-requires-2
-iters-on-axes-requires-2 c κs =
-    let e = c .before .before .before in let a = e .before .before .args in replica-list (a .numbers .now) (a .strides .now) (counts e)
+returns-2 c = let o = c .before in rw (counts (passed (walked o)), numbers o ∙ not-true _ (c .if2 .taken))
 
 returns-3 : tie.Need-returns-3
 returns-3 c =
-    let x = c .before in
-    let e = x .before .before in
-    rw (counts (e .before .before), numbers e, axes x ∙ not-true _ (c .if3 .taken))
+    let e = c .before .before .before in
+    let o = e .before in
+    let w = walked o in
+    rw (counts (passed w), numbers o ∙ not-false _ (e .if2 .left), axes w ∙ not-true _ (c .if3 .taken))
 
 returns-4 : tie.Need-returns-4
 returns-4 c =
-    let x = c .before in
-    let e = x .before .before in
-    rw (counts (e .before .before), numbers e, axes x ∙ not-false _ (c .if3 .left))
+    let e = c .before .before .before in
+    let o = e .before in
+    let w = walked o in
+    rw (counts (passed w), numbers o ∙ not-false _ (e .if2 .left), axes w ∙ not-false _ (c .if3 .left))
 
 pub check-fields-spec : {M : Type 1} → statement M
 check-fields-spec =
     tie.close
-    (tie.spec (λ c κs. search needs) returns numbers-fit-requires returns-2 iters-on-axes-requires iters-on-axes-requires-2 returns-3 returns-4)
+    (tie.spec (λ c κs. search needs) returns list-fits-requires list-fits-requires-2 marks-fit-requires (λ c κs. search needs) returns-2 returns-3 returns-4)
