@@ -1,4 +1,5 @@
 -- The far ends of a packed card are those that the search on an axis asks for.
+use mathlib.Core.Path.{_≡_, sym, _∙_, subst}
 use mathlib.Core.List.{List}
 use Prim.Native.Nat.{ℕ, _+_, _≤_, _<_}
 use native.Mathlib.Omega.{arith}
@@ -15,7 +16,7 @@ use Rattle.extremes.specs.Straying.{Strays}
 use Rattle.extremes.specs.Contracts.{Ended as EndedOn}
 use Rattle.doubt.specs.Contracts.{Between}
 use Rattle.outside.specs.Outside.{Ended}
-use Rattle.outside.proofs.Words.{strays-leaves, leaves-strays}
+use Rattle.outside.proofs.Words.{strays-leaves, strays-leaves-m, leaves-strays}
 
 module _ {numbers : List ℕ} {strides low high : List ℤ} (e : Ended numbers strides low high) where
   pub ended-on : (axis bound : ℕ) → axis < 8 → bound ≤ beyond → EndedOn numbers strides axis bound (getD low axis (pos 0)) (getD high axis (pos 0))
@@ -37,6 +38,16 @@ module _ {numbers : List ℕ} {strides low high : List ℤ} (e : Ended numbers s
       → Sought (λ f. Leaves (cardOf numbers strides) f axis) (elements (cardOf numbers strides)) flat
   leaves-on axis flat h s =
       strays-leaves (cardOf numbers strides) axis (elements (cardOf numbers strides)) flat h (rw (length-at numbers strides (e .admits) axis (omega arith)) s)
+
+  -- and on m where its length is whole blocks
+  pub leaves-on-m : (flat bound : ℕ) → bound ≡ blocksOf numbers → bound ≡ getD numbers 39 0
+      → Sought (Strays (cardOf numbers strides) lastAxis bound) (elements (cardOf numbers strides)) flat
+      → Sought (λ f. Leaves (cardOf numbers strides) f lastAxis) (elements (cardOf numbers strides)) flat
+  leaves-on-m flat bound blocks same s =
+      let card = cardOf numbers strides in
+      let length = length-at numbers strides (e .admits) lastAxis (omega arith) in
+      strays-leaves-m card (elements card) flat (rw length (sym blocks ∙ same))
+      (subst (λ (n : ℕ). Sought (Strays card lastAxis n) (elements card) flat) (same ∙ sym length) s)
 
   -- and on m none leaves before the first that strays from the whole blocks
   pub none-before : (from limit : ℕ) → limit ≤ elements (cardOf numbers strides)

@@ -1,6 +1,6 @@
 -- The smallest number of an element and an axis is what judgement asks for: a copy lies outside on the smallest axis that it leaves, and one that leaves
 -- lies outside.
-use mathlib.Core.Path.{_≡_, refl, sym, ap, _∙_}
+use mathlib.Core.Path.{_≡_, refl, sym, ap, _∙_, subst}
 use mathlib.Core.Bool.{true}
 use Prim.Native.Nat.{ℕ, _+_, _*_, _/_, _%_, _^_, _≤_, _<_, min}
 use native.Mathlib.Nat.{min-eq-left, min-eq-right}
@@ -22,7 +22,7 @@ use Rattle.linear.specs.Leaving.{Sought, Leaves}
 use Rattle.linear.proofs.Leaving.{sought-alike}
 use Rattle.judgement.specs.Judgement.{LiesInside, AllInside, FirstOutside}
 use Rattle.reach.specs.Ends.{wholeBlocks}
-use Rattle.reach.proofs.Inside.{blocks-kept}
+use Rattle.reach.proofs.Inside.{blocks-kept, blocks-back}
 use Rattle.extremes.specs.Straying.{Strays}
 use Rattle.outside.specs.Outside.{FirstWord}
 
@@ -44,6 +44,23 @@ leaves-strays card f l = record {
   copy = l .copy;
   off = λ h. l .off (kept (card .swizzle .m) (card .swizzle .b) (card .swizzle .s) (getD (card .lengths) lastAxis 0) (sum card f (l .combination) lastAxis) h);
 }
+
+-- and where the length is whole blocks it leaves exactly where it strays from the length
+kept-back : (M B S length : ℕ) (z : ℤ) → wholeBlocks length (2 ^ (M + B)) ≡ length → Lies length (swizzledZ (record { m = M; b = B; s = S }) z) → Lies length z
+kept-back M B S length (pos m) same l = let below = blocks-back M B S m length same (omega (whole, l .1)) in (omega whole, omega (whole, below))
+kept-back M B S length (negsuc m) same l = absurd (omega (whole, l .0))
+
+pub strays-leaves-m : (card : Card) (n i : ℕ) → let length = getD (card .lengths) lastAxis 0 in wholeBlocks length (2 ^ (card .swizzle .m + card .swizzle .b)) ≡ length
+    → Sought (Strays card lastAxis length) n i → Sought (λ f. Leaves card f lastAxis) n i
+strays-leaves-m card n i same =
+    let length = getD (card .lengths) lastAxis 0 in
+    sought-alike
+    (λ f k s. record {
+      combination = s .combination;
+      copy = s .copy;
+      off = λ h. s .off (kept-back (card .swizzle .m) (card .swizzle .b) (card .swizzle .s) length (sum card f (s .combination) lastAxis) same h);
+    })
+    (λ f k l. subst (λ (bound : ℕ). Strays card lastAxis bound f) same (leaves-strays card f l))
 
 -- no axis so far, one more, and m, which is looked at only before the first element so far
 pub no-word : (card : Card) → FirstWord card 0 (8 * elements card)

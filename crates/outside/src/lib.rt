@@ -36,7 +36,7 @@ fn first_on_axes(numbers: &[u64; 56], strides: &[i64; 24], low: &[i64; 8], high:
 }
 
 // The same on all axes: m is looked at only before the element found so far, from the first on that
-// reaches beyond the whole blocks of its length.
+// reaches beyond the whole blocks of its length. That one leaves where the length is whole blocks.
 fn first_of_all(numbers: &[u64; 56], strides: &[i64; 24], low: &[i64; 8], high: &[i64; 8]) -> u64
     requires { ⌜ Ended (now numbers) (now strides) (now low) (now high) ⌝ }
     ensures { λ r. ⌜ FirstWord (cardOf (now (numbers .entry)) (now (strides .entry))) 8 r ⌝ }
@@ -44,6 +44,9 @@ fn first_of_all(numbers: &[u64; 56], strides: &[i64; 24], low: &[i64; 8], high: 
     let word = first_on_axes(numbers, strides, low, high);
     let whole = reach::whole_blocks(numbers);
     let from = extremes::first_astray(numbers, strides, card::LAST_AXIS, whole, low[M], high[M]);
+    if whole == numbers[card::LENGTHS + M] {
+        return extremes::smaller(word, copies::AXES * from + card::LAST_AXIS);
+    }
     let flat = doubt::first_leaving(numbers, strides, from, word / copies::AXES);
     extremes::smaller(word, copies::AXES * flat + card::LAST_AXIS)
 }

@@ -61,6 +61,17 @@ blocks-kept M B S m length h =
     let below : swizzled M B S m < length / b * b = div-lt-iff-lt-mul {k = b} some .0 (omega (arith, same)) in
     omega (arith, div-add-mod' length b)
 
+-- where the length is whole blocks, only what lies below it is swizzled to below it
+pub blocks-back : (M B S m length : ℕ) → wholeBlocks length (2 ^ (M + B)) ≡ length → swizzled M B S m < length → m < length
+blocks-back M B S m length same h =
+    let b = 2 ^ (M + B) in
+    let some : 0 < b = pow-pos (M + B) in
+    let within : swizzled M B S m < length / b * b = omega (arith, h, same) in
+    let quotient : swizzled M B S m / b < length / b = div-lt-iff-lt-mul {k = b} some .1 within in
+    let block = swizzled-block M B S m in
+    let below : m < length / b * b = div-lt-iff-lt-mul {k = b} some .0 (omega (arith, block)) in
+    omega (arith, same)
+
 swizzled-below : (M B S : ℕ) (z : ℤ) (length : ℕ) → pos 0 ≤ℤ z → z <ℤ pos (wholeBlocks length (2 ^ (M + B)))
     → onAxis (swizzledZ (record { m = M; b = B; s = S }) z) < length
 swizzled-below M B S (pos m) length l h = blocks-kept M B S m length (omega whole)

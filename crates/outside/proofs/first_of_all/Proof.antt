@@ -1,4 +1,5 @@
--- `outside::first_of_all` looks at m before the element found so far, from the first on that reaches beyond the whole blocks.
+-- `outside::first_of_all` looks at m before the element found so far, from the first on that reaches beyond the whole blocks,
+-- which is the first that leaves where the length is whole blocks.
 use mathlib.Core.Path.{subst}
 use Prim.Native.Nat.{ℕ, _/_, _≤_}
 use native.Mathlib.Omega.{arith}
@@ -14,8 +15,8 @@ use Rattle.card.specs.declared.Card.{Card}
 use Rattle.linear.specs.Leaving.{Sought}
 use Rattle.reach.proofs.Packed.{spaced, few-blocks}
 use Rattle.extremes.specs.Straying.{Strays}
-use Rattle.outside.proofs.Words.{word-m}
-use Rattle.outside.proofs.Packed.{ended-on, sizes, none-before}
+use Rattle.outside.proofs.Words.{word-more, word-m}
+use Rattle.outside.proofs.Packed.{ended-on, sizes, leaves-on-m, none-before}
 use Rattle.outside.proofs.first_of_all.Statement.{statement}
 use Rattle.outside.proofs.first_of_all.Tie as tie
 
@@ -41,29 +42,46 @@ first-astray-requires c κs =
 few : (w : tie.After-whole-blocks) → w .before .first-on-axes .result / 8 ≤ elements (card (start w))
 few w = omega (arith, w .before .first-on-axes .ensures .most)
 
+abbrev strayed : tie.After-first-astray → tie.After-whole-blocks
+strayed c = c .before .before .before
+
+-- the first that strays from the whole blocks is one of the elements, or past them
+early : (c : tie.After-first-astray) → c .first-astray .result ≤ 65536
+early c = omega (arith, c .first-astray .ensures .most, sizes (start (strayed c) .pre) .most-elements)
+
+returns : tie.Need-returns
+returns c =
+    let f = c .before .before .before in
+    let w = strayed f in
+    let s = start w in
+    rw (c .smaller .ensures)
+    (word-more (card s) (w .before .first-on-axes .result) (f .first-astray .result) lastAxis (omega arith) (w .before .first-on-axes .ensures)
+    (leaves-on-m (s .pre) (f .first-astray .result) (w .whole-blocks .result) (w .whole-blocks .ensures) (c .before .if1 .taken) (f .first-astray .ensures)))
+
 first-leaving-requires : tie.Need-first-leaving-requires
 first-leaving-requires c κs =
-    let w = c .before .before .before in
+    let f = c .before .before in
+    let w = strayed f in
     let s = start w in (
       s .pre .admits,
-      none-before (s .pre) (c .first-astray .result) (w .before .first-on-axes .result / 8) (few w)
-          (subst (λ (n : ℕ). Sought (Strays (card s) lastAxis n) (elements (card s)) (c .first-astray .result)) (w .whole-blocks .ensures) (c .first-astray .ensures)),
+      none-before (s .pre) (f .first-astray .result) (w .before .first-on-axes .result / 8) (few w)
+          (subst (λ (n : ℕ). Sought (Strays (card s) lastAxis n) (elements (card s)) (f .first-astray .result)) (w .whole-blocks .ensures) (f .first-astray .ensures)),
     )
 
 small : (c : tie.After-first-leaving) → c .first-leaving .result ≤ 65536
 small c =
-    let w = c .before .before .before .before in
+    let w = strayed (c .before .before .before) in
     omega (arith, c .first-leaving .ensures .most, few w, sizes (start w .pre) .most-elements)
 
-returns : tie.Need-returns
-returns c =
+returns-2 : tie.Need-returns-2
+returns-2 c =
     let f = c .before in
-    let w = f .before .before .before .before in
-    rw (c .smaller .ensures)
+    let w = strayed (f .before .before .before) in
+    rw (c .smaller2 .ensures)
     (word-m (card (start w)) (w .before .first-on-axes .result) (f .first-leaving .result) (w .before .first-on-axes .ensures) (f .first-leaving .ensures))
 
 pub first-of-all-spec : {M : Type 1} → statement M
 first-of-all-spec =
     tie.close
     (tie.spec (λ c κs. search needs) (λ c κs. let s = c .before in spaced (s .args .numbers .now) (s .args .strides .now) (s .pre .admits)) (λ c. search needs) (λ c. search needs) first-astray-requires
-    first-leaving-requires (λ c. omega (arith, small c)) (λ c. omega (arith, small c)) (λ c κs. search needs) returns)
+    (λ c. search needs) (λ c. search needs) (λ c. search needs) (λ c. omega (arith, early (c .before .before))) (λ c. omega (arith, early (c .before .before))) (λ c κs. search needs) returns first-leaving-requires (λ c. omega (arith, small c)) (λ c. omega (arith, small c)) (λ c κs. search needs) returns-2)
