@@ -18,11 +18,11 @@ use Rattle.rules.specs.declared.Spot.{Spot}
 use Rattle.rules.specs.declared.Spot.the-variants.{Inside, Outside}
 use Rattle.rules.proofs.Filling.{outside-found}
 use Rattle.idle.proofs.Theorems.{admitted-exactly}
-use Rattle.placement.specs.Placement.{shapeAdmitted, coordinatesFit, flatten, placementAnswer, Placing}
-use Rattle.placement.specs.declared.Tuple.{Tuple}
-use Rattle.placement.specs.declared.Placement.{Placement}
-use Rattle.placement.specs.declared.Placement.the-variants.{Copies}
-use Rattle.placement.proofs.Theorems.{flatten-below, placement-copies}
+use Rattle.placement_judged.specs.Placement.{shapeAdmitted, coordinatesFit, flatten, placementAnswer, Placing}
+use Rattle.placement_judged.specs.declared.Tuple.{Tuple}
+use Rattle.placement_judged.specs.declared.Placement.{Placement}
+use Rattle.placement_judged.specs.declared.Placement.the-variants.{Copies}
+use Rattle.placement_judged.proofs.Theorems.{flatten-below, placement-copies}
 use Rattle.judgement.specs.Judgement.{LiesInside, Judged}
 use Rattle.judgement.specs.Verdict.{VerdictPromise}
 use Rattle.judgement.specs.declared.Verdict.{Verdict}

@@ -3,7 +3,7 @@ use Prim.Native.Nat.{ℕ, _+_}
 use mathlib.Core.List.{List, map}
 use lib.ListN.{getD}
 use Rattle.c_card.specs.Card.{eight}
-use Rattle.placement.specs.declared.Tuple.{Tuple}
+use Rattle.placement_judged.specs.declared.Tuple.{Tuple}
 
 -- a shape, or coordinates: a count, and then eight numbers
 abbrev pub tupleFrom : List ℕ → Tuple

@@ -1,5 +1,5 @@
 // A shape, or coordinates, as plain numbers, for C.
-use placement::Tuple;
+use placement_judged::Tuple;
 ghost use mathlib.Core.Path.{_≡_};
 ghost use Rattle.c_tuple.specs.Tuple.{tupleFrom};
 

@@ -13,7 +13,7 @@ use lines_reply::reply::Reply;
 fn ask_verdict(numbers: &Kept, lent: &mut [u32]) -> Reply {
     fill(lent, TABLE);
     let verdict = verdict::judge(cards::first(numbers), lent);
-    reply::digest(judgement::verdict_numbers(verdict), lent)
+    reply::digest(judgement_numbers::verdict_numbers(verdict), lent)
 }
 
 // verdict CARD length
@@ -30,7 +30,7 @@ pub fn verdict(numbers: &Kept, lent: &mut [u32]) -> Reply {
 fn ask_owner(numbers: &Kept, lent: &mut [u32]) -> Reply {
     fill(lent, TABLE);
     let owner = verdict::owner_of(cards::first(numbers), eight(numbers, places::CELL), lent);
-    reply::digest(judgement::owner_numbers(owner), lent)
+    reply::digest(judgement_numbers::owner_numbers(owner), lent)
 }
 
 // owner CARD eight coordinates, length

@@ -66,5 +66,5 @@ pub fn reported_numbers(reported: Reported) -> Numbers
     ensures { λ r. ⌜ r ≡ reportedNumbers reported ⌝ }
 {
     let verdict = reported.verdict;
-    judgement::verdict_numbers(verdict)
+    judgement_numbers::verdict_numbers(verdict)
 }

@@ -6,7 +6,7 @@ use mathlib.Core.List.{List, map}
 use Prim.Native.Nat.{ℕ, _<_}
 use native.Mathlib.Decide.{ℕ-discrete, decLt}
 use native.Mathlib.Omega.{arith}
-use lib.IntN.{ℤ, pos, negsuc, _+ℤ_, pos-ne-negsuc}
+use lib.IntN.{ℤ, pos, negsuc, _+ℤ_, _-ℤ_, +ℤ-comm, +ℤ-negℤ-cancel, pos-ne-negsuc}
 use lib.ListN.{length, getD, List·getD-map}
 use lib.Seq.{getD-set-other}
 use Rattle.answers.specs.declared.Cell.{Cell}
@@ -25,7 +25,11 @@ use Rattle.card.proofs.ReadBack.{eight-at}
 use Rattle.rules.proofs.Spots.{cells-equal}
 use Rattle.rules.proofs.Whole.{Lies, on-every-axis}
 use Rattle.idle.specs.Idle.{SameSums, NoIdlePair}
-use Rattle.idle.proofs.Laws.{cancel}
+
+-- what is added to the same is the same
+pub cancel : (x a b : ℤ) → x +ℤ a ≡ x +ℤ b → a ≡ b
+cancel x a b e =
+    sym (+ℤ-negℤ-cancel a x) ∙ ap (λ (z : ℤ). z -ℤ x) (+ℤ-comm a x ∙ e ∙ +ℤ-comm x b) ∙ +ℤ-negℤ-cancel b x
 
 -- coordinates that lie on an axis are told apart there
 apart-on-axis : (n : ℕ) (x y : ℤ) → Lies n x → Lies n y → onAxis x ≡ onAxis y → x ≡ y

@@ -1,4 +1,4 @@
-pub mod Laws
+pub mod Twins
 pub mod Run
 pub mod Theorems
 pub mod Apart

@@ -1,4 +1,4 @@
--- The run finds what the record says, by the laws of the loops, and the record allows one finding.
+-- The run finds what the record says, by the laws of twins, and the record allows one finding.
 use mathlib.Core.Path.{_≡_, refl, sym, ap, ap₂, _∙_, subst}
 use mathlib.Core.Bool.{Bool, true, false, cond, and-eq-true-iff, false≢true}
 use mathlib.Core.List.{List, [], _∷_}
@@ -18,7 +18,7 @@ use Rattle.idle.specs.Run.{equal, sameOn, twinFrom, pairFrom, pairOf}
 use Rattle.idle.specs.Contracts.{NoneBelow, Twin, NoneBefore}
 use Rattle.idle.specs.declared.Finding.{Finding}
 use Rattle.idle.specs.declared.Finding.the-variants.{Pair, NoPair}
-use Rattle.idle.proofs.Laws.{none-below-zero, none-below-more, twin-found, twin-none, none-before-zero, none-before-more, pair-found}
+use Rattle.idle.proofs.Twins.{none-below-zero, none-below-more, twin-found, twin-none, none-before-zero, none-before-more, pair-found}
 
 equal-true : (x y : ℤ) → equal x y ≡ true → x ≡ y
 equal-true (pos a) (pos b) t = ap pos (eqb-true a b t)

@@ -50,7 +50,7 @@ fn judge_kept(
     let lengths = kept(first, first_held);
     let text = kept(second, second_held);
     let verdict = judging::judge_lines(lengths, text, &mut lent);
-    judgement::verdict_numbers(verdict)
+    judgement_numbers::verdict_numbers(verdict)
 }
 
 // Judges the first two lines of the input.

@@ -12,9 +12,9 @@ use Rattle.card.specs.Lists.{within, product}
 use Rattle.card.specs.Limits.{mostElements}
 use Rattle.card.proofs.Lists.{within-numbers}
 use Rattle.rules.specs.RowMajor.{position}
-use Rattle.placement.specs.Placement.{entries, mostDimensions, shapeAdmitted, coordinatesFit, flatten}
+use Rattle.placement_judged.specs.Placement.{entries, mostDimensions, shapeAdmitted, coordinatesFit, flatten}
 use Rattle.placement.specs.Contracts.{Shaped, element}
-use Rattle.placement.specs.declared.Tuple.{Tuple}
+use Rattle.placement_judged.specs.declared.Tuple.{Tuple}
 use Rattle.rules.specs.declared.Position.the-variants.{At, Past}
 use Rattle.placement.specs.declared.Found.the-variants.{Element, Nowhere}
 use Rattle.rules.proofs.Spots.{position-at, position-past}

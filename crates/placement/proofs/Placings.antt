@@ -13,10 +13,10 @@ use Rattle.card.specs.declared.Card.{Card}
 use Rattle.card.specs.declared.Admission.the-variants.{Admitted, Refused as NoCard}
 use Rattle.rules.specs.Copies.{copyCells, outsideAxis}
 use Rattle.idle.specs.Admission.{fullAdmission}
-use Rattle.placement.specs.Placement.{shapeAdmitted, coordinatesFit, flatten, placementAnswer, placementMemory, written, Placing}
-use Rattle.placement.specs.declared.Tuple.{Tuple}
-use Rattle.placement.specs.declared.Placement.{Placement}
-use Rattle.placement.specs.declared.Placement.the-variants.{Copies, Refused}
+use Rattle.placement_judged.specs.Placement.{shapeAdmitted, coordinatesFit, flatten, placementAnswer, placementMemory, written, Placing}
+use Rattle.placement_judged.specs.declared.Tuple.{Tuple}
+use Rattle.placement_judged.specs.declared.Placement.{Placement}
+use Rattle.placement_judged.specs.declared.Placement.the-variants.{Copies, Refused}
 
 module _ (card : Card) (shape coordinates : Tuple) (before : List ℕ) where
   refused : (refusal : Refusal) → placementAnswer card shape coordinates (length before) ≡ Refused refusal

@@ -10,8 +10,8 @@ use Rattle.card.specs.Packed.{beyond}
 use Rattle.card.specs.declared.Card.{Card}
 use Rattle.rules.specs.Rules.{axes}
 use Rattle.rules.specs.Copies.{copyCells, outsideAxis}
-use Rattle.placement.specs.Placement.{entries, coordinatesFit, flatten}
-use Rattle.placement.specs.declared.Tuple.{Tuple}
+use Rattle.placement_judged.specs.Placement.{entries, coordinatesFit, flatten}
+use Rattle.placement_judged.specs.declared.Tuple.{Tuple}
 use Rattle.placement.specs.declared.Found.{Found}
 use Rattle.placement.specs.declared.Found.the-variants.{Element, Nowhere}
 

@@ -1,2 +1,1 @@
-pub mod Placement
 pub mod Contracts

@@ -4,34 +4,24 @@ use answers::Numbers;
 use answers::Refusal;
 use card::Admission;
 use card::Card;
+use placement_judged::Placement;
+use placement_judged::Tuple;
 use rules::Position;
 ghost use mathlib.Core.Path.{_≡_};
 ghost use Prim.Native.Nat.{_≤_, _<_};
 ghost use lib.ListN.{length, take};
 ghost use Rattle.card.specs.Packed.{beyond, cardOf, Whole, Admits};
 ghost use Rattle.card.specs.Card.{copies};
-ghost use Rattle.placement.specs.Placement.{shapeAdmitted, Placing, placementNumbers};
+ghost use Rattle.placement_judged.specs.Placement.{shapeAdmitted, Placing, placementNumbers};
 ghost use Rattle.placement.specs.Contracts.{Shaped, element, Placed};
 
 // The most dimensions of a shape.
 const MOST_DIMENSIONS: u64 = 8;
 
-// A counted list of numbers: a shape, or coordinates in one.
-pub struct Tuple {
-    pub at: [u64; 8],
-    pub count: u64,
-}
-
 // What coordinates in a shape name.
 enum Found {
     Element(Flat),
     Nowhere,
-}
-
-// The answer to the placement of one element.
-pub enum Placement {
-    Copies(u64),
-    Refused(Refusal),
 }
 
 // Check 9: whether a shape is admitted by this many elements. Its product is judged whole.
@@ -103,7 +93,7 @@ fn place_packed(
     requires { ⌜ Whole (now numbers) (now strides) ⌝ }
     ensures { λ r. ⌜ Placing (cardOf (now (numbers .entry)) (now (strides .entry))) shape coordinates (now (memory .entry)) (now (memory .exit)) r ⌝ }
 {
-    let admission = idle::admit_packed(numbers, strides);
+    let admission = idle_search::admit_packed(numbers, strides);
     if let Admission::Refused(refusal) = admission {
         return Placement::Refused(refusal);
     }

@@ -22,7 +22,7 @@ use Rattle.rules.specs.Reuse.{leader}
 use Rattle.rules.specs.Copies.{copyCells, outsideAxis}
 use Rattle.idle.specs.Run.{pairOf}
 use Rattle.idle.specs.Admission.{fullAdmission}
-use Rattle.placement.specs.Placement.{placementAnswer, placementMemory}
+use Rattle.placement_judged.specs.Placement.{placementAnswer, placementMemory}
 use Rattle.card.specs.declared.Card.{Card}
 use Rattle.judgement.specs.Verdict.{tableAfter, VerdictPromise, ownerTableAfter, OwnerPromise, verdictNumbers, ownerNumbers}
 use Rattle.judgement.specs.Run.{judge, ownerRun}

@@ -9,7 +9,7 @@ use Rattle.card.specs.Lists.{padded}
 use Rattle.card.specs.declared.Iter.{Iter}
 use Rattle.card.specs.declared.Iters.{Iters}
 use Rattle.card.specs.declared.Card.{Card}
-use Rattle.placement.specs.declared.Tuple.{Tuple}
+use Rattle.placement_judged.specs.declared.Tuple.{Tuple}
 
 -- the axes, by number
 abbrev pub warpid : ℕ

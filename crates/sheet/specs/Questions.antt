@@ -12,9 +12,9 @@ use Rattle.mask.specs.Mask.{maskAnswer, maskMemory, maskNumbers}
 use Rattle.descriptor.specs.declared.Fields.{Fields}
 use Rattle.card.specs.Card.{cells}
 use Rattle.card.specs.declared.Card.{Card}
-use Rattle.placement.specs.Placement.{placementAnswer, placementMemory, placementNumbers}
-use Rattle.placement.specs.declared.Tuple.{Tuple}
-use Rattle.stretch.specs.Stretch.{stretchAnswer, stretchOf, stretchNumbers}
+use Rattle.placement_judged.specs.Placement.{placementAnswer, placementMemory, placementNumbers}
+use Rattle.placement_judged.specs.declared.Tuple.{Tuple}
+use Rattle.stretch_judged.specs.Stretch.{stretchAnswer, stretchOf, stretchNumbers}
 use Rattle.judgement.specs.Verdict.{verdictOf, ownerOf, verdictNumbers, ownerNumbers}
 use Rattle.judgement.specs.Run.{judge, ownerRun}
 use Rattle.plans_judged.specs.Endings.{answerOf, firstAfter, secondAfter, memoryAfter, checkedNumbers, planningNumbers}

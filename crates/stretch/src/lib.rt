@@ -3,15 +3,10 @@ use answers::Cell;
 use answers::Numbers;
 use answers::Refusal;
 use rules::Position;
+use stretch_judged::Located;
 ghost use mathlib.Core.Path.{_≡_};
 ghost use lib.ListN.{length};
-ghost use Rattle.stretch.specs.Stretch.{stretchAnswer, stretchOf, Begins, stretchNumbers};
-
-// The answer to a stretch of the table.
-pub enum Located {
-    Stretch { first: Cell, length: u64 },
-    Refused(Refusal),
-}
+ghost use Rattle.stretch_judged.specs.Stretch.{stretchAnswer, stretchOf, Begins, stretchNumbers};
 
 // Where a stretch of the table lies: the cells under the coordinates of all axes up to and with the
 // asked one. No coordinate past it is looked at.

@@ -7,9 +7,9 @@ use Rattle.fragment.specs.Fragment.{holderNumbers}
 use Rattle.fragment.specs.declared.Place.{Place}
 use Rattle.fragment.specs.declared.Holder.{Holder}
 use Rattle.fragment.proofs.Theorems.{holder-settled}
-use Rattle.placement.specs.Placement.{placementNumbers}
-use Rattle.placement.specs.declared.Placement.{Placement}
-use Rattle.placement.proofs.Theorems.{placement-settled}
+use Rattle.placement_judged.specs.Placement.{placementNumbers}
+use Rattle.placement_judged.specs.declared.Placement.{Placement}
+use Rattle.placement_judged.proofs.Theorems.{placement-settled}
 use Rattle.notation.specs.Promise.{readNumbers}
 use Rattle.notation.specs.declared.Reading.{Reading}
 use Rattle.notation.proofs.Theorems.{read-settled}

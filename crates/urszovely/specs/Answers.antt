@@ -7,8 +7,8 @@ use lib.Ieee.{Float}
 use Rattle.fragment.specs.Fragment.{HolderAnswer, holderNumbers}
 use Rattle.fragment.specs.declared.Place.{Place}
 use Rattle.fragment.specs.declared.Holder.{Holder}
-use Rattle.placement.specs.Placement.{Placing, placementNumbers}
-use Rattle.placement.specs.declared.Placement.{Placement}
+use Rattle.placement_judged.specs.Placement.{Placing, placementNumbers}
+use Rattle.placement_judged.specs.declared.Placement.{Placement}
 use Rattle.notation.specs.Promise.{Answered, readNumbers}
 use Rattle.notation.specs.declared.Reading.{Reading}
 use Rattle.judgement.specs.Verdict.{VerdictPromise, OwnerPromise, verdictNumbers, ownerNumbers}

@@ -16,7 +16,7 @@ ghost use Rattle.descriptor.specs.Descriptor.{readAnswer, readNumbers, shiftLim
 ghost use Rattle.mask.specs.Mask.{maskAnswer, maskMemory, maskNumbers};
 ghost use Rattle.card.specs.Admission.{admissionNumbers};
 ghost use Rattle.idle.specs.Admission.{fullAdmission};
-ghost use Rattle.stretch.specs.Stretch.{stretchAnswer, stretchNumbers};
+ghost use Rattle.stretch_judged.specs.Stretch.{stretchAnswer, stretchNumbers};
 ghost use Rattle.values.specs.Registers.{dealAnswer, collectAnswer, dealtLanes, collectedTile, movedNumbers};
 ghost use Rattle.values.specs.Holdings.{dealHoldingsAnswer, collectHoldingsAnswer, dealtHoldings, collectedFromHoldings};
 ghost use Rattle.lent.specs.Lent.{rowsFrom, holdingsFrom, numbersOf};
@@ -243,7 +243,7 @@ pub extern "C" fn urszovely_mask(
 pub extern "C" fn urszovely_admit(card: &[u64; 57], marks: u64, answer: &mut [u64; 4])
     ensures { λ r. ⌜ now (answer .exit) ≡ four (admissionNumbers (fullAdmission (cardFrom (now (card .entry)) marks))) ⌝ }
 {
-    let admission = idle::admit(c_card::card(card, marks));
+    let admission = idle_search::admit(c_card::card(card, marks));
     let numbers = admission::admission_numbers(admission);
     *answer = c_card::four(numbers);
 }
@@ -281,7 +281,7 @@ pub extern "C" fn urszovely_verdict(
     ensures { λ r. ⌜ AsVerdict (now (card .entry)) marks (now (table .entry)) (now (table .exit)) (now (answer .exit)) ⌝ }
 {
     let verdict = verdict::judge(c_card::card(card, marks), table);
-    let numbers = judgement::verdict_numbers(verdict);
+    let numbers = judgement_numbers::verdict_numbers(verdict);
     *answer = c_card::four(numbers);
 }
 
@@ -297,7 +297,7 @@ pub extern "C" fn urszovely_owner(
     ensures { λ r. ⌜ AsOwner (now (card .entry)) marks (now (coordinates .entry)) (now (table .entry)) (now (table .exit)) (now (answer .exit)) ⌝ }
 {
     let owner = verdict::owner_of(c_card::card(card, marks), *coordinates, table);
-    let numbers = judgement::owner_numbers(owner);
+    let numbers = judgement_numbers::owner_numbers(owner);
     *answer = c_card::four(numbers);
 }
 

@@ -47,7 +47,7 @@ fn judge_packed(numbers: &[u64; 56], strides: &[i64; 24], table: &mut [u32]) -> 
     requires { ⌜ Whole (now numbers) (now strides) ⌝ }
     ensures { λ r. ⌜ VerdictPromise (cardOf (now (numbers .entry)) (now (strides .entry))) (now (table .entry)) (now (table .exit)) r ⌝ }
 {
-    let admission = idle::admit_packed(numbers, strides);
+    let admission = idle_search::admit_packed(numbers, strides);
     if let Admission::Refused(refusal) = admission {
         return Verdict::Refused(refusal);
     }
@@ -91,7 +91,7 @@ fn owner_packed(
     requires { ⌜ Whole (now numbers) (now strides) × (length (now coordinates) ≡ 8) ⌝ }
     ensures { λ r. ⌜ OwnerPromise (cardOf (now (numbers .entry)) (now (strides .entry))) (now (coordinates .entry)) (now (table .entry)) (now (table .exit)) r ⌝ }
 {
-    let admission = idle::admit_packed(numbers, strides);
+    let admission = idle_search::admit_packed(numbers, strides);
     if let Admission::Refused(refusal) = admission {
         return Owner::Refused(refusal);
     }

@@ -7,7 +7,7 @@ use lib.Dec.{leb, eqb}
 use Rattle.laws.proofs.Capped.{capped-eqb}
 use Rattle.card.specs.Lists.{product}
 use Rattle.card.specs.Packed.{beyond}
-use Rattle.placement.specs.Placement.{entries, mostDimensions}
+use Rattle.placement_judged.specs.Placement.{entries, mostDimensions}
 use Rattle.placement.proofs.is_admitted.Statement.{statement}
 use Rattle.placement.proofs.is_admitted.Tie as tie
 

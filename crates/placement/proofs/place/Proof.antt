@@ -2,7 +2,7 @@
 use mathlib.Core.Path.{subst}
 use borrow.Author.Needs.{needs}
 use Rattle.card.specs.declared.Card.{Card}
-use Rattle.placement.specs.Placement.{Placing}
+use Rattle.placement_judged.specs.Placement.{Placing}
 use Rattle.placement.proofs.place.Statement.{statement}
 use Rattle.placement.proofs.place.Tie as tie
 

@@ -16,7 +16,7 @@ use Rattle.card.specs.declared.Admission.the-variants.{Admitted}
 use Rattle.card.proofs.Admitted.{sized, measured}
 use Rattle.idle.specs.Admission.{fullAdmission}
 use Rattle.idle.proofs.Theorems.{checks-passed}
-use Rattle.placement.specs.Placement.{shapeAdmitted, coordinatesFit, flatten}
+use Rattle.placement_judged.specs.Placement.{shapeAdmitted, coordinatesFit, flatten}
 use Rattle.placement.proofs.Elements.{named, unnamed, shaped}
 use Rattle.placement.proofs.Placings.{not-admitted, not-shaped, not-fitting, too-short, lies-outside, copied}
 use Rattle.placement.proofs.place_packed.Statement.{statement}

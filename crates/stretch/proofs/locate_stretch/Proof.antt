@@ -18,8 +18,8 @@ use Rattle.laws.proofs.Lists.{take-whole}
 use Rattle.rules.proofs.Spots.{Numbered, position-at, position-past}
 use Rattle.rules.proofs.Prefixes.{row-major-prefix, prefix-within}
 use Rattle.copies.proofs.Spaces.{prefix-numerable}
-use Rattle.stretch.specs.Stretch.{asked}
-use Rattle.stretch.proofs.Checks.{Parted, parted}
+use Rattle.stretch_judged.specs.Stretch.{asked}
+use Rattle.stretch_judged.proofs.Checks.{Parted, parted}
 use Rattle.stretch.proofs.locate_stretch.Statement.{statement}
 use Rattle.stretch.proofs.locate_stretch.Tie as tie
 

@@ -2,9 +2,9 @@
 use mathlib.Core.Path.{_≡_, refl, sym, _∙_}
 use native.Mathlib.Nat.{add-sub-cancel-left}
 use lib.ListN.{length}
-use Rattle.stretch.specs.Stretch.{stretchAnswer}
-use Rattle.stretch.specs.declared.Located.the-variants.{Stretch}
-use Rattle.stretch.proofs.Checks.{StretchWithin, answer-within}
+use Rattle.stretch_judged.specs.Stretch.{stretchAnswer}
+use Rattle.stretch_judged.specs.declared.Located.the-variants.{Stretch}
+use Rattle.stretch_judged.proofs.Checks.{StretchWithin, answer-within}
 use native.Mathlib.Omega.{arith}
 use borrow.Author.Needs.{needs}
 use Rattle.stretch.proofs.stretch.Statement.{statement}
