@@ -4,3 +4,4 @@ pub mod ReadBack
 pub mod Marks
 pub mod Admitted
 pub mod Theorems
+pub mod Within
