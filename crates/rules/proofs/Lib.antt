@@ -6,4 +6,5 @@ pub mod Filling
 pub mod Spots
 pub mod Base
 pub mod Whole
+pub mod CellNumber
 pub mod Theorems
