@@ -5,3 +5,4 @@ pub mod Marks
 pub mod Admitted
 pub mod Theorems
 pub mod Within
+pub mod EachNumber

@@ -1,4 +1,5 @@
 pub mod Twins
 pub mod Run
 pub mod Theorems
+pub mod EachNumber
 pub mod Apart

@@ -62,7 +62,7 @@ module _ (card : Card) (before after : List ℕ) (v : Verdict) (p : VerdictPromi
   is : (j : Judgement) → ComesTo card (length before) j → numbers v ≡ numbers (verdictOf card j)
   is j h = ap numbers (p .answers ∙ ap (verdictOf card) (judgement-unique card (length before) (p .judgement) j (p .comes) h))
 
-  table-in-numbers : InNumbers card (length before) (numbers v)
+  pub table-in-numbers : InNumbers card (length before) (numbers v)
       (numbers (Approved (elements card) (occupied (take (cells card) after)) (cells card)))
   table-in-numbers =
       let by : (m : Numbers) → (fullAdmission card ≡ Admitted → numbers v ≡ m) → AfterAdmission card (numbers v) m =

@@ -6,5 +6,6 @@ pub mod Filling
 pub mod Spots
 pub mod Base
 pub mod Whole
+pub mod Positions
 pub mod CellNumber
 pub mod Theorems

@@ -35,7 +35,7 @@ lies-on-axis : (n : ℕ) (z : ℤ) → Lies n z → onAxis z < n
 lies-on-axis n (pos k) l = ltb→lt k n (l .1 .lt)
 lies-on-axis n (negsuc k) l = absurd (l .0 .le)
 
-inside-each : (sizes xs : List ℕ) → inside sizes xs ≡ true → (k : ℕ) → k < length sizes → getD xs k 0 < getD sizes k 0
+pub inside-each : (sizes xs : List ℕ) → inside sizes xs ≡ true → (k : ℕ) → k < length sizes → getD xs k 0 < getD sizes k 0
 inside-each [] xs t k h = absurd (not-suc-le-zero h)
 inside-each (n ∷ ns) [] t k h = absurd (apart (cc))
 inside-each (n ∷ ns) (x ∷ xs) t zero h = ltb-true x n (and-eq-true-iff (ltb x n) (inside ns xs) .0 t .0)
