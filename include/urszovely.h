@@ -23,7 +23,8 @@
 extern "C" {
 #endif
 
-enum { URSZOVELY_CARD = 57 };
+/* The numbers of a card, and the bytes of the longest text that a card is written as. */
+enum { URSZOVELY_CARD = 57, URSZOVELY_TEXT = 344 };
 
 enum urszovely_refusal {
     URSZOVELY_APPROVED = 0,
@@ -122,7 +123,7 @@ void urszovely_stretch(const uint32_t *table, size_t length, const uint64_t leng
 void urszovely_read(const uint8_t *text, size_t length, uint64_t card[57], uint64_t marks[1], uint64_t answer[4]);
 
 /* And written, the card's lengths and M, B, S aside, into lent bytes: 0 with the length of the text, bytes past it stay; or 1 to 3, 11 with
- * the length needed. No text is longer than 473 bytes. */
+ * the length needed. No text is longer than URSZOVELY_TEXT bytes: whoever lends so many is never answered 11. */
 void urszovely_write(const uint64_t card[57], uint64_t marks, uint8_t *text, size_t length, uint64_t answer[4]);
 
 /* The verdict on a canonical shared-memory layout, on axis m alone, of that length: major-ness, mode, element bits, m and k, 1 to 8 each, LBO

@@ -288,6 +288,7 @@ static int write_text(void)
     put_answer();
     put_text(" |");
     put_value(digest_bytes(text, length));
+    if (answer[1] > URSZOVELY_TEXT) put_text(" a text longer than the longest");
     if (answer[0]) return 1;
     put(' ');
     for (i = 0; i < answer[1]; i++) put((char)text[i]);

@@ -49,7 +49,7 @@ pub value-back : (z : ℤ) (mark : Bool) (axis : ℕ) → valueOf (stepFor z mar
 value-back (pos n) mark axis = refl
 value-back (negsuc n) mark axis = refl
 
-axis-back : (z : ℤ) (mark : Bool) (axis : ℕ) → axisOf (stepFor z mark axis .place) ≡ axis
+pub axis-back : (z : ℤ) (mark : Bool) (axis : ℕ) → axisOf (stepFor z mark axis .place) ≡ axis
 axis-back z true axis = refl
 axis-back z false axis = refl
 
@@ -187,7 +187,7 @@ module _ (card : Card) (eight : OfEight card) (ok : fieldChecks card Admitted �
   counts : countsFit card ≡ true
   counts = passed (countsFit card) Counts _ ok .0
 
-  numbers : numbersFit card ≡ true
+  pub numbers : numbersFit card ≡ true
   numbers = passed (numbersFit card) OutOfLimits _ (passed (countsFit card) Counts _ ok .1) .0
 
   axes : axesFit card ≡ true

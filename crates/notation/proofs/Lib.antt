@@ -9,3 +9,5 @@ pub mod Run
 pub mod Image
 pub mod Theorems
 pub mod Back
+pub mod InNumbers
+pub mod Long

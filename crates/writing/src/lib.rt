@@ -14,6 +14,8 @@ ghost use lib.Dec.{eqb};
 ghost use lib.ListN.{length, take, drop};
 ghost use lib.Seq.{slice};
 ghost use Rattle.card.specs.Card.{listed, extentOf};
+ghost use Rattle.card.specs.Admission.{fieldChecks};
+ghost use Rattle.card.specs.declared.Admission.the-variants.{Admitted};
 ghost use Rattle.notation.specs.Text.{digits, decimal, name, spellSigned, spellStep, joined, spellLists, spellShard, spellReplica, spellOffsets};
 ghost use Rattle.notation.specs.Writing.{isBelow, stepFor, stepsFor, offsetsFrom, noMarks, listsFor, textOf, writeAnswer, bytesAfter, writeNumbers};
 ghost use Rattle.writing.specs.Out.{wrote, Free, noText, joint, words};
@@ -277,10 +279,10 @@ fn put_offsets(out: Out, offset: [i64; 8]) -> Out
     written
 }
 
-// The text of a card.
+// The text of a card that passes checks 1 to 3.
 fn spelled(card: Card) -> Out
-    requires { ⌜ (card .shard .count ≤ 8) × (card .replica .count ≤ 8) × (length (card .replica .at) ≡ 8) ⌝ }
-    ensures { λ r. ⌜ (r ≡ wrote noText (textOf card)) × (r .length ≤ 473) ⌝ }
+    requires { ⌜ fieldChecks card Admitted ≡ Admitted ⌝ }
+    ensures { λ r. ⌜ (r ≡ wrote noText (textOf card)) × (r .length ≤ 344) ⌝ }
 {
     let empty = Out {
         bytes: [0; 512],

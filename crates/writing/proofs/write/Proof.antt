@@ -33,13 +33,6 @@ passed c = checks (c .before .before) ∙ c .enum-told .given .1
 returns : tie.Need-returns
 returns c = (rw (checks (c .before .before .before) ∙ c .before .fields .given .1), refl)
 
-spelled-requires : tie.Need-spelled-requires
-spelled-requires c κs =
-    let s = c .before .before .before .before .before .before .before .before .before in
-    let card = s .args .card in
-    let e = eight s in
-    (shard-few card e (passed c) .1, omega (arith, replica-few card e (passed c)), e .replica)
-
 -- the text's length
 needed : (c : tie.After-spelled) → c .spelled .result .length ≡ length (textOf (c .before .before .before .before .before .before .before .before .before .before .args .card))
 needed c = ap (λ o. o .length) (c .spelled .ensures .0) ∙ text-length (textOf (c .before .before .before .before .before .before .before .before .before .before .args .card))
@@ -64,4 +57,4 @@ returns-3 c =
     (rw (passed (p .before), le-ltb _ _ fits, needed p), c .before .before .copy .ensures ∙ ap (λ (l : List ℕ). l ++ drop (p .spelled .result .length) (s .args .bytes .now)) taken)
 
 pub write-spec : {M : Type 1} → statement M
-write-spec = tie.close (tie.spec (λ c κs. search needs) (λ c κs. search needs) (λ c. search needs) returns (λ c. search needs) spelled-requires returns-2 copy-requires (λ c. search needs) returns-3)
+write-spec = tie.close (tie.spec (λ c κs. search needs) (λ c κs. search needs) (λ c. search needs) returns (λ c. search needs) (λ c κs. passed c) returns-2 copy-requires (λ c. search needs) returns-3)
