@@ -6,6 +6,7 @@ use text::input::Input;
 use text::output;
 ghost use mathlib.Core.Path.{_≡_};
 ghost use lib.ListN.{take};
+ghost use Rattle.judging.specs.Judge.{JudgedKept};
 
 // The entries that the program lends to the verdict.
 const LENT: usize = 16384;
@@ -38,14 +39,16 @@ fn kept(line: &[u8], held: usize) -> &[u8]
     line
 }
 
-// The verdict on what is kept of two lines that are so long: of a longer one the buffer's 4,096 bytes. It is answered as
-// they are, since no line of eight lengths and no correct text is so long (judging, proofs/Long.antt).
+// The verdict on two lines of which the first 4,096 bytes are kept. It is that on the whole lines, since no line of eight
+// lengths and no correct text is so long (judging, proofs/Long.antt).
 fn judge_kept(
     first: &[u8; 4096],
     second: &[u8; 4096],
     first_held: usize,
     second_held: usize,
-) -> Numbers {
+) -> Numbers
+    ensures { λ r. ⌜ JudgedKept (now (first .entry)) «first_held» (now (second .entry)) «second_held» r ⌝ }
+{
     let mut lent = [0u32; LENT];
     let lengths = kept(first, first_held);
     let text = kept(second, second_held);

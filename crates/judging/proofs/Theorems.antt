@@ -1,8 +1,10 @@
 -- The promise on two lines settles the answer: each line is read in one way, and the verdict on a card is one.
 use Prim.Native.Nat.{ℕ}
-use mathlib.Core.Path.{_≡_, sym, _∙_, subst⁻¹}
+use mathlib.Core.Path.{_≡_, sym, ap, _∙_, subst⁻¹}
 use mathlib.Core.Bool.{Bool, true, false}
 use mathlib.Core.List.{List}
+use lib.ListN.{replicate}
+use Rattle.answers.specs.declared.Numbers.{Numbers}
 use Rattle.notation.specs.declared.Layout.{Layout}
 use Rattle.notation.specs.declared.Read.{Read}
 use Rattle.notation.specs.declared.Read.the-variants.{Done, Refused as NotRead}
@@ -10,9 +12,10 @@ use Rattle.notation.specs.declared.Reading.{Reading}
 use Rattle.notation.proofs.Theorems.{read-settled}
 use Rattle.lengths.specs.declared.Line.{Line}
 use Rattle.lengths.proofs.Run.{line-settled}
+use Rattle.judgement.specs.Verdict.{verdictNumbers}
 use Rattle.judgement.specs.declared.Verdict.{Verdict}
 use Rattle.judgement.proofs.Theorems.{verdict-settled}
-use Rattle.judging.specs.Judge.{cardFor, Outcome, JudgePromise}
+use Rattle.judging.specs.Judge.{cardFor, Outcome, JudgePromise, JudgedAs}
 
 outcome-settled : (correct : Bool) (read : Read) (lengths : List ℕ) (layout : Layout) (before a b : List ℕ) (v w : Verdict)
     → Outcome (record { correct = correct; lengths = lengths }) (record { answer = read; layout = layout }) before a v
@@ -29,3 +32,10 @@ judge-settled first second before a b v w h k =
     let reading : h .reading ≡ k .reading = read-settled second (h .reading) (k .reading) (h .text-read) (k .text-read) in
     let same : Outcome (h .line) (h .reading) before b w = subst⁻¹ (λ (x : Line). Outcome x (h .reading) before b w) line (subst⁻¹ (λ (x : Reading). Outcome (k .line) x before b w) reading (k .outcome)) in
     outcome-settled (h .line .correct) (h .reading .answer) (h .line .lengths) (h .reading .layout) before a b v w (h .outcome) same
+
+-- so what the program says to two lines is one
+pub said-settled : (first second : List ℕ) (entries : ℕ) (m n : Numbers) → JudgedAs first second entries m → JudgedAs first second entries n → m ≡ n
+said-settled first second entries m n p q =
+    p .numbered
+    ∙ ap verdictNumbers (judge-settled first second (replicate entries 0) (p .after) (q .after) (p .verdict) (q .verdict) (p .promised) (q .promised) .1)
+    ∙ sym (q .numbered)

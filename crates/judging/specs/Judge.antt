@@ -3,6 +3,8 @@ use mathlib.Core.Path.{_≡_}
 use mathlib.Core.Bool.{Bool, true, false}
 use mathlib.Core.List.{List}
 use Prim.Native.Nat.{ℕ}
+use lib.ListN.{take, replicate}
+use Rattle.answers.specs.declared.Numbers.{Numbers}
 use Rattle.answers.specs.declared.Refusal.the-variants.{Space}
 use Rattle.card.specs.declared.Card.{Card}
 use Rattle.notation.specs.Promise.{Answered as TextAnswered}
@@ -12,7 +14,7 @@ use Rattle.notation.specs.declared.Read.the-variants.{Done, Refused as NotRead}
 use Rattle.notation.specs.declared.Reading.{Reading}
 use Rattle.lengths.specs.Line.{Answered as LineAnswered}
 use Rattle.lengths.specs.declared.Line.{Line}
-use Rattle.judgement.specs.Verdict.{VerdictPromise}
+use Rattle.judgement.specs.Verdict.{VerdictPromise, verdictNumbers}
 use Rattle.judgement.specs.declared.Verdict.{Verdict}
 use Rattle.judgement.specs.declared.Verdict.the-variants.{Refused}
 
@@ -49,3 +51,18 @@ pub record JudgePromise (first second before after : List ℕ) (verdict : Verdic
   pub reading : Reading
   pub text-read : TextAnswered second reading
   pub outcome : Outcome line reading before after verdict
+
+-- the program keeps the first 4,096 bytes of a line: as many of its buffer's as the line has, all where it has more
+abbrev pub KeptOf : List ℕ → List ℕ → ℕ → Type 0
+KeptOf line buffer held = take 4096 line ≡ take held buffer
+
+-- and says the numbers of what the two whole lines come to in a table of zeros
+pub record JudgedAs (first second : List ℕ) (entries : ℕ) (n : Numbers) : Type 0 where
+  pub after : List ℕ
+  pub verdict : Verdict
+  pub promised : JudgePromise first second (replicate entries 0) after verdict
+  pub numbered : n ≡ verdictNumbers verdict
+
+abbrev pub JudgedKept : List ℕ → ℕ → List ℕ → ℕ → Numbers → Type 0
+JudgedKept first first-held second second-held n =
+    (one two : List ℕ) → KeptOf one first first-held → KeptOf two second second-held → JudgedAs one two 16384 n
