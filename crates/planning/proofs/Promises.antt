@@ -18,9 +18,9 @@ use Rattle.plans_judged.specs.declared.Planning.{Planning}
 use Rattle.plans_judged.specs.declared.Planning.the-variants.{Refused as NoPlan}
 use Rattle.plans_judged.proofs.Theorems.{first-long, second-long, matched}
 use Rattle.plans_pair.specs.Contracts.{bothReady, OpenPromise}
-use Rattle.plans_pair.specs.declared.Pairing.{Pairing}
-use Rattle.plans_pair.specs.declared.Pairing.the-variants.{Matching, Refused}
-use Rattle.planning.specs.Contracts.{Ends}
+use Rattle.plans_second.specs.declared.Pairing.{Pairing}
+use Rattle.plans_second.specs.declared.Pairing.the-variants.{Matching, Refused}
+use Rattle.plans_cells.specs.Contracts.{Ends}
 
 -- what two cards come to, as the pairing that is handed on
 abbrev handedOn : ℕ → Opening → Ending Pairing

@@ -1,41 +1,9 @@
 // A carrier's plan checked between two cards, and a plain plan written.
-use answers::Cell;
-use answers::Refusal;
 use card::Card;
 use plans_judged::Checked;
 use plans_judged::Planning;
-use plans_pair::Pairing;
-ghost use mathlib.Core.Path.{_≡_};
-ghost use lib.ListN.{length};
-ghost use Rattle.claims.specs.Claims.{occupied};
-ghost use Rattle.plans.specs.Plans.{Matched};
-ghost use Rattle.plans_judged.specs.Endings.{planChecked, planWritten, memoryIn, CheckPromise, PlanPromise};
-ghost use Rattle.planning.specs.Contracts.{Ends};
-
-// A plan checked between two tables of owners, each of exactly the cells.
-fn check_cells(plan: &[u64], first: &mut [u32], second: &mut [u32]) -> Checked
-    requires { ⌜ length (now first) ≡ length (now second) ⌝ }
-    ensures { λ r. ⌜ Ends (planChecked (length (now (first .entry))) (now (plan .entry)) (now (first .entry)) (now (second .entry))) r (now (first .exit)) (now (second .exit)) ⌝ }
-{
-    let copy = plans_copies::first_outside(plan, first.len() as u64);
-    if copy != 0 {
-        owners::clear(first);
-        owners::clear(second);
-        return Checked::Refused(Refusal::Plan {
-            copy,
-            cell: Cell(0),
-        });
-    }
-    plans_copies::run_copies(plan, first);
-    let wrong = plans_copies::first_wrong(first, second);
-    if wrong != 0 {
-        return Checked::Refused(Refusal::Plan {
-            copy: 0,
-            cell: Cell(wrong - 1),
-        });
-    }
-    Checked::Accepted
-}
+use plans_second::Pairing;
+ghost use Rattle.plans_judged.specs.Endings.{CheckPromise, PlanPromise};
 
 // Checks a carrier's plan: its copies turn the first card's cells into the second's.
 pub fn check_plan(
@@ -51,36 +19,10 @@ pub fn check_plan(
     match opened {
         Pairing::Matching { cells, occupied: _ } => {
             let end = cells as usize;
-            check_cells(plan, &mut first[..end], &mut second[..end])
+            plans_cells::check_cells(plan, &mut first[..end], &mut second[..end])
         }
         Pairing::Refused(refusal) => Checked::Refused(refusal),
     }
-}
-
-// A plain plan written between two tables of owners, each of exactly the cells, of which the second occupies so many.
-fn write_cells(targets: u64, plan: &mut [u64], first: &mut [u32], second: &mut [u32]) -> Planning
-    requires { ⌜ Matched (now first) (now second) ⌝ }
-    requires { ⌜ (length (now first) ≡ length (now second)) × (targets ≡ occupied (now second)) ⌝ }
-    ensures { λ r. ⌜ Ends (planWritten (length (now (first .entry))) (length (now (plan .entry))) (now (first .entry)) (now (second .entry))) r (now (first .exit)) (now (second .exit)) ⌝ }
-    ensures { λ r. ⌜ now (plan .exit) ≡ memoryIn (planWritten (length (now (first .entry))) (length (now (plan .entry))) (now (first .entry)) (now (second .entry))) (now (plan .entry)) ⌝ }
-{
-    let shared = plans_copies::first_shared(first, second);
-    if shared != 0 {
-        owners::clear(first);
-        owners::clear(second);
-        return Planning::Refused(Refusal::Overlap {
-            cell: Cell(shared - 1),
-        });
-    }
-    let numbers = 2 * targets;
-    if (plan.len() as u64) < numbers {
-        owners::clear(first);
-        owners::clear(second);
-        return Planning::Refused(Refusal::TooShort { needed: numbers });
-    }
-    let end = numbers as usize;
-    plans_copies::put_plan(first, second, &mut plan[..end]);
-    Planning::Written { numbers }
 }
 
 // Writes a plain plan: for each occupied cell of the second card, rising, a copy from the smallest cell of the
@@ -98,7 +40,7 @@ pub fn write_plan(
     match opened {
         Pairing::Matching { cells, occupied } => {
             let end = cells as usize;
-            write_cells(occupied, plan, &mut first[..end], &mut second[..end])
+            plans_cells::write_cells(occupied, plan, &mut first[..end], &mut second[..end])
         }
         Pairing::Refused(refusal) => Planning::Refused(refusal),
     }

@@ -327,11 +327,12 @@ module _ (one two : Card) (first second : List ℕ) (j k : Judgement) (h : Comes
         }
         split zero = either OwnPlan (ltb (length memory) (2 * occupied s)) none all
 
--- where the copies were run, both cards were ready
+-- a plan that is checked, by how the two cards open
 module _ (one two : Card) (first second plan : List ℕ) where
   abbrev checks : Opening → Ending Checked
   checks o = endingOf (cells one) Refused (planChecked (cells one) plan) o
 
+  -- where the copies were run, both cards were ready
   ran : (o : Opening) → Opens one two (length first) (length second) o
       → (checkedNumbers (answerOf (checks o)) .number ≡ 0) ⊎ EndsWrong (checkedNumbers (answerOf (checks o)))
       → (l : List ℕ)
@@ -360,6 +361,22 @@ module _ (one two : Card) (first second plan : List ℕ) where
       split zero (suc w) h = (l, r, refl, refl, refl)
       split zero zero h = (l, r, refl, refl, refl)
 
+  -- and of its refusals 11 is that of a table which is shorter than the cells
+  too-short : (o : Opening) → Opens one two (length first) (length second) o → checkedNumbers (answerOf (checks o)) .number ≡ 11
+      → (length first < cells one) ⊎ (length second < cells one)
+  too-short (Untouched r) why h =
+      ⊎-elim (λ (e : r ≡ Space). let four : _≡_ {A = ℕ} 4 11 = rw e at h in absurd (omega arith))
+      (λ (e : (r ≡ TooShort (cells one)) × ((length first < cells one) ⊎ (length second < cells one))). e .1)
+      why
+  too-short (Emptied r) (room, is) h = absurd (not-among (refusalNumbers r .number) 11 ofPair is refl h)
+  too-short (Ready l r) room h = split (firstOutside (cells one) plan) (firstWrong (carried plan l) r) h
+    where
+      split : (n w : ℕ) → checkedNumbers (checkedBy (cells one) (carried plan l) r n w .answer) .number ≡ 11
+          → (length first < cells one) ⊎ (length second < cells one)
+      split (suc n) w h = absurd (omega arith)
+      split zero (suc w) h = absurd (omega arith)
+      split zero zero h = absurd (omega arith)
+
 module _ (one two : Card) (plan first second f s : List ℕ) (a : Checked) (p : CheckPromise one two plan first second f s a) where
   -- checking a plan answers 0, 1 to 9, 11, 17 or 21
   pub check-answers : among (checkedNumbers a .number) (0 ∷ 4 ∷ 11 ∷ 21 ∷ ofPair) ≡ true
@@ -369,7 +386,14 @@ module _ (one two : Card) (plan first second f s : List ℕ) (a : Checked) (p : 
       (begins one two first second (p .judgement) (p .other) (p .comes) (p .comes-other))
       (own-check one two first second (p .judgement) (p .other) (p .comes) (p .comes-other) plan))
 
-  -- and leaves this in the two tables
+  -- 11 comes only where one of the two lent tables is shorter than the cells
+  pub check-short : checkedNumbers a .number ≡ 11 → (length first < cells one) ⊎ (length second < cells one)
+  check-short h =
+      too-short one two first second plan (opening one two (length first) (length second) (p .judgement) (p .other))
+      (begins one two first second (p .judgement) (p .other) (p .comes) (p .comes-other))
+      (sym (ap (λ (b : Checked). checkedNumbers b .number) (p .answers ∙ ap answerOf (p .follows))) ∙ h)
+
+  -- and it leaves this in the two tables
   pub check-leaves : TablesAfter one first second f s (checkedNumbers a .number) (EndsWrong (checkedNumbers a))
   check-leaves =
       rw (p .answers, p .leaves, p .leaves-other, p .follows)

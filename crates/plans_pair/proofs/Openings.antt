@@ -1,8 +1,8 @@
 -- What two judgements come to, case by case, and what is left in the two tables.
 use mathlib.Core.Path.{_≡_, refl, sym, ap, ap₂, _∙_, subst}
-use mathlib.Core.Bool.{Bool, true, false, cond, not, _&&_, _||_, and-eq-true-iff}
-use mathlib.Core.List.{List, [], _∷_, _++_}
-use Prim.Native.Nat.{ℕ, _≤_, _<_, min}
+use mathlib.Core.Bool.{Bool, true, false, cond, not, _||_, and-eq-true-iff}
+use mathlib.Core.List.{List, _++_}
+use Prim.Native.Nat.{ℕ, _≤_, min}
 use native.Mathlib.Omega.{arith}
 use lib.Dec.{eqb, ltb, leb}
 use lib.ListN.{length, take, drop, replicate, length-replicate}
@@ -26,11 +26,12 @@ use Rattle.judgement.specs.Run.{judge}
 use Rattle.judgement.specs.declared.Verdict.{Verdict}
 use Rattle.judgement.specs.declared.Verdict.the-variants.{Approved, Refused as NotApproved}
 use Rattle.judgement.proofs.Run.{judge-comes}
-use Rattle.plans_judged.specs.Pair.{oneSpace, marked, ownersOf, Opening, Untouched, Emptied, Ready, afterBoth, opening}
-use Rattle.plans_judged.specs.Endings.{emptying, Ending, Kept, Left, endingOf}
-use Rattle.plans_pair.specs.Contracts.{pairedBy, pairing, ifApproved, OtherPromise, BothPromise, bothReady, OpenPromise}
-use Rattle.plans_pair.specs.declared.Pairing.{Pairing}
-use Rattle.plans_pair.specs.declared.Pairing.the-variants.{Matching, Refused}
+use Rattle.plans_judged.specs.Pair.{oneSpace, marked, ownersOf, Emptied, Ready, afterBoth, opening}
+use Rattle.plans_judged.specs.Endings.{emptying, Kept, Left, endingOf}
+use Rattle.plans_second.specs.Contracts.{OtherPromise}
+use Rattle.plans_pair.specs.Contracts.{pairing, ifApproved, BothPromise, bothReady, OpenPromise}
+use Rattle.plans_second.specs.declared.Pairing.{Pairing}
+use Rattle.plans_second.specs.declared.Pairing.the-variants.{Matching, Refused}
 
 -- the product of eight lengths that fit is not capped
 pub cells-whole : (lengths : List ℕ) (n : ℕ) → length lengths ≡ 8 → spaceFits lengths ≡ true → n ≡ min (product (take 8 lengths)) beyond → n ≡ product lengths
@@ -38,16 +39,6 @@ cells-whole lengths n eight fits e =
     let few = leb-true (product lengths) mostCells (and-eq-true-iff (all (within 1 mostLength) lengths) (leb (product lengths) mostCells) .0 fits .1) in
     let whole : n ≡ min (product lengths) beyond = e ∙ ap (λ (l : List ℕ). min (product l) beyond) (take-whole 8 lengths eight) in
     omega arith
-
--- the second verdict
-pub other-judged : {one two : Card} {n : ℕ} {second after : List ℕ} {v : Verdict} {p : Pairing} → VerdictPromise two second after v → (a b : Bool)
-    → a ≡ marked one → b ≡ marked two → p ≡ pairedBy v (a || b) n → OtherPromise one two n second after p
-other-judged {one} {two} {n} {second} {after} {v} {p} w a b ea eb e = record {
-  other = w .judgement;
-  comes-other = w .comes;
-  answers = e ∙ ap (λ (u : Verdict). pairedBy u (a || b) n) (w .answers) ∙ ap₂ (λ (x y : Bool). pairedBy (verdictOf two (w .judgement)) (x || y) n) ea eb;
-  leaves-other = w .leaves;
-}
 
 module _ {one : Card} (two : Card) {first : List ℕ} (second : List ℕ) {after : List ℕ} {v : Verdict} (w : VerdictPromise one first after v) where
   -- both verdicts, where the first approves

@@ -1,11 +1,9 @@
 -- What the functions inside promise each other: what two verdicts come to, and what is left in the tables before a plan is looked at.
 use mathlib.Core.Path.{_≡_}
-use mathlib.Core.Bool.{Bool, cond, not, _||_}
+use mathlib.Core.Bool.{Bool, _||_}
 use mathlib.Core.List.{List}
 use Prim.Native.Nat.{ℕ}
-use lib.Dec.{eqb}
 use lib.ListN.{length}
-use Rattle.answers.specs.declared.Refusal.the-variants.{Limits, Shape}
 use Rattle.card.specs.Card.{cells}
 use Rattle.card.specs.declared.Card.{Card}
 use Rattle.claims.specs.Claims.{occupied}
@@ -15,13 +13,9 @@ use Rattle.judgement.specs.declared.Verdict.{Verdict}
 use Rattle.judgement.specs.declared.Verdict.the-variants.{Approved, Refused as NotApproved}
 use Rattle.plans_judged.specs.Pair.{marked}
 use Rattle.plans_judged.specs.Endings.{Held, PairPromise}
-use Rattle.plans_pair.specs.declared.Pairing.{Pairing}
-use Rattle.plans_pair.specs.declared.Pairing.the-variants.{Matching, Refused}
-
--- the second verdict, where the first approved so many elements
-abbrev pub pairedBy : Verdict → Bool → ℕ → Pairing
-pairedBy (Approved n o c) marks first = cond marks (Refused Limits) (cond (not (eqb first n)) (Refused Shape) (Matching c o))
-pairedBy (NotApproved refusal) marks n = Refused refusal
+use Rattle.plans_second.specs.Contracts.{pairedBy}
+use Rattle.plans_second.specs.declared.Pairing.{Pairing}
+use Rattle.plans_second.specs.declared.Pairing.the-variants.{Matching, Refused}
 
 -- both verdicts
 abbrev pub pairing : Verdict → Verdict → Bool → Pairing
@@ -32,12 +26,6 @@ pairing (NotApproved refusal) verdict marks = Refused refusal
 abbrev pub ifApproved : Verdict → List ℕ → List ℕ → List ℕ
 ifApproved (Approved n o c) judged table = judged
 ifApproved (NotApproved refusal) judged table = table
-
-pub record OtherPromise (one two : Card) (n : ℕ) (second second-after : List ℕ) (answer : Pairing) : Type 0 where
-  pub other : Judgement
-  pub comes-other : ComesTo two (length second) other
-  pub answers : answer ≡ pairedBy (verdictOf two other) (marked one || marked two) n
-  pub leaves-other : second-after ≡ tableAfter two other second
 
 pub record BothPromise (one two : Card) (first second first-after second-after : List ℕ) (answer : Pairing) : Type 0 where
   pub judgement : Judgement

@@ -518,7 +518,7 @@ pub extern "C" fn urszovely_carry(
     let one = c_card::card(first_card, first_marks);
     let two = c_card::card(second_card, second_marks);
     let checked = planning::check_plan(one, two, plan, first, second);
-    let numbers = plans_judged::checked_numbers(checked);
+    let numbers = plans_numbers::checked_numbers(checked);
     *answer = c_card::four(numbers);
 }
 
@@ -539,6 +539,6 @@ pub extern "C" fn urszovely_plan(
     let one = c_card::card(first_card, first_marks);
     let two = c_card::card(second_card, second_marks);
     let written = planning::write_plan(one, two, plan, first, second);
-    let numbers = plans_judged::planning_numbers(written);
+    let numbers = plans_numbers::planning_numbers(written);
     *answer = c_card::four(numbers);
 }

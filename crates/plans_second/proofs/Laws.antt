@@ -1,8 +1,8 @@
--- The steps of the two loops, and what two judgements come to.
-use mathlib.Core.Path.{_≡_, refl, sym, ap, ap₂, _∙_, subst}
-use mathlib.Core.Bool.{Bool, true, false, cond, not, _&&_, _||_, and-eq-true-iff}
-use mathlib.Core.List.{List, [], _∷_, _++_}
-use Prim.Native.Nat.{ℕ, zero, suc, _+_, _≤_, _<_, min}
+-- The steps of the two loops, axis by axis and iter by iter, and what the second verdict comes to beside the first.
+use mathlib.Core.Path.{_≡_, refl, ap, ap₂, _∙_}
+use mathlib.Core.Bool.{Bool, true, false, _&&_, _||_, and-eq-true-iff}
+use mathlib.Core.List.{List}
+use Prim.Native.Nat.{ℕ, _+_, _≤_, _<_, min}
 use native.Mathlib.Omega.{arith}
 use native.Mathlib.Numerals.{add-one}
 use lib.Dec.{eqb, ltb}
@@ -11,7 +11,12 @@ use Rattle.laws.proofs.Rungs.{apart}
 use lib.ListN.{length, getD, take, drop, length-take, drop-of-length-le}
 use lib.Seq.{drop-cons, getD-take}
 use Rattle.card.specs.Lists.{same}
-use Rattle.plans_judged.specs.Pair.{anyMark}
+use Rattle.card.specs.declared.Card.{Card}
+use Rattle.judgement.specs.Verdict.{verdictOf, VerdictPromise}
+use Rattle.judgement.specs.declared.Verdict.{Verdict}
+use Rattle.plans_judged.specs.Pair.{anyMark, marked}
+use Rattle.plans_second.specs.Contracts.{pairedBy, OtherPromise}
+use Rattle.plans_second.specs.declared.Pairing.{Pairing}
 
 and-next : (a b c : Bool) → ((a && b) && c) ≡ (a && (b && c))
 and-next true b c = refl
@@ -62,3 +67,13 @@ not-below-both k n m e = split (ltb k n) (ltb k m) refl refl e
     split true true f g e = absurd (apart cc)
     split true false f g e = omega (arith, ltb-false k m g)
     split false b f g e = omega (arith, ltb-false k n f)
+
+-- the second verdict
+pub other-judged : {one two : Card} {n : ℕ} {second after : List ℕ} {v : Verdict} {p : Pairing} → VerdictPromise two second after v → (a b : Bool)
+    → a ≡ marked one → b ≡ marked two → p ≡ pairedBy v (a || b) n → OtherPromise one two n second after p
+other-judged {one} {two} {n} {second} {after} {v} {p} w a b ea eb e = record {
+  other = w .judgement;
+  comes-other = w .comes;
+  answers = e ∙ ap (λ (u : Verdict). pairedBy u (a || b) n) (w .answers) ∙ ap₂ (λ (x y : Bool). pairedBy (verdictOf two (w .judgement)) (x || y) n) ea eb;
+  leaves-other = w .leaves;
+}

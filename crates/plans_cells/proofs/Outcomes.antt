@@ -14,7 +14,7 @@ use Rattle.plans_judged.specs.declared.Checked.{Checked}
 use Rattle.plans_judged.specs.declared.Checked.the-variants.{Accepted, Refused}
 use Rattle.plans_judged.specs.declared.Planning.{Planning}
 use Rattle.plans_judged.specs.declared.Planning.the-variants.{Written, Refused as NoPlan}
-use Rattle.planning.specs.Contracts.{Ends}
+use Rattle.plans_cells.specs.Contracts.{Ends}
 
 -- the three endings of a plan that is checked
 outside-checked : (cells : ℕ) (held second : List ℕ) (n w : ℕ) → 0 < n → checkedBy cells held second n w ≡ emptying cells (Refused (Plan n (record { 0 = 0 })))

@@ -1,14 +1,14 @@
--- `plans_pair::any_mark` looks from iter to iter: what is found so far, with the marks that are left, is found among all.
+-- `plans_second::any_mark` looks from iter to iter: what is found so far, with the marks that are left, is found among all.
 use mathlib.Core.Path.{_≡_, refl, sym, _∙_}
 use mathlib.Core.Bool.{Bool, _||_}
 use Prim.Native.Nat.{ℕ, _+_, _-_, _≤_, _<_}
 use native.Mathlib.Omega.{arith}
 use lib.ListN.{length, take, drop}
 use Rattle.plans_judged.specs.Pair.{anyMark}
-use Rattle.plans_pair.proofs.Laws.{mark-step, mark-end, below-both, not-below-both}
+use Rattle.plans_second.proofs.Laws.{mark-step, mark-end, below-both, not-below-both}
 use borrow.Author.Needs.{needs}
-use Rattle.plans_pair.proofs.any_mark.Statement.{statement}
-use Rattle.plans_pair.proofs.any_mark.Tie as tie
+use Rattle.plans_second.proofs.any_mark.Statement.{statement}
+use Rattle.plans_second.proofs.any_mark.Tie as tie
 
 abbrev Inv-loop : tie.InvT-loop
 Inv-loop count marks found₀ k₀ found k = (k ≤ 8) × ((found || anyMark (drop k (take count marks))) ≡ anyMark (take count marks))

@@ -1,12 +1,12 @@
--- `planning::check_cells` looks for a copy outside before any is run, and then for a wrong cell.
+-- `plans_cells::check_cells` looks for a copy outside before any is run, and then for a wrong cell.
 use mathlib.Core.Path.{_≡_, sym, _∙_}
 use native.Mathlib.Omega.{arith}
 use lib.ListN.{length}
 use Rattle.plans.specs.Plans.{firstOutside}
-use Rattle.planning.proofs.Outcomes.{copy-outside, ends-wrong, ends-right}
+use Rattle.plans_cells.proofs.Outcomes.{copy-outside, ends-wrong, ends-right}
 use borrow.Author.Needs.{needs}
-use Rattle.planning.proofs.check_cells.Statement.{statement}
-use Rattle.planning.proofs.check_cells.Tie as tie
+use Rattle.plans_cells.proofs.check_cells.Statement.{statement}
+use Rattle.plans_cells.proofs.check_cells.Tie as tie
 
 returns : tie.Need-returns
 returns c =

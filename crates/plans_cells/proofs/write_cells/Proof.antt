@@ -1,4 +1,4 @@
--- `planning::write_cells` looks for a shared cell, then for room, and then writes the plan.
+-- `plans_cells::write_cells` looks for a shared cell, then for room, and then writes the plan.
 use mathlib.Core.Path.{_≡_, sym, ap, _∙_}
 use mathlib.Core.List.{List, _++_}
 use Prim.Native.Nat.{ℕ, _*_, _≤_}
@@ -7,10 +7,10 @@ use lib.ListN.{length, drop}
 use lib.Seq.{length-take-le}
 use Rattle.plans.specs.Plans.{firstShared}
 use Rattle.plans.proofs.Plans.{occupied-most}
-use Rattle.planning.proofs.Outcomes.{overlaps, too-few, filled}
+use Rattle.plans_cells.proofs.Outcomes.{overlaps, too-few, filled}
 use borrow.Author.Needs.{needs}
-use Rattle.planning.proofs.write_cells.Statement.{statement}
-use Rattle.planning.proofs.write_cells.Tie as tie
+use Rattle.plans_cells.proofs.write_cells.Statement.{statement}
+use Rattle.plans_cells.proofs.write_cells.Tie as tie
 
 returns : tie.Need-returns
 returns c =

@@ -1,7 +1,7 @@
--- `plans_judged::checked_numbers` takes an answer to its number: in each arm the answer is the arm's own.
+-- `plans_numbers::checked_numbers` takes an answer to its number: in each arm the answer is the arm's own.
 use borrow.Author.Needs.{needs}
-use Rattle.plans_judged.proofs.checked_numbers.Statement.{statement}
-use Rattle.plans_judged.proofs.checked_numbers.Tie as tie
+use Rattle.plans_numbers.proofs.checked_numbers.Statement.{statement}
+use Rattle.plans_numbers.proofs.checked_numbers.Tie as tie
 
 pub checked-numbers-spec : {M : Type 1} → statement M
 checked-numbers-spec =

@@ -1,7 +1,7 @@
--- `plans_judged::planning_numbers` takes an answer to its number: in each arm the answer is the arm's own.
+-- `plans_numbers::planning_numbers` takes an answer to its number: in each arm the answer is the arm's own.
 use borrow.Author.Needs.{needs}
-use Rattle.plans_judged.proofs.planning_numbers.Statement.{statement}
-use Rattle.plans_judged.proofs.planning_numbers.Tie as tie
+use Rattle.plans_numbers.proofs.planning_numbers.Statement.{statement}
+use Rattle.plans_numbers.proofs.planning_numbers.Tie as tie
 
 pub planning-numbers-spec : {M : Type 1} → statement M
 planning-numbers-spec =

@@ -1,10 +1,10 @@
--- `plans_pair::pair_up` is the ladder after the second verdict.
+-- `plans_second::pair_up` is the ladder after the second verdict.
 use mathlib.Core.Path.{refl}
 use native.Mathlib.Omega.{arith}
 use borrow.Author.Tests.{ne-eqb, eq-eqb}
 use borrow.Author.Needs.{needs}
-use Rattle.plans_pair.proofs.pair_up.Statement.{statement}
-use Rattle.plans_pair.proofs.pair_up.Tie as tie
+use Rattle.plans_second.proofs.pair_up.Statement.{statement}
+use Rattle.plans_second.proofs.pair_up.Tie as tie
 
 pub pair-up-spec : {M : Type 1} → statement M
 pair-up-spec =

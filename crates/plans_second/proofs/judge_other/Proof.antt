@@ -1,8 +1,8 @@
--- `plans_pair::judge_other` is the second verdict, and then marks and elements.
-use Rattle.plans_pair.proofs.Openings.{other-judged}
+-- `plans_second::judge_other` is the second verdict, and then marks and elements.
+use Rattle.plans_second.proofs.Laws.{other-judged}
 use borrow.Author.Needs.{needs}
-use Rattle.plans_pair.proofs.judge_other.Statement.{statement}
-use Rattle.plans_pair.proofs.judge_other.Tie as tie
+use Rattle.plans_second.proofs.judge_other.Statement.{statement}
+use Rattle.plans_second.proofs.judge_other.Tie as tie
 
 returns : tie.Need-returns
 returns c =

@@ -1,14 +1,14 @@
--- `plans_pair::same_lengths` compares axis by axis: what is compared so far, with the lengths that are left, is the comparison of all.
+-- `plans_second::same_lengths` compares axis by axis: what is compared so far, with the lengths that are left, is the comparison of all.
 use mathlib.Core.Path.{_≡_, refl, sym, _∙_}
 use mathlib.Core.Bool.{Bool, _&&_}
 use Prim.Native.Nat.{ℕ, _+_, _-_, _≤_, _<_}
 use native.Mathlib.Omega.{arith}
 use lib.ListN.{length, drop}
 use Rattle.card.specs.Lists.{same}
-use Rattle.plans_pair.proofs.Laws.{same-step, same-end}
+use Rattle.plans_second.proofs.Laws.{same-step, same-end}
 use borrow.Author.Needs.{needs}
-use Rattle.plans_pair.proofs.same_lengths.Statement.{statement}
-use Rattle.plans_pair.proofs.same_lengths.Tie as tie
+use Rattle.plans_second.proofs.same_lengths.Statement.{statement}
+use Rattle.plans_second.proofs.same_lengths.Tie as tie
 
 abbrev Inv-loop : tie.InvT-loop
 Inv-loop one two alike₀ axis₀ alike axis = (axis ≤ 8) × ((alike && same (drop axis one) (drop axis two)) ≡ same one two)
