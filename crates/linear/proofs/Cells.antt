@@ -23,7 +23,7 @@ use Rattle.linear.proofs.Times.{moved-none}
 use Rattle.linear.proofs.Runs.{Fit, part-run}
 use Rattle.linear.proofs.Levels.{weighed-sum, weighed-times}
 
-between : (a b c : ℤ) → a +ℤ b +ℤ c ≡ a +ℤ c +ℤ b
+pub between : (a b c : ℤ) → a +ℤ b +ℤ c ≡ a +ℤ c +ℤ b
 between a b c = omega (whole, parts-sum a b, parts-sum (a +ℤ b) c, parts-sum a c, parts-sum (a +ℤ c) b)
 
 module _ (card : Card) (fit : Fit (listed (card .shard))) (q c : ℕ) (h : c < run (listed (card .shard))) where

@@ -1,10 +1,10 @@
--- Times a natural number, over whole numbers: a sum, a number more, and what a component moves.
+-- Times a natural number, over whole numbers: a sum, a number more, so many steps from where one began, and what a component moves.
 use mathlib.Core.Path.{_≡_, refl, sym, ap, ap₂, _∙_}
 use mathlib.Core.Bool.{Bool, true, false, cond}
 use Prim.Native.Nat.{ℕ, _+_, _*_}
 use native.Mathlib.Omega.{arith}
 use native.Mathlib.Nat.{mul-add, add-mul}
-use lib.IntN.{ℤ, pos, _+ℤ_, _*ℤ_, +ℤ-idl, +ℤ-idr, zero-*ℤ, *ℤ-zero}
+use lib.IntN.{ℤ, pos, _+ℤ_, _*ℤ_, +ℤ-idl, +ℤ-idr, +ℤ-assoc, zero-*ℤ, *ℤ-zero}
 use Rattle.laws.proofs.Parts.{whole, up, down, parts-sum, parts-times}
 
 pub times-sum : (n : ℕ) (a b : ℤ) → pos n *ℤ (a +ℤ b) ≡ pos n *ℤ a +ℤ pos n *ℤ b
@@ -28,6 +28,14 @@ times-more n a = omega (whole, parts-times (n + 1) a, parts-times n a, parts-sum
 
 pub times-one : (a : ℤ) → pos 1 *ℤ a ≡ a
 times-one a = omega (whole, parts-times 1 a)
+
+-- no step is where it began, and one step more
+pub no-step : (x y : ℤ) → x ≡ x +ℤ pos 0 *ℤ y
+no-step x y = sym (ap (λ (z : ℤ). x +ℤ z) (zero-*ℤ y) ∙ +ℤ-idr x)
+
+pub stepped : (start step now : ℤ) (c : ℕ) → now ≡ start +ℤ pos c *ℤ step → now +ℤ step ≡ start +ℤ pos (c + 1) *ℤ step
+stepped start step now c e =
+    ap (λ (z : ℤ). z +ℤ step) e ∙ +ℤ-assoc start (pos c *ℤ step) step ∙ ap (λ (z : ℤ). start +ℤ z) (sym (times-more c step))
 
 -- what a component moves
 abbrev pub moved : Bool → ℕ → ℤ → ℤ

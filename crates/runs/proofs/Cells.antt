@@ -22,7 +22,7 @@ use Rattle.card.specs.Packed.{swizzleOf}
 use Rattle.card.specs.declared.Card.{Card}
 use Rattle.rules.specs.Rules.{part, swizzledZ}
 use Rattle.linear.specs.Levels.{levelAt}
-use Rattle.runs.specs.Contracts.{roomy, CopiesTo, FilledTo}
+use Rattle.runs.specs.Contracts.{roomy, roomier, CopiesTo, FilledTo}
 
 pub natural-m : (w : Swizzle) (z : ℤ) (n : ℕ) → swizzledZ w z ≡ pos n → T (nonNeg z)
 natural-m w (pos m) n e = tt
@@ -42,6 +42,11 @@ module _ (a b : ℤ) (fits-a : SFits w64 a) (fits-b : SFits w64 b) (near-a : nat
 
   pub sum-back : toZ w64 (ofZ w64 (toZ w64 (ofZ w64 a) +ℤ toZ w64 (ofZ w64 b))) ≡ a +ℤ b
   sum-back = toZ-ofZ sum-fits ∙ read
+
+-- and a step to one that is
+module _ (now step : ℤ) (near : natAbs now ≤ roomier) (short : natAbs step ≤ roomy) where
+  pub step-fits : SFits w64 (now +ℤ step)
+  step-fits = far-fits (omega (arith, sum-far now step))
 
 -- a row that is filled to k, and one cell more
 module _ (numbers : List ℕ) (level m : ℤ) (levels ms : List ℤ) (before : List ℕ) where

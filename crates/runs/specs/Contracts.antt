@@ -1,6 +1,7 @@
 -- What the functions here promise: a cell by level and m, what copies add to them, and a row of cells. Nothing here has to be believed.
 use Prim.Native.Nat.{ℕ, _^_, _≤_, _<_}
 use mathlib.Core.Path.{_≡_}
+use mathlib.Core.Bool.{true}
 use mathlib.Core.List.{List}
 use lib.IntN.{ℤ, pos, natAbs, _+ℤ_}
 use lib.ListN.{length, getD}
@@ -9,22 +10,26 @@ use Rattle.card.specs.Packed.{beyond, swizzleOf}
 use Rattle.card.specs.declared.Card.{Card}
 use Rattle.rules.specs.Rules.{part, swizzledZ}
 use Rattle.linear.specs.Levels.{levelAt}
-use Rattle.copies.specs.Contracts.{Permits}
+use Rattle.swizzle.specs.Swizzle.{permitted}
+use Rattle.swizzle.specs.declared.Swizzle.{Swizzle}
 use Rattle.runs.specs.declared.Place.{Place}
 
 -- how far from zero a level or an m is at most, with room to spare
 abbrev pub roomy : ℕ
 roomy = 2 ^ 60
 
+-- the same of a copy, which adds its own
+abbrev pub roomier : ℕ
+roomier = 2 ^ 61
+
 -- a level and an m come to a cell
-pub record CellThere (numbers : List ℕ) (level m : ℤ) : Type 0 where
-  pub whole : length numbers ≡ 56
-  pub permits : Permits numbers
+pub record CellThere (by : Swizzle) (level m : ℤ) : Type 0 where
+  pub permits : permitted (by .m) (by .b) (by .s) ≡ true
   pub cell : ℕ
   pub on-m : ℕ
   pub few : cell < beyond
   pub short : on-m < beyond
-  pub m-there : swizzledZ (swizzleOf numbers) m ≡ pos on-m
+  pub m-there : swizzledZ by m ≡ pos on-m
   pub there : pos cell ≡ level +ℤ pos on-m
 
 -- what sums come to as level and m
@@ -41,13 +46,14 @@ pub record CopiesTo (card : Card) (n k : ℕ) (levels ms : List ℤ) : Type 0 wh
 
 -- a row of copies whose cells are there
 pub record Fillable (numbers : List ℕ) (level m : ℤ) (levels ms : List ℤ) (row : List ℕ) : Type 0 where
+  pub whole : length numbers ≡ 56
   pub levels-size : length levels ≡ length row
   pub ms-size : length ms ≡ length row
   pub near : natAbs level ≤ roomy
   pub m-near : natAbs m ≤ roomy
   pub levels-near : (r : ℕ) → r < length row → natAbs (getD levels r (pos 0)) ≤ roomy
   pub ms-near : (r : ℕ) → r < length row → natAbs (getD ms r (pos 0)) ≤ roomy
-  pub cells : (r : ℕ) → r < length row → CellThere numbers (level +ℤ getD levels r (pos 0)) (m +ℤ getD ms r (pos 0))
+  pub cells : (r : ℕ) → r < length row → CellThere (swizzleOf numbers) (level +ℤ getD levels r (pos 0)) (m +ℤ getD ms r (pos 0))
 
 -- the first k of them are written
 pub record FilledTo (numbers : List ℕ) (level m : ℤ) (levels ms : List ℤ) (before after : List ℕ) (k : ℕ) : Type 0 where

@@ -1,5 +1,6 @@
 // The cells of a packed card's copies in runs: an element begins at a level, the number of its sums
 // without m, and at an m; in a run both grow by one step, and each copy adds its own.
+use swizzle::Swizzle;
 ghost use mathlib.Core.Path.{_≡_};
 ghost use mathlib.Core.Bool.{true};
 ghost use mathlib.Core.List.{List};
@@ -58,18 +59,25 @@ pub fn weigh(numbers: &[u64; 56], sums: &[i64; 8]) -> i64
     sum
 }
 
-// The cell of a copy inside the space by its level and its m. Public, with a requires, for the crate above.
-pub fn cell_at(numbers: &[u64; 56], level: i64, m: i64) -> u32
-    requires { ⌜ CellThere (now numbers) level m ⌝ }
-    ensures { λ r. ⌜ pos r ≡ level +ℤ swizzledZ (swizzleOf (now (numbers .entry))) m ⌝ }
+// The swizzle of a packed card. Public, with a requires, for the crate above.
+pub fn swizzle_of(numbers: &[u64; 56]) -> Swizzle
+    requires { ⌜ length (now numbers) ≡ 56 ⌝ }
+    ensures { λ r. ⌜ r ≡ swizzleOf (now (numbers .entry)) ⌝ }
 {
-    let on_m = swizzle::swizzle_permitted(
-        numbers[card::M],
-        numbers[card::B],
-        numbers[card::S],
-        m as u64,
-    );
-    (level + on_m as i64) as u32
+    Swizzle {
+        m: numbers[card::M],
+        b: numbers[card::B],
+        s: numbers[card::S],
+    }
+}
+
+// The cell of a copy inside the space by its level and its m. Public, with a requires, for the crate above.
+pub fn cell_at(by: Swizzle, level: i64, m: i64) -> u64
+    requires { ⌜ CellThere by level m ⌝ }
+    ensures { λ r. ⌜ pos r ≡ level +ℤ swizzledZ by m ⌝ }
+{
+    let on_m = swizzle::swizzle_permitted(by.m, by.b, by.s, m as u64);
+    (level + on_m as i64) as u64
 }
 
 // What a list of iters adds to level and m at an index. Public, with a requires, for the crate above.
@@ -117,9 +125,11 @@ pub fn fill(numbers: &[u64; 56], level: i64, m: i64, levels: &[i64], ms: &[i64],
     requires { ⌜ Fillable (now numbers) level m (now levels) (now ms) (now row) ⌝ }
     ensures { λ r. ⌜ FilledTo (now (numbers .entry)) level m (now (levels .entry)) (now (ms .entry)) (now (row .entry)) (now (row .exit)) (length (now (row .entry))) ⌝ }
 {
+    let by = swizzle_of(numbers);
     let mut combination: usize = 0;
     while combination < row.len() {
-        row[combination] = cell_at(numbers, level + levels[combination], m + ms[combination]);
+        let cell = cell_at(by, level + levels[combination], m + ms[combination]);
+        row[combination] = cell as u32;
         combination += 1;
     }
 }

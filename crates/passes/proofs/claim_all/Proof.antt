@@ -10,8 +10,8 @@ use lib.Seq.{length-take-le, take-append-seam}
 use Rattle.card.specs.Packed.{cardOf}
 use Rattle.card.specs.declared.Card.{Card}
 use Rattle.card.proofs.Admitted.{sized}
-use Rattle.passes.specs.Contracts.{Rows}
-use Rattle.passes.proofs.Laws.{admits}
+use Rattle.claiming_runs.specs.Contracts.{Rows}
+use Rattle.claiming_in_order.proofs.Laws.{admits}
 use Rattle.passes.proofs.claim_all.Statement.{statement}
 use Rattle.passes.proofs.claim_all.Tie as tie
 
@@ -76,27 +76,27 @@ as-long n l rest e = sym (ap length (front n l rest e) ∙ e)
 array-share-prefix-levels : tie.Need-array-share-prefix-levels
 array-share-prefix-levels c = let p = c .before .before in reaches (n p) (levels p) _ (levels-long p)
 
-slice-aggregate-claim-runs : tie.Need-slice-aggregate-claim-runs
-slice-aggregate-claim-runs c = let p = c .before .before .before in as-long (n p) (levels p) _ (levels-long p)
+slice-aggregate-claim-twice : tie.Need-slice-aggregate-claim-twice
+slice-aggregate-claim-twice c = let p = c .before .before .before in as-long (n p) (levels p) _ (levels-long p)
 
 array-share-prefix-ms : tie.Need-array-share-prefix-ms
 array-share-prefix-ms c = let p = c .before .before .before in reaches (n p) (ms p) _ (ms-long p)
 
-slice-aggregate-claim-runs-2 : tie.Need-slice-aggregate-claim-runs-2
-slice-aggregate-claim-runs-2 c = let p = c .before .before .before .before in as-long (n p) (ms p) _ (ms-long p)
+slice-aggregate-claim-twice-2 : tie.Need-slice-aggregate-claim-twice-2
+slice-aggregate-claim-twice-2 c = let p = c .before .before .before .before in as-long (n p) (ms p) _ (ms-long p)
 
-claim-runs-requires : tie.Need-claim-runs-requires
-claim-runs-requires c κs =
+claim-twice-requires : tie.Need-claim-twice-requires
+claim-twice-requires c κs =
     let p = c .before .before .before .before .before .before in
     let q = s p in
     ((q .pre .0, rw (front (n p) (levels p) _ (levels-long p), front (n p) (ms p) _ (ms-long p)) (filled p)), q .pre .1)
 
 returns : tie.Need-returns
-returns c = c .before .before .before .before .claim-runs .ensures
+returns c = c .before .before .before .before .claim-twice .ensures
 
 pub claim-all-spec : {M : Type 1} → statement M
 claim-all-spec =
     tie.close
     (tie.spec array-borrow-prefix-levels slice-aggregate-put-copies array-borrow-prefix-ms slice-aggregate-put-copies-2 put-copies-requires
-    array-share-prefix-levels slice-aggregate-claim-runs array-share-prefix-ms slice-aggregate-claim-runs-2 claim-runs-requires
+    array-share-prefix-levels slice-aggregate-claim-twice array-share-prefix-ms slice-aggregate-claim-twice-2 claim-twice-requires
     (λ c. search needs) (λ c. search needs) returns)

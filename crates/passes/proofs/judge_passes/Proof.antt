@@ -5,8 +5,8 @@ use lib.ListN.{replicate}
 use Rattle.card.specs.Card.{cells}
 use Rattle.card.specs.declared.Card.{Card}
 use Rattle.card.specs.Packed.{cardOf}
-use Rattle.passes.proofs.Laws.{admits}
-use Rattle.passes.proofs.Promises.{outside-promise, cells-anew}
+use Rattle.claiming_in_order.proofs.Laws.{admits}
+use Rattle.claiming_in_order.proofs.Promises.{outside-promise, cells-anew}
 use borrow.Author.Needs.{needs}
 use Rattle.passes.proofs.judge_passes.Statement.{statement}
 use Rattle.passes.proofs.judge_passes.Tie as tie

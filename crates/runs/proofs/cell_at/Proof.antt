@@ -1,25 +1,23 @@
 -- `runs::cell_at` adds the swizzled m to the level: both are small, and the sum is a cell.
 use mathlib.Core.Path.{_≡_, sym, ap, ap₂, _∙_}
 use native.Mathlib.Omega.{arith}
-use borrow.Author.Needs.{needs}
 use lib.IntN.{ℤ, pos, natAbs, _+ℤ_}
 use mir.Syntax.{w64}
 use mir.Val.{toZ, ofZ}
 use mir.Facts.{toZ-ofZ, toZ-pos, fits-natAbs}
 use Rattle.laws.proofs.Signed.{far-fits}
-use Rattle.card.specs.Packed.{swizzleOf}
 use Rattle.runs.proofs.Cells.{natural-m, on-m-is}
 use Rattle.runs.proofs.cell_at.Statement.{statement}
 use Rattle.runs.proofs.cell_at.Tie as tie
 
 abbrev start : tie.After-swizzle-permitted → tie.Start
-start c = c .before .before .before .before
+start c = c .before
 
 -- what the machine finds on m, and what it adds up to
 on-m : (c : tie.After-swizzle-permitted) → c .swizzle-permitted .result ≡ start c .pre .on-m
 on-m c =
     let s = start c in
-    rw (toZ-ofZ (s .fits .m)) at (c .swizzle-permitted .ensures) ∙ on-m-is (swizzleOf (s .args .numbers .now)) (s .args .m) (s .pre .on-m) (s .pre .m-there)
+    rw (toZ-ofZ (s .fits .m)) at (c .swizzle-permitted .ensures) ∙ on-m-is (s .args .by) (s .args .m) (s .pre .on-m) (s .pre .m-there)
 
 adds-up : (c : tie.After-swizzle-permitted) → toZ w64 (ofZ w64 (start c .args .level)) +ℤ toZ w64 (c .swizzle-permitted .result) ≡ pos (start c .pre .cell)
 adds-up c =
@@ -32,9 +30,9 @@ cell-back c = ap (λ (z : ℤ). toZ w64 (ofZ w64 z)) (adds-up c) ∙ toZ-ofZ (fa
 
 cast-swizzle-permitted : tie.Need-cast-swizzle-permitted
 cast-swizzle-permitted c =
-    let s = c .before .before .before in
+    let s = c in
     rw (toZ-ofZ (s .fits .m))
-    (natural-m (swizzleOf (s .args .numbers .now)) (s .args .m) (s .pre .on-m) (s .pre .m-there), fits-natAbs {w = w64} tt (s .fits .m))
+    (natural-m (s .args .by) (s .args .m) (s .pre .on-m) (s .pre .m-there), fits-natAbs {w = w64} tt (s .fits .m))
 
 cast-result : tie.Need-cast-result
 cast-result c = far-fits (omega (arith, on-m c, start c .pre .short))
@@ -43,7 +41,7 @@ add-result : tie.Need-add-result
 add-result c = rw (adds-up c) (far-fits {x = pos (start c .pre .cell)} (omega (arith, start c .pre .few)))
 
 cast-result-2 : tie.Need-cast-result-2
-cast-result-2 c = rw (cell-back c) (tt, record { fits = start c .pre .few })
+cast-result-2 c = rw (cell-back c) (tt, record { fits = omega (arith, start c .pre .few) })
 
 returns : tie.Need-returns
 returns c =
@@ -53,4 +51,4 @@ returns c =
 pub cell-at-spec : {M : Type 1} → statement M
 cell-at-spec =
     tie.close
-    (tie.spec (λ c. search needs) (λ c. search needs) (λ c. search needs) cast-swizzle-permitted (λ c κs. c .before .before .before .pre .permits) cast-result add-result cast-result-2 returns)
+    (tie.spec cast-swizzle-permitted (λ c κs. c .pre .permits) cast-result add-result cast-result-2 returns)

@@ -8,7 +8,7 @@ use Rattle.card.specs.Packed.{cardOf}
 use Rattle.card.specs.declared.Card.{Card}
 use Rattle.card.proofs.Admitted.{measured}
 use Rattle.idle.proofs.Theorems.{checks-passed}
-use Rattle.passes.proofs.Promises.{too-short, whole-table}
+use Rattle.claiming_in_order.proofs.Promises.{too-short, whole-table}
 use Rattle.verdict.proofs.judge_admitted.Statement.{statement}
 use Rattle.verdict.proofs.judge_admitted.Tie as tie
 

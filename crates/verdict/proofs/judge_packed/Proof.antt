@@ -2,7 +2,7 @@
 use mathlib.Core.Path.{sym, _∙_}
 use borrow.Author.Needs.{needs}
 use Rattle.card.specs.Packed.{cardOf}
-use Rattle.passes.proofs.Promises.{not-admitted}
+use Rattle.claiming_in_order.proofs.Promises.{not-admitted}
 use Rattle.verdict.proofs.judge_packed.Statement.{statement}
 use Rattle.verdict.proofs.judge_packed.Tie as tie
 

@@ -1,0 +1,30 @@
+-- What the functions that claim element by element promise each other: where an element begins, and what claiming a run comes to. Nothing here has to be believed.
+use mathlib.Core.List.{List}
+use Prim.Native.Nat.{ℕ, _+_, _≤_, _<_}
+use lib.IntN.{ℤ}
+use lib.Seq.{slice}
+use Rattle.card.specs.Card.{cells}
+use Rattle.card.specs.Packed.{cardOf, Admits}
+use Rattle.card.specs.declared.Card.{Card}
+use Rattle.rules.specs.Copies.{copyCells}
+use Rattle.linear.specs.Levels.{base}
+use Rattle.runs.specs.Contracts.{Adds}
+use Rattle.runs.specs.declared.Place.{Place}
+use Rattle.claims.specs.Claims.{OwnedTable, occupied}
+use Rattle.claims.specs.Rows.{entryMet}
+use Rattle.judgement.specs.Judgement.{placed}
+use Rattle.claiming_runs.specs.Contracts.{Claimable}
+use Rattle.claiming_runs.specs.declared.Run.{Run}
+use Rattle.claiming_elements.specs.declared.Claimed.{Claimed}
+
+-- a packed card whose element begins at a place and can be claimed
+pub record Begun (numbers : List ℕ) (strides : List ℤ) (place : Place) (flat : ℕ) (table : List ℕ) : Type 0 where
+  pub admits : Admits numbers strides
+  pub claimable : Claimable (cardOf numbers strides) flat table
+  pub begins : Adds (slice 32 40 numbers) (base (cardOf numbers strides) flat) place
+
+-- what claiming it comes to: the table of the elements claimed too, and if one was not, it meets an owner
+pub record RunClaim (card : Card) (run : Run) (claimed : Claimed) (before after : List ℕ) : Type 0 where
+  pub most : claimed .elements ≤ run .length
+  pub owned : OwnedTable (placed card) (run .first + claimed .elements) (cells card) after (occupied before + claimed .cells)
+  pub met : claimed .elements < run .length → 0 < entryMet after (copyCells card (run .first + claimed .elements))
