@@ -57,8 +57,9 @@ pub fn find_outside(numbers: &[u64; 56], strides: &[i64; 24]) -> Search
     requires { ⌜ Admits (now numbers) (now strides) ⌝ }
     ensures { λ r. ⌜ Finds (cardOf (now (numbers .entry)) (now (strides .entry))) r ⌝ }
 {
-    let low = reach::end_sums(numbers, strides, false);
-    let high = reach::end_sums(numbers, strides, true);
+    let mut low = copies::offset(strides);
+    let mut high = copies::offset(strides);
+    reach::ends(numbers, strides, &mut low, &mut high);
     if reach::between(&low, &high, numbers) {
         return Search::NoneOutside;
     }

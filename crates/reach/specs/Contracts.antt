@@ -8,14 +8,20 @@ use lib.ListN.{length, getD}
 use lib.Signed.{_≤ℤ_, _<ℤ_}
 use Rattle.card.specs.Card.{size}
 use Rattle.card.specs.Packed.{beyond, itersOf}
+use Rattle.card.specs.declared.Iters.{Iters}
 use Rattle.card.specs.declared.Card.{Card}
+use Rattle.rules.specs.Walked.{walked}
 use Rattle.sums.specs.Walks.{Walkable}
-use Rattle.reach.specs.Ends.{endSum, wholeBlocks}
+use Rattle.reach.specs.Ends.{endIndex, endSum, wholeBlocks}
 
 -- a list of iters that can be walked, and whose indices are small
 pub record Indexed (numbers : List ℕ) (strides : List ℤ) (list : ℕ) : Type 0 where
   pub walkable : Walkable numbers strides list
   pub small : size (itersOf numbers strides list) ≤ beyond
+
+-- sums to which a list of iters added what it adds at a far end
+abbrev pub Moves : Bool → Iters → List ℤ → List ℤ → Type 0
+Moves up iters before after = after ≡ walked iters (endIndex up iters) before
 
 -- the sums of the copy at a far end
 pub record EndSums (card : Card) (up : Bool) (sums : List ℤ) : Type 0 where

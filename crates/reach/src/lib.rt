@@ -1,11 +1,12 @@
 // The far ends of a card, and whether they lie inside the space: then all of it does.
 ghost use mathlib.Core.Path.{_≡_};
-ghost use mathlib.Core.Bool.{true};
+ghost use mathlib.Core.Bool.{true, false};
 ghost use Prim.Native.Nat.{_≤_};
 ghost use lib.ListN.{length};
 ghost use Rattle.card.specs.Packed.{itersOf, cardOf, Admits};
-ghost use Rattle.reach.specs.Ends.{farEnd, endIndex};
-ghost use Rattle.reach.specs.Contracts.{Indexed, EndSums, blocksOf, MBetween, Between, Spaced};
+ghost use Rattle.sums.specs.Walks.{Walkable, Sums};
+ghost use Rattle.reach.specs.Ends.{farEnd};
+ghost use Rattle.reach.specs.Contracts.{Moves, EndSums, blocksOf, MBetween, Between, Spaced};
 
 // The axis m, the last.
 const M: usize = card::LAST_AXIS as usize;
@@ -23,35 +24,41 @@ fn far_end(extent: u64, stride: i64, up: bool) -> u64
     }
 }
 
-// The index at a far end of a list of iters.
-fn end_index(numbers: &[u64; 56], strides: &[i64; 24], list: usize, up: bool) -> u64
-    requires { ⌜ Indexed (now numbers) (now strides) list ⌝ }
-    ensures { λ r. ⌜ r ≡ endIndex up (itersOf (now (numbers .entry)) (now (strides .entry)) list) ⌝ }
+// Adds to the sums at both far ends what a list of iters adds there: the walk to the index of each, of
+// which nothing has to be divided.
+fn spread(
+    numbers: &[u64; 56],
+    strides: &[i64; 24],
+    list: usize,
+    low: &mut [i64; 8],
+    high: &mut [i64; 8],
+)
+    requires { ⌜ Walkable (now numbers) (now strides) list × Sums (now low) × Sums (now high) ⌝ }
+    ensures { λ r. ⌜ Moves false (itersOf (now (numbers .entry)) (now (strides .entry)) list) (now (low .entry)) (now (low .exit)) ⌝ }
+    ensures { λ r. ⌜ Moves true (itersOf (now (numbers .entry)) (now (strides .entry)) list) (now (high .entry)) (now (high .exit)) ⌝ }
 {
-    let count = numbers[card::COUNTS + list] as usize;
-    let mut index: u64 = 0;
-    let mut k: usize = 0;
-    while k < count {
+    let mut k = numbers[card::COUNTS + list] as usize;
+    while 0 < k {
+        k -= 1;
         let extent = numbers[16 * list + k];
-        let end = far_end(extent, strides[8 * list + k], up);
-        index = index * extent + end;
-        k += 1;
+        let stride = strides[8 * list + k];
+        let axis = numbers[16 * list + 8 + k] as usize;
+        let down = sums::step(low[axis], far_end(extent, stride, false), stride);
+        low[axis] = down;
+        let up = sums::step(high[axis], far_end(extent, stride, true), stride);
+        high[axis] = up;
     }
-    index
 }
 
-// The sums at a far end of a card: those of the copy that lies there, before the swizzle. Public, with a
-// requires, for the crate above.
-pub fn end_sums(numbers: &[u64; 56], strides: &[i64; 24], up: bool) -> [i64; 8]
-    requires { ⌜ Admits (now numbers) (now strides) ⌝ }
-    ensures { λ r. ⌜ EndSums (cardOf (now (numbers .entry)) (now (strides .entry))) up r ⌝ }
+// The sums at both far ends of a card, where its offset stands before: those of the copies that lie there,
+// before the swizzle. Public, with a requires, for the crate above.
+pub fn ends(numbers: &[u64; 56], strides: &[i64; 24], low: &mut [i64; 8], high: &mut [i64; 8])
+    requires { ⌜ Admits (now numbers) (now strides) × (now low ≡ cardOf (now numbers) (now strides) .offset) × (now high ≡ cardOf (now numbers) (now strides) .offset) ⌝ }
+    ensures { λ r. ⌜ EndSums (cardOf (now (numbers .entry)) (now (strides .entry))) false (now (low .exit)) ⌝ }
+    ensures { λ r. ⌜ EndSums (cardOf (now (numbers .entry)) (now (strides .entry))) true (now (high .exit)) ⌝ }
 {
-    let flat = end_index(numbers, strides, card::SHARD, up);
-    let combination = end_index(numbers, strides, card::REPLICA, up);
-    let mut sums = copies::offset(strides);
-    sums::walk(numbers, strides, card::SHARD, flat, &mut sums);
-    sums::walk(numbers, strides, card::REPLICA, combination, &mut sums);
-    sums
+    spread(numbers, strides, card::SHARD, low, high);
+    spread(numbers, strides, card::REPLICA, low, high);
 }
 
 // The whole blocks of m's length, which no swizzle leaves. Public, with a requires, for the crate above.

@@ -25,32 +25,36 @@ eight s = eight-lengths {strides = s .args .strides .now} (s .pre .whole)
 fits : (s : tie.Start) → spaceFits (card s .lengths) ≡ true
 fits s = checked (card s) (s .pre .admitted) .space
 
-abbrev start : tie.After-end-sums2 → tie.Start
-start c = c .before .before
+abbrev start : tie.After-ends → tie.Start
+start e = e .before .before .before .before .before
 
-abbrev asked : tie.After-high → tie.After-end-sums2
+abbrev asked : tie.After-high2 → tie.After-ends
 asked c = c .before .before
+
+-- both start from the offset
+ends-requires : tie.Need-ends-requires
+ends-requires c κs = let o = c .before .before in (o .before .before .pre, o .before .offset .ensures, o .offset2 .ensures)
 
 between-requires : tie.Need-between-requires
 between-requires c κs =
     let e = asked c in
     let s = start e in
-    (e .before .end-sums .ensures .eight, e .end-sums2 .ensures .eight, spaced (s .args .numbers .now) (s .args .strides .now) (s .pre))
+    (e .ends .ensures .0 .eight, e .ends .ensures .1 .eight, spaced (s .args .numbers .now) (s .args .strides .now) (s .pre))
 
 returns : tie.Need-returns
 returns c =
     let e = asked (c .before .before) in
     let s = start e in
     stays-inside (card s) (s .pre .admitted) (eight s)
-    (ends-stay (s .args .numbers .now) (s .args .strides .now) (s .pre) (e .before .end-sums .ensures) (e .end-sums2 .ensures) (c .before .between .ensures (c .if1 .taken)))
+    (ends-stay (s .args .numbers .now) (s .args .strides .now) (s .pre) (e .ends .ensures .0) (e .ends .ensures .1) (c .before .between .ensures (c .if1 .taken)))
 
-abbrev found : tie.After-first-of-all → tie.After-end-sums2
+abbrev found : tie.After-first-of-all → tie.After-ends
 found c = asked (c .before .before .before .before .before)
 
 first-of-all-requires : tie.Need-first-of-all-requires
 first-of-all-requires c κs =
     let e = asked (c .before .before .before .before) in
-    record { admits = start e .pre; low-there = e .before .end-sums .ensures; high-there = e .end-sums2 .ensures }
+    record { admits = start e .pre; low-there = e .ends .ensures .0; high-there = e .ends .ensures .1 }
 
 all : (s : tie.Start) → getD (s .args .numbers .now) 45 0 ≡ elements (card s)
 all s = measured (s .args .numbers .now) (s .args .strides .now) (s .pre) .elements-are
@@ -70,5 +74,5 @@ returns-3 c =
 pub find-outside-spec : {M : Type 1} → statement M
 find-outside-spec =
     tie.close
-    (tie.spec (λ c κs. search needs) (λ c κs. search needs) between-requires returns first-of-all-requires (λ c. search needs)
+    (tie.spec (λ c κs. c .pre .whole .all-strides) (λ c κs. c .before .pre .whole .all-strides) ends-requires between-requires returns first-of-all-requires (λ c. search needs)
     (λ c. let s = start (found (c .before)) in omega (arith, all s, sized (card s) (s .pre .admitted) .most-elements)) returns-2 returns-3)
