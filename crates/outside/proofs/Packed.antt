@@ -1,19 +1,24 @@
 -- The far ends of a packed card are those that the search on an axis asks for.
 use mathlib.Core.Path.{_≡_, sym, _∙_, subst}
+use mathlib.Core.Bool.{true, false}
 use mathlib.Core.List.{List}
 use Prim.Native.Nat.{ℕ, _+_, _≤_, _<_}
+use native.Mathlib.Nat.{le-refl, min-eq-left}
 use native.Mathlib.Omega.{arith}
-use lib.IntN.{ℤ, pos}
+use lib.IntN.{ℤ, pos, negsuc, negℤ}
 use lib.ListN.{length, getD}
+use lib.Signed.{_≤ℤ_, _<ℤ_}
+use Rattle.laws.proofs.Parts.{whole, parts-sum, parts-neg}
 use Rattle.card.specs.Limits.{lastAxis}
 use Rattle.card.specs.Card.{elements}
-use Rattle.card.specs.Packed.{beyond, cardOf}
+use Rattle.card.specs.Packed.{beyond, cardOf, Admits}
 use Rattle.card.proofs.Admitted.{Sized, sized}
 use Rattle.linear.specs.Leaving.{Sought, Leaves}
 use Rattle.reach.specs.Contracts.{blocksOf}
 use Rattle.reach.proofs.Packed.{length-at, spaced}
-use Rattle.extremes.specs.Straying.{Strays}
+use Rattle.extremes.specs.Straying.{Strays, beyondEnd}
 use Rattle.extremes.specs.Contracts.{Ended as EndedOn}
+use Rattle.extremes.proofs.Straying.{none-over, first-astray}
 use Rattle.doubt.specs.Contracts.{Between}
 use Rattle.outside.specs.Outside.{Ended}
 use Rattle.outside.proofs.Words.{strays-leaves, strays-leaves-m, leaves-strays}
@@ -33,13 +38,7 @@ module _ {numbers : List ℕ} {strides low high : List ℤ} (e : Ended numbers s
   pub sizes : Sized (cardOf numbers strides)
   sizes = sized (cardOf numbers strides) (e .admits .admitted)
 
-  -- on an axis other than m the first that strays from its length is the first that leaves
-  pub leaves-on : (axis flat : ℕ) → axis < lastAxis → Sought (Strays (cardOf numbers strides) axis (getD numbers (32 + axis) 0)) (elements (cardOf numbers strides)) flat
-      → Sought (λ f. Leaves (cardOf numbers strides) f axis) (elements (cardOf numbers strides)) flat
-  leaves-on axis flat h s =
-      strays-leaves (cardOf numbers strides) axis (elements (cardOf numbers strides)) flat h (rw (length-at numbers strides (e .admits) axis (omega arith)) s)
-
-  -- and on m where its length is whole blocks
+  -- on m the first that strays from its length is the first that leaves where it is whole blocks
   pub leaves-on-m : (flat bound : ℕ) → bound ≡ blocksOf numbers → bound ≡ getD numbers 39 0
       → Sought (Strays (cardOf numbers strides) lastAxis bound) (elements (cardOf numbers strides)) flat
       → Sought (λ f. Leaves (cardOf numbers strides) f lastAxis) (elements (cardOf numbers strides)) flat
@@ -58,3 +57,23 @@ module _ {numbers : List ℕ} {strides low high : List ℤ} (e : Ended numbers s
         let strays = rw (length-at numbers strides (e .admits) lastAxis (omega arith)) at (leaves-strays (cardOf numbers strides) f l) in
         omega (arith, s .least f (omega (arith, s .most)) strays);
   }
+
+-- between the far ends of a card that lie inside on an axis none strays from its length
+pub none-astray : {numbers : List ℕ} {strides : List ℤ} {axis bound : ℕ} {low high : ℤ} → EndedOn numbers strides axis bound low high → pos 0 ≤ℤ low → high <ℤ pos bound
+    → Sought (Strays (cardOf numbers strides) axis bound) (elements (cardOf numbers strides)) (elements (cardOf numbers strides))
+none-astray {numbers} {strides} {axis} {bound} {low} {high} e from-zero below =
+    let card = cardOf numbers strides in
+    let admitted = e .admits .admitted in
+    let up : beyondEnd true card axis bound <ℤ pos 0 =
+    rw (sym (e .high-there)) (omega (whole, below, parts-neg (pos bound), parts-sum high (negℤ (pos bound)))) in
+    let down : beyondEnd false card axis bound <ℤ pos 0 =
+    rw (sym (e .low-there)) (omega (whole, from-zero, parts-neg low, parts-sum (negsuc 0) (negℤ low))) in
+    subst (λ (n : ℕ). Sought (Strays card axis bound) (elements card) n) (min-eq-left (le-refl (elements card)))
+    (first-astray card admitted axis bound (elements card) (elements card) (none-over card admitted axis bound true up) (none-over card admitted axis bound false down))
+
+-- on an axis other than m the first that strays from its length is the first that leaves
+pub leaves-there : (numbers : List ℕ) (strides : List ℤ) → Admits numbers strides → (axis flat : ℕ) → axis < lastAxis
+    → Sought (Strays (cardOf numbers strides) axis (getD numbers (32 + axis) 0)) (elements (cardOf numbers strides)) flat
+    → Sought (λ f. Leaves (cardOf numbers strides) f axis) (elements (cardOf numbers strides)) flat
+leaves-there numbers strides admits axis flat h s =
+    strays-leaves (cardOf numbers strides) axis (elements (cardOf numbers strides)) flat h (rw (length-at numbers strides admits axis (omega arith)) s)

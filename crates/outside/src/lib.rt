@@ -1,7 +1,12 @@
 // The first element of which a copy lies outside the space, and the smallest axis for it, without a pass
 // over the elements.
 use answers::Flat;
+ghost use Prim.Native.Nat.{_+_, _<_};
+ghost use lib.ListN.{getD};
+ghost use Rattle.card.specs.Card.{elements};
 ghost use Rattle.card.specs.Packed.{cardOf, Admits};
+ghost use Rattle.linear.specs.Leaving.{Sought, Leaves};
+ghost use Rattle.extremes.specs.Contracts.{Ended as EndedOn};
 ghost use Rattle.outside.specs.Outside.{Finds, FirstWord, Ended};
 
 // What a search for the first element outside finds.
@@ -13,6 +18,19 @@ pub enum Search {
 // The axis m, the last.
 const M: usize = card::LAST_AXIS as usize;
 
+// The first element that leaves on an axis other than m, or as many as there are: none where the far ends
+// lie inside on it.
+fn first_on_axis(numbers: &[u64; 56], strides: &[i64; 24], axis: usize, low: i64, high: i64) -> u64
+    requires { ⌜ EndedOn (now numbers) (now strides) axis (getD (now numbers) (32 + axis) 0) low high × (axis < 7) ⌝ }
+    ensures { λ r. ⌜ Sought (λ f. Leaves (cardOf (now (numbers .entry)) (now (strides .entry))) f axis) (elements (cardOf (now (numbers .entry)) (now (strides .entry)))) r ⌝ }
+{
+    let length = numbers[card::LENGTHS + axis];
+    if (0 <= low) & (high < length as i64) {
+        return numbers[card::ELEMENTS];
+    }
+    extremes::first_astray(numbers, strides, axis as u64, length, low, high)
+}
+
 // The first element that leaves on an axis other than m, and the smallest such axis for it, as one number.
 fn first_on_axes(numbers: &[u64; 56], strides: &[i64; 24], low: &[i64; 8], high: &[i64; 8]) -> u64
     requires { ⌜ Ended (now numbers) (now strides) (now low) (now high) ⌝ }
@@ -21,14 +39,7 @@ fn first_on_axes(numbers: &[u64; 56], strides: &[i64; 24], low: &[i64; 8], high:
     let mut word = copies::AXES * numbers[card::ELEMENTS];
     let mut axis: usize = 0;
     while axis < M {
-        let flat = extremes::first_astray(
-            numbers,
-            strides,
-            axis as u64,
-            numbers[card::LENGTHS + axis],
-            low[axis],
-            high[axis],
-        );
+        let flat = first_on_axis(numbers, strides, axis, low[axis], high[axis]);
         word = extremes::smaller(word, copies::AXES * flat + axis as u64);
         axis += 1;
     }

@@ -12,7 +12,7 @@ use Rattle.card.specs.declared.Card.{Card}
 use Rattle.card.proofs.Admitted.{measured}
 use Rattle.outside.specs.Outside.{FirstWord}
 use Rattle.outside.proofs.Words.{no-word, word-more}
-use Rattle.outside.proofs.Packed.{ended-on, short-length, sizes, leaves-on}
+use Rattle.outside.proofs.Packed.{ended-on, short-length, sizes}
 use Rattle.outside.proofs.first_on_axes.Statement.{statement}
 use Rattle.outside.proofs.first_on_axes.Tie as tie
 
@@ -33,26 +33,26 @@ loop-holds c =
     let s = c .before in
     (omega arith, rw (measured (s .args .numbers .now) (s .args .strides .now) (s .pre .admits) .elements-are) (no-word (card s)))
 
-abbrev turn : tie.After-first-astray-arg3 Inv-loop μ-loop → tie.In-loop Inv-loop μ-loop
-turn c = c .before .before .before
+abbrev turn : tie.After-first-on-axis-arg2 Inv-loop μ-loop → tie.In-loop Inv-loop μ-loop
+turn c = c .before .before
 
 abbrev start : tie.In-loop Inv-loop μ-loop → tie.Start Inv-loop μ-loop
 start t = t .before .before .before
 
-first-astray-requires : tie.Need-first-astray-requires Inv-loop μ-loop
-first-astray-requires c κs =
+first-on-axis-requires : tie.Need-first-on-axis-requires Inv-loop μ-loop
+first-on-axis-requires c κs =
     let t = turn c in
     let s = start t in
     let a = s .args in
     let axis = t .before .loop .axis in
     rw (
-      toZ-ofZ {w = w64} {z = getD (a .low .now) axis (pos 0)} (record { sfits = c .before .first-astray-arg2 .given }),
-      toZ-ofZ {w = w64} {z = getD (a .high .now) axis (pos 0)} (record { sfits = c .first-astray-arg3 .given }),
+      toZ-ofZ {w = w64} {z = getD (a .low .now) axis (pos 0)} (record { sfits = c .before .first-on-axis-arg .given }),
+      toZ-ofZ {w = w64} {z = getD (a .high .now) axis (pos 0)} (record { sfits = c .first-on-axis-arg2 .given }),
     )
-    (ended-on (s .pre) axis (getD (a .numbers .now) (32 + axis) 0) (omega (arith, t .loop-test .taken)) (short-length (s .pre) axis (omega (arith, t .loop-test .taken))))
+    (ended-on (s .pre) axis (getD (a .numbers .now) (32 + axis) 0) (omega (arith, t .loop-test .taken)) (short-length (s .pre) axis (omega (arith, t .loop-test .taken))), t .loop-test .taken)
 
-small : (c : tie.After-first-astray Inv-loop μ-loop) → c .first-astray .result ≤ 65536
-small c = let s = start (turn (c .before)) in omega (arith, c .first-astray .ensures .most, sizes (s .pre) .most-elements)
+small : (c : tie.After-first-on-axis Inv-loop μ-loop) → c .first-on-axis .result ≤ 65536
+small c = let s = start (turn (c .before)) in omega (arith, c .first-on-axis .ensures .most, sizes (s .pre) .most-elements)
 
 loop-again : tie.Need-loop-again Inv-loop μ-loop
 loop-again c =
@@ -62,8 +62,7 @@ loop-again c =
     let l = t .before .loop in (
       omega (arith, t .loop-test .taken),
       rw (c .smaller .ensures)
-          (word-more (card s) (l .word) (f .first-astray .result) (l .axis) (omega (arith, t .loop-test .taken)) (l .inv .1)
-          (leaves-on (s .pre) (l .axis) (f .first-astray .result) (t .loop-test .taken) (f .first-astray .ensures))),
+          (word-more (card s) (l .word) (f .first-on-axis .result) (l .axis) (omega (arith, t .loop-test .taken)) (l .inv .1) (f .first-on-axis .ensures)),
     )
 
 returns : tie.Need-returns Inv-loop μ-loop
@@ -76,6 +75,5 @@ returns c =
 pub first-on-axes-spec : {M : Type 1} → statement M
 first-on-axes-spec =
     tie.close
-    (tie.spec Inv-loop μ-loop (λ c. search needs) (λ c. omega (arith, few (c .before))) loop-holds (λ c. omega arith) (λ c. omega arith) (λ c. omega arith) (λ c. omega arith) (λ c. omega arith)
-    (λ c. omega arith) (λ c. omega arith) first-astray-requires (λ c. omega (arith, small c)) (λ c. omega (arith, small c, turn (c .before) .loop-test .taken)) (λ c κs. search needs) (λ c. omega arith)
+    (tie.spec Inv-loop μ-loop (λ c. search needs) (λ c. omega (arith, few (c .before))) loop-holds (λ c. omega arith) (λ c. omega arith) (λ c. omega arith) (λ c. omega arith) first-on-axis-requires (λ c. omega (arith, small c)) (λ c. omega (arith, small c, turn (c .before) .loop-test .taken)) (λ c κs. search needs) (λ c. omega arith)
     (λ c. omega arith) loop-again returns)
