@@ -23,7 +23,7 @@ pub const AXES: u64 = card::LAST_AXIS + 1;
 // The axis m, the last.
 const M: usize = card::LAST_AXIS as usize;
 
-// What a coordinate below zero counts as: one past the largest length, so that it lies outside.
+// What a coordinate below zero counts as: the largest length, which no coordinate inside reaches.
 const BELOW_ZERO: u64 = card::MOST_LENGTH;
 
 // Where coordinates are among so many sizes from a place on, as one word for the loops: their number

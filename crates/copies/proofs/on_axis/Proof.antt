@@ -1,4 +1,4 @@
--- `copies::on_axis` is a coordinate: below zero one past the largest length, else itself.
+-- `copies::on_axis` is a coordinate: below zero the largest length, else itself.
 use lib.Dec.{T}
 use lib.Signed.{nonNeg}
 use mir.Syntax.{w64}

@@ -1,4 +1,4 @@
--- `copies::swizzled_on_axis` is the coordinate of m: below zero one past the largest length, else swizzled.
+-- `copies::swizzled_on_axis` is the coordinate of m: below zero the largest length, else swizzled.
 use mathlib.Core.Path.{_∙_}
 use borrow.Author.Needs.{needs}
 use lib.Dec.{T}
