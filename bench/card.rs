@@ -32,9 +32,9 @@ fn swizzle(address: u64, m: u64, b: u64, s: u64) -> u64 {
 }
 
 impl Card {
-    /// A card is 65 numbers: shard and replica count, M, B, S, twelve iters (extent, stride, axis), eight offsets, eight lengths,
-    /// eight marks.
-    pub fn of(v: &[u64; 65]) -> Card {
+    /// A card is 57 numbers, as in urszovely.h: shard count, eight iters (extent, stride, axis), replica count, four iters, eight
+    /// offsets, eight lengths, M, B, S; and its marks, one bit a shard iter.
+    pub fn of(v: &[u64; 57], marks: u64) -> Card {
         let iter = |at: usize, marked: bool| Iter {
             extent: v[at],
             stride: v[at + 1] as i64,
@@ -42,15 +42,15 @@ impl Card {
             marked,
         };
         Card {
-            shard: core::array::from_fn(|k| iter(5 + 3 * k, v[57 + k] != 0)),
+            shard: core::array::from_fn(|k| iter(1 + 3 * k, marks >> k & 1 != 0)),
             shards: v[0],
-            replica: core::array::from_fn(|k| iter(29 + 3 * k, false)),
-            replicas: v[1],
-            offset: core::array::from_fn(|a| v[41 + a] as i64),
-            lengths: core::array::from_fn(|a| v[49 + a]),
-            m: v[2],
-            b: v[3],
-            s: v[4],
+            replica: core::array::from_fn(|k| iter(26 + 3 * k, false)),
+            replicas: v[25],
+            offset: core::array::from_fn(|a| v[38 + a] as i64),
+            lengths: core::array::from_fn(|a| v[46 + a]),
+            m: v[54],
+            b: v[55],
+            s: v[56],
         }
     }
 

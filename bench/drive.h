@@ -1,8 +1,9 @@
-// What the drivers share. A driver is a program with the project's function and the straightforward Rust one:
+// What the drivers share. A driver is a program with the archive's function, the straightforward Rust one and, for some cases, a floor:
 //   drive compare COUNT   asks both the same, on every case and COUNT random questions; fails where answers or lent memory differ
-//   drive count           prints each case's name and asks each of them once, Rust first, between two getppid() calls
-//   drive time            prints, for each case, the median nanoseconds of processor time of a call of each, Rust first
+//   drive count           asks each once about each case, between two getppid() calls, and prints who was asked what
+//   drive time            prints the same lines with the median nanoseconds of processor time of a call
 // What it needs of the C library is declared here, since the kit has no headers for x86-64.
+#include "urszovely.h"
 typedef unsigned long u64;
 typedef long i64;
 typedef unsigned u32;
@@ -16,12 +17,18 @@ int getppid(void);
 int clock_gettime(int, struct timespec *);
 void rust_eh_personality(void) {} // Rust's core library, made for unwinding too, asks for it
 
-// Of each driver: how many cases it has, what case i is called, case i asked of either, and the comparison.
+// Of each driver: how many cases it has, what case i is called, case i asked of each, whether it has a floor, and the comparison.
 static int number_of_cases(void);
 static const char *name(int i);
 static void ask_rust(int i);
-static void ask_project(int i);
+static void ask_archive(int i);
+static void ask_floor(int i);
+static int has_floor(int i);
 static int compare(int count);
+#ifdef WITHOUT_FLOOR
+static void ask_floor(int i) {}
+static int has_floor(int i) { return 0; }
+#endif
 
 static u64 state = 88172645463325252;
 static u64 any(void) {
@@ -42,11 +49,15 @@ static void print_answered(void) {
 
 static void count(void) {
     ask_rust(0); // once before the first, so that what is bound late is bound
-    ask_project(0);
+    ask_archive(0);
     for (int i = 0; i < number_of_cases(); i++) {
-        printf("%s\n", name(i));
         getppid(); ask_rust(i); getppid();
-        getppid(); ask_project(i); getppid();
+        printf("Rust\t%s\n", name(i));
+        getppid(); ask_archive(i); getppid();
+        printf("archive\t%s\n", name(i));
+        if (!has_floor(i)) continue;
+        getppid(); ask_floor(i); getppid();
+        printf("floor\t%s\n", name(i));
     }
 }
 
@@ -78,14 +89,15 @@ static double median(double *numbers) {
 }
 
 static void times(void) {
+    static void (*const ask[])(int) = {ask_rust, ask_archive, ask_floor};
+    static const char *const who[] = {"Rust", "archive", "floor"};
     for (int i = 0; i < number_of_cases(); i++) {
-        double rust[ROUNDS], project[ROUNDS];
-        int rust_calls = calls_for(ask_rust, i), project_calls = calls_for(ask_project, i);
-        for (int round = 0; round < ROUNDS; round++) { // by turns, so that other work on the machine meets both
-            rust[round] = one_round(ask_rust, i, rust_calls);
-            project[round] = one_round(ask_project, i, project_calls);
-        }
-        printf("%.1f %.1f\n", median(rust), median(project));
+        double taken[3][ROUNDS];
+        int calls[3], sides = has_floor(i) ? 3 : 2;
+        for (int side = 0; side < sides; side++) calls[side] = calls_for(ask[side], i);
+        for (int round = 0; round < ROUNDS; round++) // by turns, so that other work on the machine meets all
+            for (int side = 0; side < sides; side++) taken[side][round] = one_round(ask[side], i, calls[side]);
+        for (int side = 0; side < sides; side++) printf("%s\t%s\t%.1f\n", who[side], name(i), median(taken[side]));
     }
 }
 

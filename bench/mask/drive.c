@@ -1,18 +1,9 @@
-// The mask generator of the project and the Rust one: the cases, the random descriptors, the comparison.
+// The mask generator of the archive and the Rust one: the cases, the random descriptors, the comparison.
+#define WITHOUT_FLOOR
 #include "../drive.h"
 
 enum { LENT = 32, PAST = 16 };
-void rust_mask(u8 *, u64, u64, u64, u64, u64 *);
-#ifdef QUICK // the unproved door takes a slice as the address of a pointer and a length
-struct slice { u8 *at; u64 length; };
-void raw_project_mask(struct slice *, u64, u64, u64, u64 *);
-static void project_mask(u8 *lent, u64 length, u64 m, u64 n, u64 descriptor, u64 *out) {
-    struct slice slice = {lent, length};
-    raw_project_mask(&slice, m, n, descriptor, out);
-}
-#else
-void project_mask(u8 *, u64, u64, u64, u64, u64 *);
-#endif
+void rust_mask(u64 m, u64 n, u64 descriptor, u8 *mask, size_t length, u64 *answer);
 
 // A descriptor: the four start counts (the first lowest), the four first spans, how long the runs of set and of clear bits are.
 #define RUNS(starts, spans, set, clear) (starts##ul | spans##ul << 32 | 1ul << 39 | (set - 1ul) << 40 | (clear - 1ul) << 48)
@@ -55,8 +46,8 @@ static u8 lent[LENT + PAST], other[LENT + PAST];
 static u64 answer[4];
 static int number_of_cases(void) { return CASES; }
 static const char *name(int i) { return cases[i].name; }
-static void ask_rust(int i) { rust_mask(lent, LENT, cases[i].m, cases[i].n, cases[i].descriptor, answer); }
-static void ask_project(int i) { project_mask(lent, LENT, cases[i].m, cases[i].n, cases[i].descriptor, answer); }
+static void ask_rust(int i) { rust_mask(cases[i].m, cases[i].n, cases[i].descriptor, lent, LENT, answer); }
+static void ask_archive(int i) { urszovely_mask(cases[i].m, cases[i].n, cases[i].descriptor, lent, LENT, answer); }
 
 // Both on one question and the first `length` bytes of memory in which anything stands: whether answers or bytes differ, those past
 // the length too. Leaves Rust's answer in `answer`.
@@ -64,13 +55,13 @@ static int differ(struct question q, u64 length) {
     u64 out[4];
     for (u64 i = 0; i < sizeof lent; i++) lent[i] = other[i] = any() >> 32;
     for (int i = 0; i < 4; i++) answer[i] = out[i] = 99;
-    rust_mask(lent, length, q.m, q.n, q.descriptor, answer);
-    project_mask(other, length, q.m, q.n, q.descriptor, out);
+    rust_mask(q.m, q.n, q.descriptor, lent, length, answer);
+    urszovely_mask(q.m, q.n, q.descriptor, other, length, out);
     if (!memcmp(answer, out, sizeof out) && !memcmp(lent, other, sizeof lent)) return 0;
     printf("%s: M %lu, N %lu, descriptor %016lx, %lu bytes lent\n", q.name, q.m, q.n, q.descriptor, length);
     printf("  Rust answers %lu %lu %lu %lu", answer[0], answer[1], answer[2], answer[3]);
     for (u64 i = 0; i < sizeof lent; i++) printf(" %02x", lent[i]);
-    printf("\n  the project  %lu %lu %lu %lu", out[0], out[1], out[2], out[3]);
+    printf("\n  the archive  %lu %lu %lu %lu", out[0], out[1], out[2], out[3]);
     for (u64 i = 0; i < sizeof lent; i++) printf(" %02x", other[i]);
     printf("\n");
     return 1;

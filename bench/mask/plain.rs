@@ -75,18 +75,18 @@ fn generate_mask(m: u64, n: u64, descriptor: u64, mask: &mut [u8]) -> Answer {
     Answer::Generated { zeroed, first_used }
 }
 
-/// The answer's number and details go to `out`.
+/// The question as urszovely_mask takes it.
 #[no_mangle]
 pub unsafe extern "C" fn rust_mask(
-    lent: *mut u8,
-    length: usize,
     m: u64,
     n: u64,
     descriptor: u64,
-    out: &mut [u64; 4],
+    mask: *mut u8,
+    length: usize,
+    answer: &mut [u64; 4],
 ) {
-    let lent = core::slice::from_raw_parts_mut(lent, length);
-    *out = match generate_mask(m, n, descriptor, lent) {
+    let mask = core::slice::from_raw_parts_mut(mask, length);
+    *answer = match generate_mask(m, n, descriptor, mask) {
         Answer::Generated { zeroed, first_used } => [0, zeroed, first_used, 0],
         Answer::Refused(number) => [number, 0, 0, 0],
         Answer::Shifted { limit } => [16, limit, 0, 0],

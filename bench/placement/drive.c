@@ -1,4 +1,5 @@
-// The placement of one element, of the project and in Rust: the cases, the comparison, on cards of ../card.h.
+// The placement of one element, of the archive and in Rust: the cases, the comparison, on cards of ../card.h.
+#define WITHOUT_FLOOR
 #include "../drive.h"
 #include "../card.h"
 
@@ -6,25 +7,17 @@ enum { LENT = 64 };
 struct tuple { u64 count, at[8]; };
 struct place { const struct card *card; struct tuple shape, coordinates; };
 
-void rust_place(u32 *, u64, const struct card *, const struct tuple *, const struct tuple *, u64 *);
-#ifdef QUICK // the unproved door takes a slice as the address of a pointer and a length
-struct slice { u32 *at; u64 length; };
-void raw_project_place(struct slice *, const struct card *, const struct card *, const struct tuple *, const struct tuple *, u64 *);
-static void project(u32 *memory, u64 length, const struct place *q, u64 *out) {
-    struct slice slice = {memory, length};
-    raw_project_place(&slice, q->card, q->card, &q->shape, &q->coordinates, out);
+typedef void placement(const u64 *card, u64 marks, const u64 *shape, const u64 *coordinates, u32 *memory, size_t length, u64 *answer);
+placement rust_place;
+static void ask(placement *of, const struct place *q, u32 *memory, u64 length, u64 *answer) {
+    of((const u64 *)q->card, q->card->marks, &q->shape.count, &q->coordinates.count, memory, length, answer);
 }
-#else
-void project_place(u32 *, u64, const struct card *, const struct card *, const struct tuple *, const struct tuple *, u64 *);
-static void project(u32 *memory, u64 length, const struct place *q, u64 *out) { project_place(memory, length, q->card, q->card, &q->shape, &q->coordinates, out); }
-#endif
-static void rust(u32 *memory, u64 length, const struct place *q, u64 *out) { rust_place(memory, length, q->card, &q->shape, &q->coordinates, out); }
 
 // The last element of a card, named by its flat index.
 static const struct { const char *name; struct place place; } cases[] = {
     {"X 127, 2 copies", {&cards[0].card, {1, {128}}, {1, {127}}}},
     {"C 255, 64 copies", {&cards[3].card, {1, {256}}, {1, {255}}}},
-    {"D 16383, 8 iters", {&cards[4].card, {1, {16384}}, {1, {16383}}}},
+    {"D 16,383, 8 iters", {&cards[4].card, {1, {16384}}, {1, {16383}}}},
 };
 enum { CASES = sizeof cases / sizeof *cases };
 
@@ -32,8 +25,8 @@ static u32 memory[LENT + PAST], other[LENT + PAST];
 static u64 answer[4];
 static int number_of_cases(void) { return CASES; }
 static const char *name(int i) { return cases[i].name; }
-static void ask_rust(int i) { rust(memory, LENT, &cases[i].place, answer); }
-static void ask_project(int i) { project(memory, LENT, &cases[i].place, answer); }
+static void ask_rust(int i) { ask(rust_place, &cases[i].place, memory, LENT, answer); }
+static void ask_archive(int i) { ask(urszovely_place, &cases[i].place, memory, LENT, answer); }
 
 // Both on one question and the first `length` entries of memory in which anything stands: whether answers or entries differ, those
 // past the length too. Leaves Rust's answer in `answer`.
@@ -41,10 +34,10 @@ static int differ(const char *name, const struct place *q, u64 length) {
     u64 out[4];
     for (u64 i = 0; i < LENT + PAST; i++) memory[i] = other[i] = any() >> 32;
     for (int i = 0; i < 4; i++) answer[i] = out[i] = 99;
-    rust(memory, length, q, answer);
-    project(other, length, q, out);
+    ask(rust_place, q, memory, length, answer);
+    ask(urszovely_place, q, other, length, out);
     if (!memcmp(answer, out, sizeof out) && !memcmp(memory, other, sizeof memory)) return 0;
-    printf("%s: Rust answers %lu %lu %lu %lu, the project %lu %lu %lu %lu\n", name, answer[0], answer[1], answer[2], answer[3], out[0], out[1], out[2], out[3]);
+    printf("%s: Rust answers %lu %lu %lu %lu, the archive %lu %lu %lu %lu\n", name, answer[0], answer[1], answer[2], answer[3], out[0], out[1], out[2], out[3]);
     printf("  memory of %lu, shape", length);
     for (int i = 0; i < 9; i++) printf(" %lu", (&q->shape.count)[i]);
     printf(", coordinates");

@@ -79,18 +79,19 @@ fn place(card: &Card, shape: &[u64; 9], coordinates: &[u64; 9], memory: &mut [u3
     Answer::Copies(copies)
 }
 
-/// The answer's number and details go to `out`.
+/// The question as urszovely_place takes it.
 #[no_mangle]
 pub unsafe extern "C" fn rust_place(
-    memory: *mut u32,
-    length: usize,
-    card: &[u64; 65],
+    card: &[u64; 57],
+    marks: u64,
     shape: &[u64; 9],
     coordinates: &[u64; 9],
-    out: &mut [u64; 4],
+    memory: *mut u32,
+    length: usize,
+    answer: &mut [u64; 4],
 ) {
     let memory = core::slice::from_raw_parts_mut(memory, length);
-    *out = match place(&Card::of(card), shape, coordinates, memory) {
+    *answer = match place(&Card::of(card, marks), shape, coordinates, memory) {
         Answer::Copies(copies) => [0, copies, 0, 0],
         Answer::Refused(number) => [number, 0, 0, 0],
         Answer::Idle { a, b } => [17, a, b, 0],

@@ -22,7 +22,7 @@ static void card(uint64_t *numbers, uint64_t cells, uint64_t elements, uint64_t 
     numbers[56] = 3;
 }
 
-static void told(const char *name, const char *question, uint64_t cells, uint64_t copies) { printf("%s %s %d %d\n", name, question, (int)cells, (int)copies); }
+static void told(const char *name, const char *question, uint64_t cells, uint64_t copies) { printf("%s\t%s\t%d\t%d\n", name, question, (int)cells, (int)copies); }
 
 // from the first half of so many cells to the second
 static int halves(const char *name, uint64_t cells, uint64_t copies) {
@@ -53,4 +53,4 @@ static int halves(const char *name, uint64_t cells, uint64_t copies) {
     return 0;
 }
 
-int main(void) { return halves("halves", CELLS, 1) | halves("copies", CELLS, 64) | halves("middling", 16384, 1) | halves("small", 64, 1); }
+int main(void) { return halves("one copy of each element", CELLS, 1) | halves("64 copies of each of 512", CELLS, 64) | halves("one copy of each element", 16384, 1) | halves("one copy of each element", 64, 1); }

@@ -116,16 +116,17 @@ fn verdict(card: &Card, table: &mut [u32]) -> Answer {
     claim_all(card, elements, copies, table)
 }
 
-/// The answer's number and details go to `out`.
+/// The question as urszovely_verdict takes it.
 #[no_mangle]
-pub unsafe extern "C" fn rust_judge(
+pub unsafe extern "C" fn rust_verdict(
+    card: &[u64; 57],
+    marks: u64,
     table: *mut u32,
     length: usize,
-    card: &[u64; 65],
-    out: &mut [u64; 4],
+    answer: &mut [u64; 4],
 ) {
     let table = core::slice::from_raw_parts_mut(table, length);
-    *out = match verdict(&Card::of(card), table) {
+    *answer = match verdict(&Card::of(card, marks), table) {
         Answer::Approved {
             elements,
             occupied,
