@@ -2,9 +2,7 @@ pub mod Unique
 pub mod Run
 pub mod Theorems
 pub mod OwnerDemand
-pub mod PlainDemand
 pub mod InNumbers
-pub mod EachNumber
 pub mod Leaves
 pub mod PastTheCount
 pub mod Idle

@@ -60,7 +60,7 @@ within-six card m w =
 at-free : (card : Card) (n m : Numbers) → AfterAdmission card n m → Free card → n ≡ m
 at-free card n m a f = a .free (f .1) ∙ within-six card m (f .0)
 
--- no number but 1 to 6 and 17 is one of theirs
+-- 0, and a number from 7 on that is not 17, is none of 1 to 6 and 17
 late : (n : Numbers) (k : ℕ) → (k ≡ 0) ⊎ (6 < k) → (k ≡ 17 → ⊥) → n .number ≡ k → Late n
 late n k other not-17 e = (λ j low high h. ⊎-elim (λ (z : k ≡ 0). omega arith) (λ (z : 6 < k). omega arith) other, λ h. not-17 (sym e ∙ h))
 

@@ -1,0 +1,2 @@
+pub mod PlainDemand
+pub mod EachNumber
