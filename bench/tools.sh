@@ -30,7 +30,7 @@ begin() {
     if [ -n "$quick" ]; then compile; else prove; fi
 }
 
-# prove: the proved archive, made anew where a crate or the archive is another than when it was last made here.
+# prove: the proved archive, made anew where a crate, the kit or the archive is another than when it was last made here.
 prove() {
     library=$project/target/staticlib/liburszovely.a
     made=$project/target/bench/archive.sums
@@ -43,7 +43,7 @@ prove() {
     fi
     cd "$OLDPWD"
 }
-sums() { sha256sum "$library" crates.txt $(find crates -name must-fail -prune -o -type f -print | sort); }
+sums() { rt version; sha256sum "$library" crates.txt $(find crates -name must-fail -prune -o -type f -print | sort); }
 
 # crates_below NAME: the crates of the project that it rests on, and the crate, bottom up.
 crates_below() {
