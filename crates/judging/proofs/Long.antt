@@ -9,7 +9,7 @@ use lib.ListN.{length, length-append, take}
 use lib.Seq.{take-take, take-all, length-take-le}
 use Rattle.notation.specs.Text.{decimal, Correct}
 use Rattle.notation.specs.Beginning.{Begins, Refused}
-use Rattle.notation.specs.Promise.{Accepted, NotAccepted, Comes, Answered}
+use Rattle.notation.specs.Promise.{Comes, Answered}
 use Rattle.notation.proofs.Long.{decimal-length, correct-length, begins-length}
 use Rattle.laws.proofs.Order.{le-or-lt}
 use Rattle.notation.specs.declared.Read.{Read}

@@ -3,17 +3,16 @@
 use Prim.Native.Nat.{ℕ}
 use mathlib.Core.Path.{_≡_, refl, sym, ap, _∙_, subst}
 use mathlib.Core.Logic.{_↔_}
-use mathlib.Core.Bool.{Bool, true, false, cond, not}
+use mathlib.Core.Bool.{cond, not}
 use mathlib.Core.List.{List, _++_}
 use lib.Dec.{eqb, ltb}
 use lib.ListN.{length, drop}
 use Rattle.laws.proofs.Rungs.{apart}
 use Rattle.answers.specs.Refusals.{answer, refusalNumbers}
 use Rattle.answers.specs.declared.Numbers.{Numbers}
-use Rattle.answers.specs.declared.Refusal.{Refusal}
 use Rattle.answers.specs.declared.Refusal.the-variants.{Notation as NotCorrect}
 use Rattle.answers.proofs.OneToOne.{readBack, refused-back, pinned, rung, refusal-not-zero}
-use Rattle.card.specs.Admission.{countsFit, numbersFit, axesFit, fieldChecks}
+use Rattle.card.specs.Admission.{countsFit, numbersFit, axesFit}
 use Rattle.card.specs.declared.Card.{Card}
 use Rattle.card.specs.declared.Admission.{Admission}
 use Rattle.notation.specs.Text.{Correct}

@@ -1,14 +1,14 @@
--- How long a text can be: a correct one has at most 352 bytes, one that a card is written as at most 344, and both are met. Each part is as long as its
+-- How long a text can be: a correct one has at most 352 bytes, one that a card is written as at most 344, and one card has so many. Each part is as long as its
 -- pieces, and of the offsets, whose axes rise, each name comes once.
 use Prim.Native.Nat.{ℕ, zero, suc, _+_, _-_, _*_, _/_, _%_, _≤_}
-use mathlib.Core.Path.{_≡_, refl, sym, ap, _∙_, subst}
+use mathlib.Core.Path.{_≡_, refl, sym, subst}
 use mathlib.Core.Bool.{Bool, true, false, cond, not, _||_, and-eq-true-iff, true≢false}
 use mathlib.Core.List.{List, [], _∷_, _++_, map}
 use native.Mathlib.Omega.{arith}
 use native.Mathlib.Nat.{mul-suc}
 use borrow.Author.Tests.{leb-true, ltb-true}
 use lib.Dec.{leb, ltb}
-use lib.IntN.{ℤ, pos, negsuc, negℤ}
+use lib.IntN.{ℤ, pos, negsuc}
 use lib.ListN.{length, getD, replicate, length-append}
 use Rattle.laws.proofs.Tests.{four-of}
 use Rattle.answers.specs.Refusals.{answer}

@@ -1,7 +1,5 @@
 -- `writing::spelled` is the shard, the replica and the offsets, and has at most 344 bytes since no text that a card is written as has more.
-use Prim.Native.Nat.{_≤_}
 use mathlib.Core.Path.{_≡_, ap, _∙_}
-use lib.ListN.{length}
 use Rattle.laws.proofs.Lists.{length-of}
 use Rattle.card.proofs.ReadBack.{OfEight}
 use Rattle.notation.specs.Writing.{textOf}

@@ -1,20 +1,15 @@
 -- `writing::write` refuses by checks 1 to 3 on the packed card, then by the length of its text; else the text is copied.
 use Prim.Native.Nat.{ℕ, _≤_, _<_}
 use mathlib.Core.Path.{_≡_, refl, sym, ap, _∙_}
-use mathlib.Core.Bool.{cond}
 use mathlib.Core.List.{List, _++_}
 use borrow.Author.Tests.{lt-ltb, le-ltb}
-use lib.Dec.{ltb}
 use lib.ListN.{length, take, drop}
 use Rattle.laws.proofs.Lists.{length-of}
 use Rattle.card.specs.Admission.{fieldChecks}
 use Rattle.card.specs.declared.Card.{Card}
-use Rattle.card.specs.declared.Admission.{Admission}
 use Rattle.card.specs.declared.Admission.the-variants.{Admitted}
 use Rattle.card.proofs.ReadBack.{OfEight}
-use Rattle.notation.specs.Writing.{textOf, answerFor, bytesAfter}
-use Rattle.notation.proofs.Back.{shard-few, replica-few}
-use Rattle.writing.specs.Out.{wrote, noText}
+use Rattle.notation.specs.Writing.{textOf}
 use native.Mathlib.Omega.{arith}
 use borrow.Author.Needs.{needs}
 use Rattle.writing.proofs.Laws.{text-length, text-taken}
