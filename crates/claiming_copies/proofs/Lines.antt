@@ -1,12 +1,11 @@
 -- The copies of a run as lines: copy r of its elements goes from cell to cell by the run's step, so that line by line the run's elements are claimed.
-use mathlib.Core.Path.{_≡_, refl, sym, ap, ap₂, _∙_, subst}
+use mathlib.Core.Path.{_≡_, sym, ap, ap₂, _∙_}
 use mathlib.Core.Logic.{inl}
 use mathlib.Core.List.{List}
 use Prim.Native.Nat.{ℕ, _+_, _-_, _*_, _≤_, _<_}
 use native.Mathlib.Omega.{arith}
 use lib.IntN.{ℤ, pos, natAbs, _+ℤ_, _*ℤ_}
 use lib.ListN.{length, getD}
-use lib.Seq.{slice}
 use Rattle.laws.proofs.Signed.{sum-far}
 use Rattle.card.specs.Card.{elements, copies, cells}
 use Rattle.card.specs.Limits.{lastAxis}
@@ -17,11 +16,11 @@ use Rattle.rules.specs.Rules.{part}
 use Rattle.linear.specs.Levels.{levelAt, base}
 use Rattle.linear.proofs.Cells.{between}
 use Rattle.linear.proofs.Times.{no-step}
-use Rattle.runs.specs.Contracts.{roomy, Adds, CellThere}
+use Rattle.runs.specs.Contracts.{roomy, CellThere}
 use Rattle.runs.specs.declared.Place.{Place}
 use Rattle.claims.specs.Claims.{OwnedTable, occupied}
 use Rattle.claiming_lines.specs.Lines.{Lined, Partly, levelAfter, mAfter, lineCell, LineThere}
-use Rattle.claiming_lines.proofs.Lines.{lined-as, partly-none, partly-more, partly-all, Filled}
+use Rattle.claiming_lines.proofs.Lines.{lined-as, partly-none, partly-more, partly-all}
 use Rattle.judgement.specs.Judgement.{placed}
 use Rattle.judgement.proofs.Theorems.{own-copies}
 use Rattle.claiming_runs.specs.Contracts.{Copying, Running}

@@ -1,27 +1,24 @@
--- The odometer of a card: its digits are the components of an element, whose base is the place.
+-- The odometer of a card: its digits are the components of an element, whose base is the place, since splitting the index that digits make gives them back.
 use mathlib.Core.Path.{_≡_, refl, sym, ap, _∙_, subst, fun-ext}
 use mathlib.Core.Bool.{true, and-eq-true-iff}
-use mathlib.Core.List.{List, [], _∷_, map}
-use Prim.Native.Nat.{ℕ, zero, suc, _+_, _*_, _^_, _≤_, _<_}
+use mathlib.Core.List.{List, [], _∷_}
+use Prim.Native.Nat.{ℕ, zero, suc, _+_, _≤_}
 use native.Mathlib.Nat.{zero-mul, zero-add}
 use native.Mathlib.Omega.{arith}
-use lib.IntN.{ℤ, pos, natAbs, _+ℤ_}
+use lib.IntN.{ℤ, pos, _+ℤ_}
 use lib.ListN.{length, getD, replicate, length-map}
-use lib.Seq.{slice}
 use Rattle.card.specs.Lists.{all, within, product}
-use Rattle.card.specs.Limits.{lastAxis, mostExtent}
-use Rattle.card.specs.Card.{listed, extentOf, elements}
+use Rattle.card.specs.Limits.{mostExtent}
 use Rattle.card.specs.Packed.{cardOf, Admits}
 use Rattle.card.specs.declared.Card.{Card}
 use Rattle.card.specs.declared.Iter.{Iter}
 use Rattle.card.proofs.Admitted.{checked, fitting, numbered}
 use Rattle.card.proofs.Lists.{all-at, within-numbers}
 use Rattle.rules.specs.RowMajor.{rowMajor, components}
-use Rattle.rules.specs.Rules.{added, part}
-use Rattle.linear.specs.Levels.{levelAt, base}
-use Rattle.sums.proofs.Turn.{meets}
+use Rattle.rules.specs.Rules.{added}
+use Rattle.linear.specs.Levels.{base}
 use Rattle.copies.proofs.Cards.{walkable-shard}
-use Rattle.runs.specs.Contracts.{roomy, Adds}
+use Rattle.runs.specs.Contracts.{Adds}
 use Rattle.runs.specs.declared.Place.{Place}
 use Rattle.claiming_turns.specs.Turns.{Fits, extents, indexOf, sumsAt, iters, DigitsAt, WaysTo, Turnable}
 use Rattle.claiming_turns.proofs.Digits.{digits-back}

@@ -2,7 +2,7 @@
 use mathlib.Core.Path.{_≡_, refl, sym, ap, _∙_, subst}
 use mathlib.Core.Logic.{_⊎_, inl, inr, ⊎-elim, _↔_}
 use mathlib.Core.List.{List}
-use Prim.Native.Nat.{ℕ, zero, suc, _+_, _≤_, _<_}
+use Prim.Native.Nat.{ℕ, _+_, _≤_, _<_}
 use native.Mathlib.Nat.{eq-or-lt-of-le}
 use native.Mathlib.Decide.{ℕ-discrete}
 use native.Mathlib.Omega.{arith}
@@ -10,7 +10,7 @@ use borrow.Author.Count.{below-more}
 use lib.ListN.{length, getD, set, length-set}
 use lib.Seq.{getD-set-same, getD-set-other}
 use Rattle.laws.proofs.Order.{le-or-lt}
-use Rattle.claims.specs.Claims.{Layout, Claims, Owners, occupied, taken}
+use Rattle.claims.specs.Claims.{Layout, Claims, Owners, taken}
 use Rattle.claims.proofs.Rows.{occupied-set, taken-owned}
 use Rattle.claiming_lines.specs.Lines.{Numbered, Kept, Lined, Copied, Partly}
 

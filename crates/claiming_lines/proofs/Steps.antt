@@ -1,4 +1,4 @@
--- One step of a stretch and of a line, and a line of step 1 without swizzle as a stretch.
+-- One step of a stretch and of a line, each a cell more by one law, and a line of step 1 without swizzle as a stretch, since its cells are one after the other.
 use mathlib.Core.Path.{_≡_, refl, sym, ap, ap₂, _∙_, subst}
 use mathlib.Core.Bool.{Bool, true, _&&_, and-eq-true-iff}
 use mathlib.Core.Logic.{⊎-elim}

@@ -9,7 +9,7 @@ use native.Mathlib.Decide.{decLt}
 use native.Mathlib.Omega.{arith}
 use lib.Dec.{leb}
 use lib.IntN.{ℤ, pos, natAbs, _+ℤ_, _*ℤ_, +ℤ-idr, zero-*ℤ}
-use lib.ListN.{length, getD, take, length-take, List·getD-eq-default}
+use lib.ListN.{length, getD, List·getD-eq-default}
 use lib.Seq.{slice, getD-take}
 use Rattle.card.specs.Lists.{all, within, product}
 use Rattle.card.specs.Limits.{lastAxis, mostLength, mostCells}

@@ -1,16 +1,16 @@
 -- Digits below their extents are the components of the index that they make; another digit moves index and sums by so many steps of its iter.
-use mathlib.Core.Path.{_≡_, refl, sym, ap, ap₂, _∙_, subst, fun-ext}
+use mathlib.Core.Path.{_≡_, refl, sym, ap, ap₂, _∙_, fun-ext}
 use mathlib.Core.Bool.{Bool, true, false, cond}
-use mathlib.Core.List.{List, [], _∷_, map}
+use mathlib.Core.List.{List, [], _∷_}
 use Prim.Native.Nat.{ℕ, zero, suc, _+_, _*_, _/_, _%_, _≤_, _<_}
-use native.Mathlib.Nat.{mul-le-mul-right, mod-eq-of-lt, div-eq-of-lt, mul-add-div-right, mul-add-mod-self-right, mul-assoc, add-mul, suc-mul, zero-mul, mul-pos, le-of-suc-le-suc}
+use native.Mathlib.Nat.{mul-le-mul-right, mod-eq-of-lt, div-eq-of-lt, mul-add-div-right, mul-add-mod-self-right, mul-assoc, add-mul}
 use native.Mathlib.Omega.{arith}
 use lib.Dec.{eqb}
-use lib.IntN.{ℤ, pos, natAbs, _+ℤ_, _*ℤ_, +ℤ-assoc, *ℤ-zero}
-use lib.ListN.{length, getD, set, drop}
+use lib.IntN.{ℤ, pos, _+ℤ_, _*ℤ_, +ℤ-assoc, *ℤ-zero}
+use lib.ListN.{length, getD, set}
 use Rattle.laws.proofs.Parts.{whole, parts-sum}
 use Rattle.card.specs.Lists.{product}
-use Rattle.card.specs.Card.{none, extentOf}
+use Rattle.card.specs.Card.{none}
 use Rattle.card.specs.declared.Iter.{Iter}
 use Rattle.rules.specs.RowMajor.{rowMajor, components}
 use Rattle.rules.specs.Rules.{added}

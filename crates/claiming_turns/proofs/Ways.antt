@@ -1,22 +1,22 @@
--- A packed card's iters as digits: what one step of each adds, and one turn of a digit.
-use mathlib.Core.Path.{_≡_, refl, sym, ap, ap₂, _∙_, subst}
+-- A packed card's iters as digits: what one step of each adds, and one turn of a digit, which moves index, level and m by steps of its iter.
+use mathlib.Core.Path.{_≡_, refl, sym, ap, ap₂, _∙_}
 use mathlib.Core.Bool.{cond}
 use mathlib.Core.List.{List, [], _∷_, map}
-use Prim.Native.Nat.{ℕ, zero, suc, _+_, _*_, _-_, _^_, _≤_, _<_}
-use native.Mathlib.Nat.{zero-mul, add-mul, one-mul}
+use Prim.Native.Nat.{ℕ, zero, suc, _+_, _*_, _^_, _≤_, _<_}
+use native.Mathlib.Nat.{add-mul}
 use native.Mathlib.Omega.{arith}
 use borrow.Author.Count.{below-more}
 use lib.Dec.{eqb}
 use lib.IntN.{ℤ, pos, negsuc, natAbs, negℤ, _+ℤ_, _*ℤ_, +ℤ-idr, +ℤ-comm, +ℤ-negℤ-cancel, zero-*ℤ}
-use lib.ListN.{length, getD, set, drop, take, replicate, length-set, length-map, length-take, List·getD-map}
-use lib.Seq.{slice, getD-take, drop-cons, getD-set-same, getD-set-other}
+use lib.ListN.{length, getD, set, length-set, length-map, length-take, List·getD-map}
+use lib.Seq.{slice, getD-take, getD-set-same, getD-set-other}
 use native.Mathlib.Nat.{ne-of-lt}
-use Rattle.laws.proofs.Parts.{whole, parts-sum, parts-times}
+use Rattle.laws.proofs.Parts.{whole, parts-sum}
 use Rattle.laws.proofs.Signed.{sum-far, times-far}
-use Rattle.card.specs.Lists.{slots, product}
+use Rattle.card.specs.Lists.{slots}
 use Rattle.card.specs.Limits.{lastAxis}
-use Rattle.card.specs.Card.{none, listed, extentOf}
-use Rattle.card.specs.Packed.{iterAt, itersOf, Admits}
+use Rattle.card.specs.Card.{none, extentOf}
+use Rattle.card.specs.Packed.{iterAt}
 use Rattle.card.specs.declared.Iter.{Iter}
 use Rattle.card.proofs.ReadBack.{eight-at}
 use Rattle.rules.specs.Rules.{axes}
@@ -26,7 +26,7 @@ use Rattle.linear.proofs.Times.{times-more}
 use Rattle.sums.specs.Walks.{Steps}
 use Rattle.runs.specs.Contracts.{roomy, Adds}
 use Rattle.runs.specs.declared.Place.{Place}
-use Rattle.claiming_turns.specs.Turns.{Fits, extents, indexOf, sumsAt, unit, sizeFrom, iters, WaysTo, DigitsAt, Turnable, Turned}
+use Rattle.claiming_turns.specs.Turns.{extents, indexOf, sumsAt, unit, sizeFrom, iters, WaysTo, DigitsAt}
 use Rattle.claiming_turns.proofs.Digits.{set-fits, digit-below, set-index, set-sums, set-level}
 
 -- a list of zeros but one

@@ -1,18 +1,15 @@
 -- `claiming_copies::claim_copies` claims one line after the other: with the loop's index in the place of the copies, the run is claimed so far.
-use mathlib.Core.Path.{_≡_, refl, sym, ap, _∙_, subst}
+use mathlib.Core.Path.{_≡_, refl, sym, _∙_, subst}
 use mathlib.Core.Bool.{true}
 use mathlib.Core.List.{List}
 use Prim.Native.Nat.{ℕ, _+_, _*_, _-_, _≤_, _<_}
-use native.Mathlib.Nat.{add-mul, one-mul}
-use native.Mathlib.Numerals.{add-one}
+use native.Mathlib.Nat.{add-mul}
 use native.Mathlib.Omega.{arith}
-use borrow.Author.Needs.{needs}
 use borrow.Author.Tests.{not-false}
 use lib.IntN.{ℤ, pos, natAbs, _+ℤ_}
 use lib.ListN.{length, getD}
 use mir.Syntax.{w64}
 use mir.Val.{toZ, ofZ, SFits}
-use mir.Facts.{toZ-ofZ}
 use Rattle.swizzle.specs.declared.Swizzle.{Swizzle}
 use Rattle.card.specs.Card.{copies, cells}
 use Rattle.card.specs.Packed.{swizzleOf, cardOf}
@@ -21,7 +18,7 @@ use Rattle.card.proofs.Admitted.{sized}
 use Rattle.runs.proofs.Cells.{sum-fits, sum-back}
 use Rattle.runs.specs.Contracts.{roomy}
 use Rattle.runs.specs.declared.Place.{Place}
-use Rattle.claims.specs.Claims.{OwnedTable, occupied}
+use Rattle.claims.specs.Claims.{occupied}
 use Rattle.claims.proofs.Rows.{occupied-most}
 use Rattle.claiming_lines.specs.Lines.{Lined, Partly, lineCell, LineThere}
 use Rattle.judgement.specs.Judgement.{placed}

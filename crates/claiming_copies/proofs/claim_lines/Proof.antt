@@ -1,5 +1,5 @@
--- `claiming_copies::claim_lines` makes what goes on from run to run, and claims the runs by it.
-use mathlib.Core.Path.{_≡_, refl}
+-- `claiming_copies::claim_lines` makes what goes on from run to run, and claims the runs by it: what each callee promises is what the loop asks for.
+use mathlib.Core.Path.{refl}
 use native.Mathlib.Omega.{arith}
 use borrow.Author.Needs.{needs}
 use Rattle.card.specs.Packed.{ListOf}

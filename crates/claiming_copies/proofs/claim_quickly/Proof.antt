@@ -1,5 +1,5 @@
 -- `claiming_copies::claim_quickly` claims the lines of a card without marks; where a cell had an owner already the table is cleared.
-use mathlib.Core.Path.{_≡_, sym, ap, _∙_}
+use mathlib.Core.Path.{ap, _∙_}
 use Prim.Native.Nat.{ℕ}
 use native.Mathlib.Omega.{arith}
 use borrow.Author.Needs.{needs}

@@ -1,11 +1,10 @@
 -- `claiming_copies::claim_turns` claims one run after the other, each copy by copy: with the loop's index in the place of the elements, the table is approved so far,
 -- and the digits are the components of the run's first element.
-use mathlib.Core.Path.{_≡_, refl, sym, ap, _∙_, subst}
+use mathlib.Core.Path.{_≡_, refl, sym, _∙_, subst}
 use mathlib.Core.List.{List}
 use Prim.Native.Nat.{ℕ, _+_, _*_, _-_, _≤_, _<_}
 use native.Mathlib.Nat.{zero-mul}
 use native.Mathlib.Omega.{arith}
-use borrow.Author.Needs.{needs}
 use lib.ListN.{length}
 use lib.Seq.{slice}
 use Rattle.card.specs.Card.{elements, cells}
@@ -17,7 +16,6 @@ use Rattle.linear.specs.Levels.{base}
 use Rattle.claims.specs.Claims.{OwnedTable, occupied}
 use Rattle.claims.proofs.Rows.{occupied-most}
 use Rattle.runs.specs.Contracts.{Adds}
-use Rattle.runs.specs.declared.Place.{Place}
 use Rattle.claiming_turns.specs.Turns.{iters, extents, indexOf, sizeFrom, DigitsAt}
 use Rattle.judgement.specs.Judgement.{placed}
 use Rattle.claiming_runs.specs.Contracts.{Running, RunsBy}

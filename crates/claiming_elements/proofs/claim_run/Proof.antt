@@ -1,11 +1,10 @@
 -- `claiming_elements::claim_run` claims one element after the other: with the loop's index added to the first, the table is that of the smaller elements, and level and m
 -- are so many steps from where the run began.
-use mathlib.Core.Path.{_≡_, refl, sym, ap, _∙_, subst}
+use mathlib.Core.Path.{_≡_, refl, sym, _∙_}
 use mathlib.Core.List.{List}
 use Prim.Native.Nat.{ℕ, _+_, _-_, _≤_, _<_}
 use native.Mathlib.Omega.{arith}
-use borrow.Author.Needs.{needs}
-use lib.IntN.{ℤ, pos, natAbs, _+ℤ_, _*ℤ_}
+use lib.IntN.{ℤ, pos, _+ℤ_, _*ℤ_}
 use lib.ListN.{length}
 use lib.Seq.{slice}
 use mir.Syntax.{w64}
@@ -20,7 +19,7 @@ use Rattle.claims.specs.Claims.{OwnedTable, occupied}
 use Rattle.claims.specs.Rows.{entryMet}
 use Rattle.linear.specs.Levels.{base}
 use Rattle.linear.proofs.Times.{no-step, stepped}
-use Rattle.runs.specs.Contracts.{roomy, Adds}
+use Rattle.runs.specs.Contracts.{Adds}
 use Rattle.runs.specs.declared.Place.{Place}
 use Rattle.runs.proofs.Cells.{step-fits}
 use Rattle.judgement.specs.Judgement.{placed}

@@ -1,6 +1,6 @@
 -- `claiming_elements::claim_single` claims the one cell of an element: level and swizzled m come to it.
 use mathlib.Core.Path.{_≡_, refl, sym, ap, _∙_, subst}
-use mathlib.Core.List.{List, [], _∷_}
+use mathlib.Core.List.{[], _∷_}
 use Prim.Native.Nat.{ℕ, _+_, _^_, _<_}
 use native.Mathlib.Omega.{arith}
 use lib.IntN.{_+ℤ_}

@@ -1,5 +1,5 @@
 -- `claiming_in_order::refuse_clash` places the row again, reads the clash off it and the table, and clears the table.
-use mathlib.Core.Path.{_≡_, sym, ap, _∙_}
+use mathlib.Core.Path.{_≡_, ap, _∙_}
 use mathlib.Core.List.{List}
 use Prim.Native.Nat.{ℕ}
 use borrow.Author.Needs.{needs}

@@ -1,6 +1,5 @@
 -- `claiming_in_order::run_length` takes runs of one where there are marks, else those of the last iter whose extent is not 1.
-use mathlib.Core.Path.{_≡_, sym, subst}
-use Prim.Native.Nat.{ℕ}
+use mathlib.Core.Path.{sym, subst}
 use Rattle.card.specs.Packed.{cardOf}
 use Rattle.card.specs.declared.Card.{Card}
 use Rattle.claiming_runs.specs.Contracts.{RunsBy}

@@ -1,19 +1,15 @@
 -- `claiming_lines::claim_cells` claims one cell after the other: with the loop's index in the place of the length the line is claimed so far, and level and m are so
 -- many steps from where it began.
-use mathlib.Core.Path.{_≡_, refl, sym, ap, ap₂, _∙_, subst}
+use mathlib.Core.Path.{_≡_, sym, ap₂, _∙_, subst}
 use mathlib.Core.Bool.{true≢false}
-use mathlib.Core.List.{List}
 use Prim.Native.Nat.{ℕ, _+_, _-_, _^_, _≤_, _<_}
 use native.Mathlib.Omega.{arith}
-use borrow.Author.Needs.{needs}
-use lib.IntN.{ℤ, pos, natAbs, _+ℤ_, _*ℤ_}
-use lib.ListN.{length, length-set}
+use lib.IntN.{ℤ, _+ℤ_}
+use lib.ListN.{length}
 use mir.Syntax.{w64}
 use mir.Val.{toZ, ofZ, SFits}
 use mir.Facts.{toZ-ofZ}
-use Rattle.swizzle.specs.declared.Swizzle.{Swizzle}
 use Rattle.linear.proofs.Times.{no-step, stepped}
-use Rattle.runs.specs.Contracts.{CellThere}
 use Rattle.runs.specs.declared.Place.{Place}
 use Rattle.runs.proofs.Cells.{step-fits}
 use Rattle.claiming_lines.specs.Lines.{Lined, levelAfter, mAfter, lineCell, LineThere}

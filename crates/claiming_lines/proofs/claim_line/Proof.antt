@@ -1,18 +1,18 @@
 -- `claiming_lines::claim_line` takes a line without swizzle whose step is 1 as a stretch, and any other cell by cell.
-use mathlib.Core.Path.{_≡_, sym, ap, ap₂, _∙_, subst}
-use mathlib.Core.Bool.{Bool, true, _&&_, and-eq-true-iff}
-use Prim.Native.Nat.{ℕ, _+_, _^_, _≤_, _<_}
+use mathlib.Core.Path.{_≡_, sym, ap, ap₂, _∙_}
+use mathlib.Core.Bool.{true, _&&_, and-eq-true-iff}
+use Prim.Native.Nat.{ℕ, _+_, _^_, _<_}
 use native.Mathlib.Omega.{arith}
 use borrow.Author.Needs.{needs}
 use borrow.Author.Tests.{eqb-true}
 use lib.Dec.{eqb}
-use lib.IntN.{ℤ, pos, natAbs, _+ℤ_}
+use lib.IntN.{ℤ, pos, _+ℤ_}
 use mir.Syntax.{w64}
 use mir.Val.{toZ, ofZ, SFits}
 use mir.Facts.{toZ-ofZ, toZ-pos}
 use Rattle.laws.proofs.Signed.{far-fits}
 use Rattle.runs.proofs.Cells.{step-fits}
-use Rattle.claiming_lines.specs.Lines.{Lined, lineCell, LineThere, StretchThere}
+use Rattle.claiming_lines.specs.Lines.{lineCell, StretchThere}
 use Rattle.claiming_lines.proofs.Lines.{lined-as}
 use Rattle.claiming_lines.proofs.Steps.{from, from-is, stretch-cell, stretch-there}
 use Rattle.claiming_lines.proofs.claim_line.Statement.{statement}

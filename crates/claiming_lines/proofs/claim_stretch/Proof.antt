@@ -1,5 +1,5 @@
--- `claiming_lines::claim_stretch` numbers the stretch where it is free.
-use mathlib.Core.Path.{_≡_, sym, _∙_}
+-- `claiming_lines::claim_stretch` numbers the stretch only where it is free, so that every cell it writes was nobody's.
+use mathlib.Core.Path.{sym}
 use mathlib.Core.Bool.{true≢false}
 use native.Mathlib.Omega.{arith}
 use borrow.Author.Needs.{needs}

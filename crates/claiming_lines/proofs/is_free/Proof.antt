@@ -1,5 +1,5 @@
--- `claiming_lines::is_free` looks at one cell after the other.
-use mathlib.Core.Path.{_≡_, subst}
+-- `claiming_lines::is_free` says yes only where every cell of the stretch is nobody's: with the loop's index in the place of the length, all cells so far are.
+use mathlib.Core.Path.{_≡_}
 use mathlib.Core.Bool.{true}
 use Prim.Native.Nat.{ℕ, _+_, _-_, _≤_, _<_}
 use native.Mathlib.Omega.{arith}

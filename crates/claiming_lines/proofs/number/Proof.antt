@@ -1,6 +1,6 @@
 -- `claiming_lines::number` writes one cell after the other: with the loop's index in the place of the length the stretch is numbered so far.
 use mathlib.Core.Path.{_≡_, subst}
-use Prim.Native.Nat.{ℕ, _+_, _-_, _≤_, _<_}
+use Prim.Native.Nat.{ℕ, _+_, _-_, _≤_}
 use native.Mathlib.Omega.{arith}
 use Rattle.claiming_lines.specs.Lines.{Lined}
 use Rattle.claiming_lines.proofs.Lines.{lined-none}

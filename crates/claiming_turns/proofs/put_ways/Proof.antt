@@ -1,13 +1,11 @@
--- `claiming_turns::put_ways` writes what one step of one iter after the other adds.
-use mathlib.Core.Path.{_≡_, refl, sym, ap, _∙_}
-use Prim.Native.Nat.{ℕ, _-_, _≤_, _<_}
+-- `claiming_turns::put_ways` writes what one step of each iter adds: with the loop's index in the place of how many are slower, those so far are written.
+use mathlib.Core.Path.{_≡_}
+use Prim.Native.Nat.{_-_, _≤_, _<_}
 use native.Mathlib.Omega.{arith}
-use lib.ListN.{length}
 use mir.Syntax.{w64}
-use mir.Val.{toZ, ofZ}
 use mir.Facts.{toZ-ofZ}
 use Rattle.copies.proofs.Cards.{walkable-shard}
-use Rattle.claiming_turns.specs.Turns.{iters, WaysTo}
+use Rattle.claiming_turns.specs.Turns.{WaysTo}
 use Rattle.claiming_turns.proofs.Ways.{iters-count, ways-none, ways-more}
 use Rattle.claiming_turns.proofs.put_ways.Statement.{statement}
 use Rattle.claiming_turns.proofs.put_ways.Tie as tie

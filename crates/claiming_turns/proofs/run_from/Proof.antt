@@ -1,14 +1,13 @@
 -- `claiming_turns::run_from` looks for the last extent that is not 1: all iters passed have extent 1.
-use mathlib.Core.Path.{_≡_, refl, sym, ap, _∙_, subst}
+use mathlib.Core.Path.{_≡_, sym, _∙_, subst}
 use mathlib.Core.List.{List}
-use Prim.Native.Nat.{ℕ, suc, _+_, _*_, _-_, _≤_, _<_}
+use Prim.Native.Nat.{ℕ, suc, _-_, _≤_, _<_}
 use native.Mathlib.Omega.{arith}
 use lib.IntN.{ℤ}
 use lib.ListN.{length, getD, drop}
-use Rattle.card.specs.declared.Iter.{Iter}
 use Rattle.linear.specs.Runs.{run}
-use Rattle.claiming_turns.specs.Turns.{iters, extents, sizeFrom, RunFrom}
-use Rattle.claiming_turns.proofs.Ways.{iters-count, extent-at, size-next}
+use Rattle.claiming_turns.specs.Turns.{iters, extents, sizeFrom}
+use Rattle.claiming_turns.proofs.Ways.{iters-count, extent-at}
 use Rattle.claiming_turns.proofs.Slow.{all-ones, ones-more, slower-run}
 use Rattle.claiming_turns.proofs.run_from.Statement.{statement}
 use Rattle.claiming_turns.proofs.run_from.Tie as tie

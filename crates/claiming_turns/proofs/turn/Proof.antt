@@ -4,7 +4,6 @@ use mathlib.Core.Path.{_≡_, refl, sym, ap, ap₂, _∙_, subst}
 use mathlib.Core.List.{List}
 use Prim.Native.Nat.{ℕ, suc, _+_, _-_, _^_, _≤_, _<_}
 use native.Mathlib.Omega.{arith}
-use borrow.Author.Needs.{needs}
 use lib.IntN.{ℤ, pos, natAbs, _+ℤ_, _*ℤ_}
 use lib.ListN.{length, getD, set, length-set}
 use lib.Seq.{slice}
@@ -17,8 +16,7 @@ use Rattle.card.specs.declared.Iter.{Iter}
 use Rattle.sums.specs.Walks.{Steps}
 use Rattle.runs.specs.Contracts.{roomy, Adds}
 use Rattle.runs.specs.declared.Place.{Place}
-use Rattle.claiming_turns.specs.Turns.{iters, extents, indexOf, sizeFrom, unit, DigitsAt, Turned}
-use Rattle.claiming_turns.proofs.Digits.{digit-below}
+use Rattle.claiming_turns.specs.Turns.{iters, extents, indexOf, sizeFrom, unit, DigitsAt}
 use Rattle.claiming_turns.proofs.Ways.{iters-count, extent-at, turn-forth, index-forth, turn-back, index-back, level-steps, m-steps, digit-small}
 use Rattle.claiming_turns.proofs.turn.Statement.{statement}
 use Rattle.claiming_turns.proofs.turn.Tie as tie

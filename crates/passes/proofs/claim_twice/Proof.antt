@@ -1,5 +1,5 @@
--- `passes::claim_twice` claims the runs copy by copy, and else anew in the cleared table.
-use mathlib.Core.Path.{_≡_, sym, ap, _∙_, subst}
+-- `passes::claim_twice` approves what was claimed copy by copy, and else judges anew: either way the table was cleared before.
+use mathlib.Core.Path.{_≡_, _∙_, subst}
 use mathlib.Core.List.{List}
 use Prim.Native.Nat.{ℕ}
 use native.Mathlib.Omega.{arith}
