@@ -1,14 +1,14 @@
 // Dealing a tile's values to the lanes of a warp and collecting them: which are of the wrong sort, the answer, and what is filled.
 use answers::Numbers;
 use answers::Refusal;
-use fragment::Held;
 use values::Moved;
 use values::Register;
 ghost use mathlib.Core.Path.{_≡_};
-ghost use Prim.Native.Nat.{_<_};
+ghost use mathlib.Core.Bool.{not, _&&_};
+ghost use Prim.Native.Nat.{_/_, _%_, _<_};
 ghost use Rattle.values.specs.Rows.{entry};
 ghost use Rattle.values.specs.Values.{isOwn};
-ghost use Rattle.values.specs.Registers.{isMatrix, isOfSort, isWrong, judged, dealAnswer, collectAnswer, dealtLanes, collectedTile, movedNumbers};
+ghost use Rattle.values.specs.Registers.{isMatrix, isOfSort, judged, dealAnswer, collectAnswer, dealtLanes, collectedTile, movedNumbers};
 
 // The registers of all lanes, eight a lane.
 const REGISTERS: usize = 256;
@@ -21,7 +21,7 @@ pub fn is_matrix(kind: u64, computation: u64) -> bool
 }
 
 // Whether a register reads as the kind's sort: a single for kind 5, a double for the others.
-fn is_of_sort(kind: u64, register: Register) -> bool
+pub fn is_of_sort(kind: u64, register: Register) -> bool
     ensures { λ r. ⌜ r ≡ isOfSort kind register ⌝ }
 {
     match register {
@@ -31,23 +31,13 @@ fn is_of_sort(kind: u64, register: Register) -> bool
     }
 }
 
-// Whether the register is one of the computation's own.
-fn is_own(kind: u64, computation: u64, lane: u64, i: u64) -> bool
-    ensures { λ r. ⌜ r ≡ isOwn kind computation lane i ⌝ }
-{
-    match fragment::held_by(kind, lane, i) {
-        Held::Place(place) => place.computation == computation,
-        Held::Refused(_) => false,
-    }
-}
-
 // Whether a register, counted through the lanes, is the computation's and of the wrong sort.
-fn is_wrong(kind: u64, computation: u64, lanes: [[Register; 8]; 32], n: usize) -> bool
+fn is_wrong(kind: u64, computation: u64, register: Register, n: usize) -> bool
     requires { ⌜ n < 256 ⌝ }
-    ensures { λ r. ⌜ r ≡ isWrong kind computation (entry Register.Empty lanes) n ⌝ }
+    ensures { λ r. ⌜ r ≡ (isOwn kind computation (n / 8) (n % 8) && not (isOfSort kind register)) ⌝ }
 {
-    let register = lanes[n / 8][n % 8];
-    is_own(kind, computation, n as u64 / 8, n as u64 % 8) & !is_of_sort(kind, register)
+    let p = moves::source(kind, computation, n as u64 / 8, n as u64 % 8);
+    (p < 64) & !is_of_sort(kind, register)
 }
 
 // Whether all of the computation's registers are of the kind's sort; if not, the first that is not.
@@ -56,7 +46,8 @@ fn judge(kind: u64, computation: u64, lanes: [[Register; 8]; 32]) -> Moved
 {
     let mut n: usize = 0;
     while n < REGISTERS {
-        if is_wrong(kind, computation, lanes, n) {
+        let register = lanes[n / 8][n % 8];
+        if is_wrong(kind, computation, register, n) {
             return Moved::Refused(Refusal::Fragment {
                 lane: n as u64 / 8,
                 register: n as u64 % 8,

@@ -23,19 +23,15 @@ use Rattle.values.specs.Holdings.{holding, registersOf, doubleOf, withRegisters
 use Rattle.values.proofs.Rows.{Shape, each-length, each-at, each-equal, map-at}
 use Rattle.values.proofs.Theorems.{dealt-own, dealt-other, collected-place, collected-other}
 use Rattle.values.proofs.Holdings.{are-lanes}
-use Rattle.lent.specs.Lent.{made, registerAt, rowsFrom, sortAfter, singleAfter, doubleAfter, after, holdingAt, holdingsFrom, field, numbersOf, registerFor, numbersAfter}
+use Rattle.lent.specs.Lent.{made, registerAt, rowsFrom, empties, sortAfter, singleAfter, doubleAfter, after, holdingAt, holdingsFrom, field, numbersOf, registerFor, numbersAfter}
 use Rattle.lent.proofs.Made.{written}
 use Rattle.lent.proofs.Given.{made-at, made-length, entry-at, sort-kept, single-kept, double-kept, number-at, fieldOf}
 
--- rows of empty registers
-abbrev pub empties : ℕ → List (List Register)
-empties rows = replicate rows (replicate 8 Empty)
-
-empties-at : (rows r k : ℕ) → r < rows → k < 8 → entry Empty (empties rows) r k ≡ Empty
+pub empties-at : (rows r k : ℕ) → r < rows → k < 8 → entry Empty (empties rows) r k ≡ Empty
 empties-at rows r k h i =
     ap (λ (l : List Register). getD l k Empty) (getD-replicate rows r (replicate 8 Empty) [] h) ∙ getD-replicate 8 k Empty Empty i
 
-empties-shape : (rows : ℕ) → Shape rows 8 (empties rows)
+pub empties-shape : (rows : ℕ) → Shape rows 8 (empties rows)
 empties-shape rows = record {
   of-rows = length-replicate rows (replicate 8 Empty);
   of-columns = λ r h. ap length (getD-replicate rows r (replicate 8 Empty) [] h) ∙ length-replicate 8 Empty;

@@ -4,7 +4,7 @@ use mathlib.Core.Bool.{cond}
 use mathlib.Core.List.{List, [], _∷_}
 use lib.Dec.{eqb}
 use lib.Ieee.{Float, nan}
-use lib.ListN.{getD}
+use lib.ListN.{getD, replicate}
 use Rattle.values.specs.declared.Register.{Register}
 use Rattle.values.specs.declared.Register.the-variants.{Empty, Single, Double}
 use Rattle.values.specs.declared.Holding.{Holding}
@@ -27,6 +27,10 @@ registerAt sorts singles doubles j = registerFrom (getD sorts j 0) (getD singles
 -- rows of eight: place 8 row + column of a tile, entry 8 lane + register of the lanes
 abbrev pub rowsFrom : ℕ → List ℕ → List Float → List Float → List (List Register)
 rowsFrom rows sorts singles doubles = made rows (λ row. made 8 (λ k. registerAt sorts singles doubles (8 * row + k)))
+
+-- rows of empty registers
+abbrev pub empties : ℕ → List (List Register)
+empties rows = replicate rows (replicate 8 Empty)
 
 -- written back: the sort and what it names; an empty register leaves all three as given
 abbrev pub sortAfter : Register → ℕ → ℕ
@@ -69,6 +73,12 @@ registerFor kind registers k =
     let first : Register = getD registers 0 Empty in
     cond (eqb kind 6) (cond (eqb k 0) first Empty)
     (cond (eqb kind 7) (cond (eqb k 1) first Empty) (cond (eqb k 2) first (cond (eqb k 3) (getD registers 1 Empty) Empty)))
+
+-- its number; 8 where the field gets none
+abbrev pub registerNumber : ℕ → ℕ → ℕ
+registerNumber kind k =
+    cond (eqb kind 6) (cond {A = ℕ} (eqb k 0) 0 8)
+    (cond (eqb kind 7) (cond {A = ℕ} (eqb k 1) 0 8) (cond {A = ℕ} (eqb k 2) 0 (cond {A = ℕ} (eqb k 3) 1 8)))
 
 -- each number after the lanes' registers are written to the kind's own fields
 abbrev pub numbersAfter : ℕ → List (List Register) → List Float → List Float

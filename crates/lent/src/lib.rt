@@ -1,15 +1,18 @@
-// Registers and holdings in a caller's arrays, read and written back. Public, with a requires, only for the crate above, whose
-// arrays are as long as said.
-use values::Holding;
+// Registers and holdings in a caller's arrays: dealt and collected entry by entry, so that no array of registers is made. Public, with a
+// requires, only for the crates above, whose arrays are as long as said.
 use values::Register;
 ghost use mathlib.Core.Path.{_≡_};
-ghost use Prim.Native.Nat.{_+_, _*_, _<_};
+ghost use mathlib.Core.List.{[], map};
+ghost use Prim.Native.Nat.{_+_, _*_, _/_, _%_, _<_};
 ghost use lib.Ieee.{nan};
 ghost use lib.ListN.{length, getD, set};
-ghost use Rattle.lent.specs.Lent.{made, registerAt, rowsFrom, sortAfter, singleAfter, doubleAfter, after, holdingAt, holdingsFrom, registerFor, numbersAfter};
+ghost use Rattle.values.specs.Rows.{entry};
+ghost use Rattle.values.specs.Values.{dealt, collected};
+ghost use Rattle.values.specs.Holdings.{registersOf};
+ghost use Rattle.lent.specs.Lent.{registerAt, rowsFrom, empties, sortAfter, singleAfter, doubleAfter, after, holdingsFrom, registerFor, registerNumber, holdingAt, numbersAfter};
 
 // The register that an entry of three arrays is.
-fn register_at(sorts: &[u8], singles: &[f32], doubles: &[f64], j: usize) -> Register
+pub fn register_at(sorts: &[u8], singles: &[f32], doubles: &[f64], j: usize) -> Register
     requires { ⌜ (j < length (now sorts)) × (j < length (now singles)) × (j < length (now doubles)) ⌝ }
     ensures { λ r. ⌜ r ≡ registerAt (now (sorts .entry)) (now (singles .entry)) (now (doubles .entry)) j ⌝ }
 {
@@ -23,47 +26,24 @@ fn register_at(sorts: &[u8], singles: &[f32], doubles: &[f64], j: usize) -> Regi
     Register::Empty
 }
 
-// A row of eight registers.
-fn row_at(sorts: &[u8], singles: &[f32], doubles: &[f64], row: usize) -> [Register; 8]
-    requires { ⌜ row < 32 ⌝ }
-    requires { ⌜ (8 * row + 7 < length (now sorts)) × (8 * row + 7 < length (now singles)) × (8 * row + 7 < length (now doubles)) ⌝ }
-    ensures { λ r. ⌜ r ≡ made 8 (λ k. registerAt (now (sorts .entry)) (now (singles .entry)) (now (doubles .entry)) (8 * row + k)) ⌝ }
-{
-    let mut registers = [Register::Empty; 8];
-    let mut k: usize = 0;
-    while k < 8 {
-        registers[k] = register_at(sorts, singles, doubles, 8 * row + k);
-        k += 1;
-    }
-    registers
-}
-
-// A tile of 64 entries.
-pub fn tile(sorts: &[u8], singles: &[f32], doubles: &[f64]) -> [[Register; 8]; 8]
+// What a register is dealt, the registers counted through the lanes: empty where it is not the computation's.
+fn dealt_at(
+    kind: u64,
+    computation: u64,
+    sorts: &[u8],
+    singles: &[f32],
+    doubles: &[f64],
+    n: usize,
+) -> Register
+    requires { ⌜ (4 < kind) × (n < 256) ⌝ }
     requires { ⌜ (length (now sorts) ≡ 64) × (length (now singles) ≡ 64) × (length (now doubles) ≡ 64) ⌝ }
-    ensures { λ r. ⌜ r ≡ rowsFrom 8 (now (sorts .entry)) (now (singles .entry)) (now (doubles .entry)) ⌝ }
+    ensures { λ r. ⌜ r ≡ entry Register.Empty (dealt Register.Empty kind computation (rowsFrom 8 (now (sorts .entry)) (now (singles .entry)) (now (doubles .entry))) (empties 32)) (n / 8) (n % 8) ⌝ }
 {
-    let mut rows = [[Register::Empty; 8]; 8];
-    let mut row: usize = 0;
-    while row < 8 {
-        rows[row] = row_at(sorts, singles, doubles, row);
-        row += 1;
+    let p = moves::matrix_source(kind, computation, n as u64 / 8, n as u64 % 8) as usize;
+    if p < 64 {
+        return register_at(sorts, singles, doubles, p);
     }
-    rows
-}
-
-// The lanes, of 256 entries.
-pub fn lanes(sorts: &[u8], singles: &[f32], doubles: &[f64]) -> [[Register; 8]; 32]
-    requires { ⌜ (length (now sorts) ≡ 256) × (length (now singles) ≡ 256) × (length (now doubles) ≡ 256) ⌝ }
-    ensures { λ r. ⌜ r ≡ rowsFrom 32 (now (sorts .entry)) (now (singles .entry)) (now (doubles .entry)) ⌝ }
-{
-    let mut rows = [[Register::Empty; 8]; 32];
-    let mut row: usize = 0;
-    while row < 32 {
-        rows[row] = row_at(sorts, singles, doubles, row);
-        row += 1;
-    }
-    rows
+    Register::Empty
 }
 
 // A register written to an entry of three arrays: its sort and what that names, and nothing where it is empty.
@@ -86,100 +66,118 @@ fn put(register: Register, sorts: &mut [u8], singles: &mut [f32], doubles: &mut 
     }
 }
 
-// A tile's registers written, but for the empty ones.
-pub fn put_tile(
-    tile: [[Register; 8]; 8],
+// A tile dealt to empty lanes, and they written.
+pub fn deal(
+    kind: u64,
+    computation: u64,
+    tile_sorts: &[u8],
+    tile_singles: &[f32],
+    tile_doubles: &[f64],
     sorts: &mut [u8],
     singles: &mut [f32],
     doubles: &mut [f64],
 )
+    requires { ⌜ 4 < kind ⌝ }
+    requires { ⌜ (length (now «tile_sorts») ≡ 64) × (length (now «tile_singles») ≡ 64) × (length (now «tile_doubles») ≡ 64) ⌝ }
+    requires { ⌜ (length (now sorts) ≡ 256) × (length (now singles) ≡ 256) × (length (now doubles) ≡ 256) ⌝ }
+    ensures { λ r. ⌜ now (sorts .exit) ≡ after sortAfter (dealt Register.Empty kind computation (rowsFrom 8 (now («tile_sorts» .entry)) (now («tile_singles» .entry)) (now («tile_doubles» .entry))) (empties 32)) (now (sorts .entry)) ⌝ }
+    ensures { λ r. ⌜ now (singles .exit) ≡ after singleAfter (dealt Register.Empty kind computation (rowsFrom 8 (now («tile_sorts» .entry)) (now («tile_singles» .entry)) (now («tile_doubles» .entry))) (empties 32)) (now (singles .entry)) ⌝ }
+    ensures { λ r. ⌜ now (doubles .exit) ≡ after doubleAfter (dealt Register.Empty kind computation (rowsFrom 8 (now («tile_sorts» .entry)) (now («tile_singles» .entry)) (now («tile_doubles» .entry))) (empties 32)) (now (doubles .entry)) ⌝ }
+{
+    let mut n: usize = 0;
+    while n < 256 {
+        let register = dealt_at(kind, computation, tile_sorts, tile_singles, tile_doubles, n);
+        put(register, sorts, singles, doubles, n);
+        n += 1;
+    }
+}
+
+// What a place is collected from the lanes: empty where it lies outside the matrix.
+fn collected_at(
+    kind: u64,
+    computation: u64,
+    sorts: &[u8],
+    singles: &[f32],
+    doubles: &[f64],
+    j: usize,
+) -> Register
+    requires { ⌜ j < 64 ⌝ }
+    requires { ⌜ (length (now sorts) ≡ 256) × (length (now singles) ≡ 256) × (length (now doubles) ≡ 256) ⌝ }
+    ensures { λ r. ⌜ r ≡ entry Register.Empty (collected Register.Empty kind computation (rowsFrom 32 (now (sorts .entry)) (now (singles .entry)) (now (doubles .entry))) (empties 8)) (j / 8) (j % 8) ⌝ }
+{
+    let s = moves::holder(kind, computation, j as u64 / 8, j as u64 % 8) as usize;
+    if s < 256 {
+        return register_at(sorts, singles, doubles, s);
+    }
+    Register::Empty
+}
+
+// An empty tile collected from the lanes, and it written.
+pub fn collect(
+    kind: u64,
+    computation: u64,
+    lane_sorts: &[u8],
+    lane_singles: &[f32],
+    lane_doubles: &[f64],
+    sorts: &mut [u8],
+    singles: &mut [f32],
+    doubles: &mut [f64],
+)
+    requires { ⌜ (length (now «lane_sorts») ≡ 256) × (length (now «lane_singles») ≡ 256) × (length (now «lane_doubles») ≡ 256) ⌝ }
     requires { ⌜ (length (now sorts) ≡ 64) × (length (now singles) ≡ 64) × (length (now doubles) ≡ 64) ⌝ }
-    ensures { λ r. ⌜ now (sorts .exit) ≡ after sortAfter tile (now (sorts .entry)) ⌝ }
-    ensures { λ r. ⌜ now (singles .exit) ≡ after singleAfter tile (now (singles .entry)) ⌝ }
-    ensures { λ r. ⌜ now (doubles .exit) ≡ after doubleAfter tile (now (doubles .entry)) ⌝ }
+    ensures { λ r. ⌜ now (sorts .exit) ≡ after sortAfter (collected Register.Empty kind computation (rowsFrom 32 (now («lane_sorts» .entry)) (now («lane_singles» .entry)) (now («lane_doubles» .entry))) (empties 8)) (now (sorts .entry)) ⌝ }
+    ensures { λ r. ⌜ now (singles .exit) ≡ after singleAfter (collected Register.Empty kind computation (rowsFrom 32 (now («lane_sorts» .entry)) (now («lane_singles» .entry)) (now («lane_doubles» .entry))) (empties 8)) (now (singles .entry)) ⌝ }
+    ensures { λ r. ⌜ now (doubles .exit) ≡ after doubleAfter (collected Register.Empty kind computation (rowsFrom 32 (now («lane_sorts» .entry)) (now («lane_singles» .entry)) (now («lane_doubles» .entry))) (empties 8)) (now (doubles .entry)) ⌝ }
 {
     let mut j: usize = 0;
     while j < 64 {
-        let register = tile[j / 8][j % 8];
+        let register = collected_at(kind, computation, lane_sorts, lane_singles, lane_doubles, j);
         put(register, sorts, singles, doubles, j);
         j += 1;
     }
 }
 
-// The lanes' registers written, but for the empty ones.
-pub fn put_lanes(
-    lanes: [[Register; 8]; 32],
-    sorts: &mut [u8],
-    singles: &mut [f32],
-    doubles: &mut [f64],
-)
-    requires { ⌜ (length (now sorts) ≡ 256) × (length (now singles) ≡ 256) × (length (now doubles) ≡ 256) ⌝ }
-    ensures { λ r. ⌜ now (sorts .exit) ≡ after sortAfter lanes (now (sorts .entry)) ⌝ }
-    ensures { λ r. ⌜ now (singles .exit) ≡ after singleAfter lanes (now (singles .entry)) ⌝ }
-    ensures { λ r. ⌜ now (doubles .exit) ≡ after doubleAfter lanes (now (doubles .entry)) ⌝ }
-{
-    let mut j: usize = 0;
-    while j < 256 {
-        let register = lanes[j / 8][j % 8];
-        put(register, sorts, singles, doubles, j);
-        j += 1;
-    }
-}
-
-// A lane's holding: four doubles.
-fn holding_at(numbers: &[f64], lane: usize) -> Holding
-    requires { ⌜ (lane < 32) × (length (now numbers) ≡ 128) ⌝ }
-    ensures { λ r. ⌜ r ≡ holdingAt (now (numbers .entry)) lane ⌝ }
-{
-    Holding {
-        a: numbers[4 * lane],
-        b: numbers[4 * lane + 1],
-        first: numbers[4 * lane + 2],
-        second: numbers[4 * lane + 3],
-    }
-}
-
-// The holdings, of 128 entries.
-pub fn holdings(numbers: &[f64]) -> [Holding; 32]
-    requires { ⌜ length (now numbers) ≡ 128 ⌝ }
-    ensures { λ r. ⌜ r ≡ holdingsFrom (now (numbers .entry)) ⌝ }
-{
-    let none = Holding {
-        a: 0.0,
-        b: 0.0,
-        first: 0.0,
-        second: 0.0,
-    };
-    let mut lanes = [none; 32];
-    let mut lane: usize = 0;
-    while lane < 32 {
-        lanes[lane] = holding_at(numbers, lane);
-        lane += 1;
-    }
-    lanes
-}
-
-// The register of a lane that is dealt to a field of its holding: empty where the kind does not deal to it.
-fn register_for(kind: u64, registers: [Register; 8], k: usize) -> Register
-    ensures { λ r. ⌜ r ≡ registerFor kind registers k ⌝ }
+// The register of a lane that is dealt to a field of its holding; 8 where the kind does not deal to it.
+fn register_for(kind: u64, k: usize) -> usize
+    ensures { λ r. ⌜ r ≡ registerNumber kind k ⌝ }
 {
     if kind == 6 {
         if k == 0 {
-            return registers[0];
+            return 0;
         }
-        return Register::Empty;
+        return 8;
     }
     if kind == 7 {
         if k == 1 {
-            return registers[0];
+            return 0;
         }
-        return Register::Empty;
+        return 8;
     }
     if k == 2 {
-        return registers[0];
+        return 0;
     }
     if k == 3 {
-        return registers[1];
+        return 1;
+    }
+    8
+}
+
+// What a field of the holdings is dealt, the fields counted through them: empty where the kind does not deal to it.
+fn dealt_to_field(
+    kind: u64,
+    computation: u64,
+    sorts: &[u8],
+    singles: &[f32],
+    doubles: &[f64],
+    j: usize,
+) -> Register
+    requires { ⌜ (4 < kind) × (j < 128) ⌝ }
+    requires { ⌜ (length (now sorts) ≡ 64) × (length (now singles) ≡ 64) × (length (now doubles) ≡ 64) ⌝ }
+    ensures { λ r. ⌜ r ≡ registerFor kind (getD (dealt Register.Empty kind computation (rowsFrom 8 (now (sorts .entry)) (now (singles .entry)) (now (doubles .entry))) (empties 32)) (j / 4) []) (j % 4) ⌝ }
+{
+    let i = register_for(kind, j % 4);
+    if i < 8 {
+        return dealt_at(kind, computation, sorts, singles, doubles, 8 * (j / 4) + i);
     }
     Register::Empty
 }
@@ -198,15 +196,84 @@ fn put_double(register: Register, numbers: &mut [f64], j: usize)
     }
 }
 
-// The lanes' registers of an .f64 kind written to the fields of the holdings that are the kind's own.
-pub fn put_holdings(kind: u64, lanes: [[Register; 8]; 32], numbers: &mut [f64])
-    requires { ⌜ length (now numbers) ≡ 128 ⌝ }
-    ensures { λ r. ⌜ now (numbers .exit) ≡ numbersAfter kind lanes (now (numbers .entry)) ⌝ }
+// A tile dealt to empty lanes, and their registers written to the fields of the holdings that are the kind's own.
+pub fn deal_holdings(
+    kind: u64,
+    computation: u64,
+    sorts: &[u8],
+    singles: &[f32],
+    doubles: &[f64],
+    numbers: &mut [f64],
+)
+    requires { ⌜ (4 < kind) × (length (now numbers) ≡ 128) ⌝ }
+    requires { ⌜ (length (now sorts) ≡ 64) × (length (now singles) ≡ 64) × (length (now doubles) ≡ 64) ⌝ }
+    ensures { λ r. ⌜ now (numbers .exit) ≡ numbersAfter kind (dealt Register.Empty kind computation (rowsFrom 8 (now (sorts .entry)) (now (singles .entry)) (now (doubles .entry))) (empties 32)) (now (numbers .entry)) ⌝ }
 {
     let mut j: usize = 0;
     while j < 128 {
-        let registers = lanes[j / 4];
-        put_double(register_for(kind, registers, j % 4), numbers, j);
+        let register = dealt_to_field(kind, computation, sorts, singles, doubles, j);
+        put_double(register, numbers, j);
+        j += 1;
+    }
+}
+
+// A register that a lane has for a kind: A for kind 6, B for kind 7, the two accumulators else.
+fn register_held(kind: u64, numbers: &[f64], lane: usize, i: usize) -> Register
+    requires { ⌜ (lane < 32) × (length (now numbers) ≡ 128) ⌝ }
+    ensures { λ r. ⌜ r ≡ getD (registersOf kind (holdingAt (now (numbers .entry)) lane)) i Register.Empty ⌝ }
+{
+    if kind == 6 {
+        if i == 0 {
+            return Register::Double(numbers[4 * lane]);
+        }
+        return Register::Empty;
+    }
+    if kind == 7 {
+        if i == 0 {
+            return Register::Double(numbers[4 * lane + 1]);
+        }
+        return Register::Empty;
+    }
+    if i == 0 {
+        return Register::Double(numbers[4 * lane + 2]);
+    }
+    if i == 1 {
+        return Register::Double(numbers[4 * lane + 3]);
+    }
+    Register::Empty
+}
+
+// What a place is collected from the holdings: empty where it lies outside the matrix.
+fn collected_from(kind: u64, computation: u64, numbers: &[f64], j: usize) -> Register
+    requires { ⌜ (j < 64) × (length (now numbers) ≡ 128) ⌝ }
+    ensures { λ r. ⌜ r ≡ entry Register.Empty (collected Register.Empty kind computation (map (registersOf kind) (holdingsFrom (now (numbers .entry)))) (empties 8)) (j / 8) (j % 8) ⌝ }
+{
+    let from = moves::holder(kind, computation, j as u64 / 8, j as u64 % 8) as usize;
+    if from < 256 {
+        return register_held(kind, numbers, from / 8, from % 8);
+    }
+    Register::Empty
+}
+
+// An empty tile collected from the holdings, and it written.
+pub fn collect_holdings(
+    kind: u64,
+    computation: u64,
+    numbers: &[f64],
+    sorts: &mut [u8],
+    singles: &mut [f32],
+    doubles: &mut [f64],
+)
+    requires { ⌜ length (now numbers) ≡ 128 ⌝ }
+    requires { ⌜ (length (now sorts) ≡ 64) × (length (now singles) ≡ 64) × (length (now doubles) ≡ 64) ⌝ }
+    ensures { λ r. ⌜ now (sorts .exit) ≡ after sortAfter (collected Register.Empty kind computation (map (registersOf kind) (holdingsFrom (now (numbers .entry)))) (empties 8)) (now (sorts .entry)) ⌝ }
+    ensures { λ r. ⌜ now (singles .exit) ≡ after singleAfter (collected Register.Empty kind computation (map (registersOf kind) (holdingsFrom (now (numbers .entry)))) (empties 8)) (now (singles .entry)) ⌝ }
+    ensures { λ r. ⌜ now (doubles .exit) ≡ after doubleAfter (collected Register.Empty kind computation (map (registersOf kind) (holdingsFrom (now (numbers .entry)))) (empties 8)) (now (doubles .entry)) ⌝ }
+{
+    let mut j: usize = 0;
+    while j < 64 {
+        let register = collected_from(kind, computation, numbers, j);
+        put(register, sorts, singles, doubles, j);
         j += 1;
     }
 }

@@ -1,55 +1,106 @@
 // The moves of dealing and collecting, register by register: values go from a tile to the lanes of a warp and back, and are never looked at.
+// Where a value comes from is one number, so that no array goes with it; a lane or a row is made whole and put once.
 use fragment::Held;
 use fragment::Holder;
-use fragment::Place;
-use fragment::Slot;
 use values::Register;
 ghost use mathlib.Core.Path.{_≡_};
+ghost use mathlib.Core.Bool.{cond, _&&_};
 ghost use Prim.Native.Nat.{_<_};
+ghost use lib.Dec.{eqb, ltb};
 ghost use Rattle.values.specs.Rows.{each};
-ghost use Rattle.values.specs.Values.{inTile, inLanes, dealtEntry, dealt, collectedEntry, collected};
+ghost use Rattle.values.specs.Values.{dealtEntry, dealt, collectedEntry, collected};
+ghost use Rattle.moves.specs.Moves.{sourceOf, holderOf};
 
-// What stands in the tile at a place.
-fn in_tile(tile: [[Register; 8]; 8], place: Place) -> Register
-    requires { ⌜ (place .row < 8) × (place .column < 8) ⌝ }
-    ensures { λ r. ⌜ r ≡ inTile Register.Empty tile place ⌝ }
-{
-    let row = place.row as usize;
-    let column = place.column as usize;
-    tile[row][column]
-}
-
-// What stands in a register of the lanes.
-fn in_lanes(lanes: [[Register; 8]; 32], slot: Slot) -> Register
-    requires { ⌜ (slot .lane < 32) × (slot .register < 8) ⌝ }
-    ensures { λ r. ⌜ r ≡ inLanes Register.Empty lanes slot ⌝ }
-{
-    let lane = slot.lane as usize;
-    let i = slot.register as usize;
-    lanes[lane][i]
-}
-
-// What a register has after dealing.
-fn dealt_register(
-    kind: u64,
-    computation: u64,
-    tile: [[Register; 8]; 8],
-    lane: u64,
-    i: u64,
-    given: Register,
-) -> Register
-    ensures { λ r. ⌜ r ≡ dealtEntry Register.Empty kind computation tile lane i given ⌝ }
+// The source by what the register is answered to hold, for any kind.
+fn source_held(kind: u64, computation: u64, lane: u64, i: u64) -> u64
+    ensures { λ r. ⌜ r ≡ sourceOf kind computation lane i ⌝ }
 {
     match fragment::held_by(kind, lane, i) {
         Held::Place(place) => {
             if place.computation == computation {
-                in_tile(tile, place)
+                8 * place.row + place.column
             } else {
-                given
+                64
             }
         }
-        Held::Refused(_) => given,
+        Held::Refused(_) => 64,
     }
+}
+
+// Of kind 5 by its rule: the table of its places is a copy at each look.
+fn accumulator_source(computation: u64, lane: u64, i: u64) -> u64
+    requires { ⌜ (lane < 32) × (i < 8) ⌝ }
+    ensures { λ r. ⌜ r ≡ sourceOf 5 computation lane i ⌝ }
+{
+    if lane % 16 / 4 == computation {
+        let row = (lane & 1) + (i & 2) + lane / 16 * 4;
+        let column = (i & 4) + (lane & 2) + (i & 1);
+        return 8 * row + column;
+    }
+    64
+}
+
+// Of an .f64 kind with so many registers: the place, or none where the register is past them or the computation is not 0.
+fn double_source(registers: u64, computation: u64, i: u64, place: u64) -> u64
+    ensures { λ r. ⌜ r ≡ cond (ltb i registers && eqb 0 computation) place 64 ⌝ }
+{
+    if (i < registers) & (0 == computation) {
+        place
+    } else {
+        64
+    }
+}
+
+// Of the kinds with values, 5 to 8, by rule; no other kind above 4 has registers, and none of .f64 more than two.
+pub fn matrix_source(kind: u64, computation: u64, lane: u64, i: u64) -> u64
+    requires { ⌜ (4 < kind) × (lane < 32) × (i < 8) ⌝ }
+    ensures { λ r. ⌜ r ≡ sourceOf kind computation lane i ⌝ }
+{
+    if kind == 5 {
+        return accumulator_source(computation, lane, i);
+    }
+    if 1 < i {
+        return 64;
+    }
+    if kind == 6 {
+        return double_source(1, computation, i, 8 * (lane / 4) + lane % 4);
+    }
+    if kind == 7 {
+        return double_source(1, computation, i, 8 * (lane % 4) + lane / 4);
+    }
+    if kind == 8 {
+        return double_source(2, computation, i, 8 * (lane / 4) + (2 * (lane % 4) + i));
+    }
+    64
+}
+
+// The place of the tile that is dealt to a register; 64 for a register that is not the computation's.
+pub fn source(kind: u64, computation: u64, lane: u64, i: u64) -> u64
+    requires { ⌜ (lane < 32) × (i < 8) ⌝ }
+    ensures { λ r. ⌜ r ≡ sourceOf kind computation lane i ⌝ }
+{
+    if 4 < kind {
+        matrix_source(kind, computation, lane, i)
+    } else {
+        source_held(kind, computation, lane, i)
+    }
+}
+
+// The register that a place is collected from; 256 for a place outside the matrix.
+pub fn holder(kind: u64, computation: u64, row: u64, column: u64) -> u64
+    ensures { λ r. ⌜ r ≡ holderOf kind computation row column ⌝ }
+{
+    match fragment::holder_of(kind, computation, row, column) {
+        Holder::Slot(slot) => 8 * slot.lane + slot.register,
+        Holder::Refused(_) => 256,
+    }
+}
+
+// What was moved, or what was given where nothing was.
+fn chosen(is_moved: bool, moved: Register, given: Register) -> Register
+    ensures { λ r. ⌜ r ≡ cond «is_moved» moved given ⌝ }
+{
+    if is_moved { moved } else { given }
 }
 
 // A lane after dealing.
@@ -60,13 +111,16 @@ fn dealt_lane(
     lane: u64,
     given: [Register; 8],
 ) -> [Register; 8]
+    requires { ⌜ lane < 32 ⌝ }
     ensures { λ r. ⌜ r ≡ each (dealtEntry Register.Empty kind computation tile lane) given ⌝ }
 {
     let mut registers = given;
     let mut i: usize = 0;
     while i < 8 {
+        let p = source(kind, computation, lane, i as u64) as usize;
+        let moved = tile[p / 8 % 8][p % 8];
         let before = given[i];
-        registers[i] = dealt_register(kind, computation, tile, lane, i as u64, before);
+        registers[i] = chosen(p < 64, moved, before);
         i += 1;
     }
     registers
@@ -91,23 +145,6 @@ pub fn dealt_lanes(
     lanes
 }
 
-// What a place of the tile has after collecting.
-fn collected_place(
-    kind: u64,
-    computation: u64,
-    lanes: [[Register; 8]; 32],
-    row: u64,
-    column: u64,
-    given: Register,
-) -> Register
-    ensures { λ r. ⌜ r ≡ collectedEntry Register.Empty kind computation lanes row column given ⌝ }
-{
-    match fragment::holder_of(kind, computation, row, column) {
-        Holder::Slot(slot) => in_lanes(lanes, slot),
-        Holder::Refused(_) => given,
-    }
-}
-
 // A row of the tile after collecting.
 fn collected_row(
     kind: u64,
@@ -121,8 +158,10 @@ fn collected_row(
     let mut places = given;
     let mut column: usize = 0;
     while column < 8 {
+        let s = holder(kind, computation, row, column as u64) as usize;
+        let moved = lanes[s / 8 % 32][s % 8];
         let before = given[column];
-        places[column] = collected_place(kind, computation, lanes, row, column as u64, before);
+        places[column] = chosen(s < 256, moved, before);
         column += 1;
     }
     places

@@ -5,7 +5,6 @@ use canonical::Canonical;
 use card::Card;
 use notation::Layout;
 use values::Moved;
-use values::Register;
 ghost use mathlib.Core.Path.{_≡_};
 ghost use lib.ListN.{length};
 ghost use Rattle.swizzle.specs.Swizzle.{swizzleAnswer, swizzleNumbers};
@@ -103,16 +102,28 @@ pub extern "C" fn urszovely_deal(
     ensures { λ r. ⌜ now (answer .exit) ≡ four (movedNumbers (dealAnswer kind computation (rowsFrom 8 (now («tile_sorts» .entry)) (now («tile_singles» .entry)) (now («tile_doubles» .entry))))) ⌝ }
     ensures { λ r. ⌜ Written (dealtLanes kind computation (rowsFrom 8 (now («tile_sorts» .entry)) (now («tile_singles» .entry)) (now («tile_doubles» .entry))) (rowsFrom 32 (now (sorts .entry)) (now (singles .entry)) (now (doubles .entry)))) (now (sorts .entry)) (now (singles .entry)) (now (doubles .entry)) (now (sorts .exit)) (now (singles .exit)) (now (doubles .exit)) ⌝ }
 {
-    let tile = lent::tile(tile_sorts, tile_singles, tile_doubles);
-    let told = dealing::judge_dealing(kind, computation, tile);
+    let told = lent_judged::judge_dealing(
+        kind,
+        computation,
+        tile_sorts,
+        tile_singles,
+        tile_doubles,
+    );
     let numbers = dealing::moved_numbers(told);
     *answer = c_card::four(numbers);
     let Moved::Done = told else {
         return;
     };
-    let none = [[Register::Empty; 8]; 32];
-    let dealt = moves::dealt_lanes(kind, computation, tile, none);
-    lent::put_lanes(dealt, sorts, singles, doubles);
+    lent::deal(
+        kind,
+        computation,
+        tile_sorts,
+        tile_singles,
+        tile_doubles,
+        sorts,
+        singles,
+        doubles,
+    );
 }
 
 // And collected from them.
@@ -131,16 +142,28 @@ pub extern "C" fn urszovely_collect(
     ensures { λ r. ⌜ now (answer .exit) ≡ four (movedNumbers (collectAnswer kind computation (rowsFrom 32 (now («lane_sorts» .entry)) (now («lane_singles» .entry)) (now («lane_doubles» .entry))))) ⌝ }
     ensures { λ r. ⌜ Written (collectedTile kind computation (rowsFrom 32 (now («lane_sorts» .entry)) (now («lane_singles» .entry)) (now («lane_doubles» .entry))) (rowsFrom 8 (now (sorts .entry)) (now (singles .entry)) (now (doubles .entry)))) (now (sorts .entry)) (now (singles .entry)) (now (doubles .entry)) (now (sorts .exit)) (now (singles .exit)) (now (doubles .exit)) ⌝ }
 {
-    let lanes = lent::lanes(lane_sorts, lane_singles, lane_doubles);
-    let told = dealing::judge_collecting(kind, computation, lanes);
+    let told = lent_judged::judge_collecting(
+        kind,
+        computation,
+        lane_sorts,
+        lane_singles,
+        lane_doubles,
+    );
     let numbers = dealing::moved_numbers(told);
     *answer = c_card::four(numbers);
     let Moved::Done = told else {
         return;
     };
-    let none = [[Register::Empty; 8]; 8];
-    let collected = moves::collected_tile(kind, computation, lanes, none);
-    lent::put_tile(collected, sorts, singles, doubles);
+    lent::collect(
+        kind,
+        computation,
+        lane_sorts,
+        lane_singles,
+        lane_doubles,
+        sorts,
+        singles,
+        doubles,
+    );
 }
 
 // A matrix of an .f64 kind dealt to the lanes' holdings.
@@ -159,16 +182,26 @@ pub extern "C" fn urszovely_deal_f64(
 {
     // as a slice, whose length the proof knows where refused too
     let fields: &mut [f64] = holdings;
-    let tile = lent::tile(tile_sorts, tile_singles, tile_doubles);
-    let told = holdings::judge_dealing(kind, computation, tile);
+    let told = lent_judged::judge_dealing_holdings(
+        kind,
+        computation,
+        tile_sorts,
+        tile_singles,
+        tile_doubles,
+    );
     let numbers = dealing::moved_numbers(told);
     *answer = c_card::four(numbers);
     let Moved::Done = told else {
         return;
     };
-    let none = [[Register::Empty; 8]; 32];
-    let dealt = moves::dealt_lanes(kind, computation, tile, none);
-    lent::put_holdings(kind, dealt, fields);
+    lent::deal_holdings(
+        kind,
+        computation,
+        tile_sorts,
+        tile_singles,
+        tile_doubles,
+        fields,
+    );
 }
 
 // And collected from them.
@@ -191,10 +224,7 @@ pub extern "C" fn urszovely_collect_f64(
     let Moved::Done = told else {
         return;
     };
-    let held = lent::holdings(holdings);
-    let none = [[Register::Empty; 8]; 8];
-    let collected = holdings::collect(kind, computation, held, none);
-    lent::put_tile(collected, sorts, singles, doubles);
+    lent::collect_holdings(kind, computation, holdings, sorts, singles, doubles);
 }
 
 // The fields of a descriptor, read.

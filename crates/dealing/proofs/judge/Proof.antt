@@ -20,17 +20,17 @@ abbrev μ-loop : tie.MeasureT-loop
 
 returns : tie.Need-returns Inv-loop μ-loop
 returns c =
-    let a = c .before .before .before .before .args in
-    let l = c .before .before .before .loop in
-    sym (judged-at (a .kind) (a .computation) (entry Empty (a .lanes)) (l .n) (c .before .before .loop-test .taken) (l .inv .1)
+    let a = c .before .before .before .before .before .args in
+    let l = c .before .before .before .before .loop in
+    sym (judged-at (a .kind) (a .computation) (entry Empty (a .t3)) (l .n) (c .before .before .before .loop-test .taken) (l .inv .1)
     (sym (c .before .is-wrong .ensures) ∙ c .if1 .taken))
 
 loop-again : tie.Need-loop-again Inv-loop μ-loop
 loop-again c =
-    let a = c .before .before .before .before .args in
-    let l = c .before .before .before .loop in (
+    let a = c .before .before .before .before .before .args in
+    let l = c .before .before .before .before .loop in (
       omega arith,
-      none-next (isWrong (a .kind) (a .computation) (entry Empty (a .lanes))) (l .n) (l .inv .1) (sym (c .before .is-wrong .ensures) ∙ c .if1 .left),
+      none-next (isWrong (a .kind) (a .computation) (entry Empty (a .t3))) (l .n) (l .inv .1) (sym (c .before .is-wrong .ensures) ∙ c .if1 .left),
     )
 
 returns-2 : tie.Need-returns-2 Inv-loop μ-loop
@@ -38,10 +38,10 @@ returns-2 c =
     let a = c .before .before .args in
     let l = c .before .loop in
     let end : l .n ≡ 256 = omega (arith, l .inv .0, c .loop-test .left) in
-    sym (judged-done (a .kind) (a .computation) (entry Empty (a .lanes)) (rw end at (l .inv .1)))
+    sym (judged-done (a .kind) (a .computation) (entry Empty (a .t3)) (rw end at (l .inv .1)))
 
 pub judge-spec : {M : Type 1} → statement M
 judge-spec =
     tie.close
-    (tie.spec Inv-loop μ-loop (λ c. (omega arith, λ k h. absurd (not-suc-le-zero h))) (λ c κs. search needs) returns (λ c. omega arith) (λ c. omega arith)
+    (tie.spec Inv-loop μ-loop (λ c. (omega arith, λ k h. absurd (not-suc-le-zero h))) (λ c. omega arith) (λ c. omega arith) (λ c. omega arith) (λ c. omega arith) (λ c κs. search needs) returns (λ c. omega arith) (λ c. omega arith)
     loop-again returns-2)

@@ -1,18 +1,16 @@
 -- `urszovely::urszovely_collect_f64` answers what the library's question answers, over the values that the arrays hold; refused it stores nothing.
-use mathlib.Core.Path.{_≡_, sym, ap, _∙_}
+use mathlib.Core.Path.{_≡_, refl, sym, ap, _∙_}
 use mathlib.Core.List.{List, map}
 use native.Mathlib.Omega.{arith}
 use borrow.Author.Needs.{needs}
 use Rattle.values.specs.declared.Register.{Register}
 use Rattle.values.specs.declared.Register.the-variants.{Empty}
-use Rattle.values.specs.declared.Holding.{Holding}
-use Rattle.values.specs.declared.Moved.{Moved}
 use Rattle.values.specs.declared.Moved.the-variants.{Done}
 use Rattle.values.specs.Values.{collected}
-use Rattle.values.specs.Registers.{movedNumbers, filled}
-use Rattle.values.specs.Holdings.{registersOf, collectHoldingsAnswer, collectedFromHoldings}
-use Rattle.lent.specs.Lent.{holdingsFrom}
-use Rattle.lent.proofs.Empties.{empties, collected-into-empties}
+use Rattle.values.specs.Registers.{movedNumbers}
+use Rattle.values.specs.Holdings.{registersOf, collectHoldingsAnswer}
+use Rattle.lent.specs.Lent.{empties, holdingsFrom}
+use Rattle.lent.proofs.Empties.{collected-into-empties}
 use Rattle.c_card.specs.Card.{four}
 use Rattle.urszovely.proofs.Left.{untouched, stored}
 use Rattle.urszovely.proofs.urszovely_collect_f64.Statement.{statement}
@@ -31,27 +29,20 @@ returns c =
 
 returns-2 : tie.Need-returns-2
 returns-2 c =
-    let d = c .before .before .before .before in
-    let h = d .before in
-    let e = h .before .before in
+    let e = c .before .before .before .before .before in
     let f = e .before .before in
     let m = f .before in
     let j = m .before in
     let a = j .before .args in
     let lanes : List (List Register) = map (registersOf (a .kind)) (holdingsFrom (a .holdings .now)) in
-    let into : List (List Register) = collected Empty (a .kind) (a .computation) lanes (empties 8) in
     let done : collectHoldingsAnswer (a .kind) (a .computation) ≡ Done = sym (j .judge-collecting .ensures) ∙ e .enum-told .given .1 in (
       f .four .ensures ∙ ap four (m .moved-numbers .ensures ∙ ap movedNumbers (j .judge-collecting .ensures)),
-      stored 8 (a .sorts .now) (a .singles .now) (a .doubles .now) (omega (arith, c .before .before .before .put-tile-arg .given)) (omega (arith, c .before .before .put-tile-arg2 .given)) (omega (arith, c .before .put-tile-arg3 .given)) _ into _
-          (d .collect .ensures
-          ∙ ap (λ (l : List Holding). collectedFromHoldings (a .kind) (a .computation) l (empties 8)) (h .holdings .ensures)
-          ∙ ap (λ (told : Moved). filled told into (empties 8)) done)
+      stored 8 (a .sorts .now) (a .singles .now) (a .doubles .now) (omega (arith, c .before .before .before .collect-holdings-arg2 .given)) (omega (arith, c .before .before .collect-holdings-arg3 .given)) (omega (arith, c .before .collect-holdings-arg4 .given)) _ (collected Empty (a .kind) (a .computation) lanes (empties 8)) _ refl
           (collected-into-empties (a .kind) (a .computation) (a .sorts .now) (a .singles .now) (a .doubles .now) (collectHoldingsAnswer (a .kind) (a .computation)) lanes done)
-          _ _ _ (c .put-tile .ensures),
+          _ _ _ (c .collect-holdings .ensures),
     )
 
 pub urszovely-collect-f64-spec : {M : Type 1} → statement M
 urszovely-collect-f64-spec =
     tie.close
-    (tie.spec (λ c κs. search needs) (λ c κs. search needs) (λ c κs. search needs) (λ c. search needs) (λ c. search needs) returns
-    (λ c κs. search needs) (λ c κs. search needs) (λ c κs. search needs) returns-2)
+    (tie.spec (λ c κs. search needs) (λ c κs. search needs) (λ c κs. search needs) (λ c. search needs) (λ c. search needs) returns (λ c κs. (search needs, search needs)) returns-2)
