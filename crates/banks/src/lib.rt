@@ -1,8 +1,10 @@
-// Banks of shared memory: the line and the bank in which an element begins, and the columns that do not collide there.
+// Banks of shared memory: the line and the bank in which an element begins.
 use answers::Numbers;
 use answers::Refusal;
+use banks_judged::BankWord;
+use banks_judged::Banked;
 ghost use mathlib.Core.Path.{_≡_};
-ghost use Rattle.banks.specs.Bank.{bankAnswer, bankNumbers};
+ghost use Rattle.banks_judged.specs.Bank.{bankAnswer, bankNumbers};
 
 // The first address that has no bank: 2^32.
 const ADDRESSES: u64 = 4294967296;
@@ -11,18 +13,6 @@ const ADDRESSES: u64 = 4294967296;
 const BANK_BITS: u64 = 32;
 
 const BANKS: u64 = 32;
-
-// A bank word: its line, and its bank there.
-pub struct BankWord {
-    pub line: u64,
-    pub bank: u64,
-}
-
-// The answer to bits and an element address.
-pub enum Banked {
-    At(BankWord),
-    Refused(Refusal),
-}
 
 // Line and bank of any address of elements of any bits. The address is taken as it is: where there
 // is a swizzle, it is the swizzled one that is asked about.

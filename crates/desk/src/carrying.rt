@@ -1,6 +1,6 @@
 // The words on a carrier's move plan: carry and plan. The buffers are lent for all lines, no more of each than a
 // line asks for; what they are long is the program's own limit.
-use crate::cards;
+use desk_cards::cards;
 use lines::places;
 use lines::places::Kept;
 use lines_read::words::MOST_CARRIED;

@@ -1,17 +1,16 @@
 // The program desk: questions in lines on standard input, answers in lines on standard output. It
-// reads numbers, asks the library and prints what came back. Each subject has a module of its own.
-mod books;
-mod cards;
+// reads numbers, asks the library and prints what came back. Each subject has a module of its own; here are those
+// that lend owner tables.
 mod carrying;
 mod encodings;
-mod fragments;
-mod masks;
-mod notations;
-mod placements;
-mod records;
-mod swizzles;
 mod tables;
 
+use desk_cards::books;
+use desk_cards::notations;
+use desk_cards::placements;
+use desk_plain::fragments;
+use desk_plain::masks;
+use desk_plain::swizzles;
 use lines::places::Kept;
 use lines_read::words;
 use lines_read::words::Word;

@@ -1,6 +1,6 @@
 // The words on the owner table of a card: verdict, owner, stretch. One buffer is lent for all lines, no
 // more of it than a line asks for, so nothing is cleared; what it is long is the program's own limit.
-use crate::cards;
+use desk_cards::cards;
 use lines::numbers::eight;
 use lines::places;
 use lines::places::Kept;

@@ -19,7 +19,7 @@ pub enum Generated {
 fn is_mask_size(m: u64, n: u64) -> bool
     ensures { λ r. ⌜ r ≡ maskSize m n ⌝ }
 {
-    descriptor::is_mask_m(m) & (n % 8 == 0) & (8 <= n) & (n <= 256)
+    descriptor_limits::is_mask_m(m) & (n % 8 == 0) & (8 <= n) & (n <= 256)
 }
 
 // The bytes of words, as many as are lent.
@@ -68,11 +68,11 @@ pub fn generate_mask(m: u64, n: u64, descriptor: u64, mask: &mut [u8]) -> Genera
     if !is_mask_size(m, n) {
         return Generated::Refused(Refusal::MaskSize);
     }
-    if descriptor::has_reserved(descriptor) {
+    if descriptor_bits::has_reserved(descriptor) {
         return Generated::Refused(Refusal::Reserved);
     }
-    let fields = descriptor::fields_of(descriptor);
-    let limit = descriptor::shift_limit(m);
+    let fields = descriptor_bits::fields_of(descriptor);
+    let limit = descriptor_limits::shift_limit(m);
     if limit < fields.shift {
         return Generated::Refused(Refusal::Shift { limit });
     }

@@ -5,7 +5,7 @@ use Prim.Native.Nat.{ℕ}
 use Rattle.answers.specs.declared.Numbers.{Numbers}
 use Rattle.swizzle.specs.Swizzle.{swizzleAnswer, swizzleNumbers}
 use Rattle.swizzle.specs.Mode.{modeAnswer, modeNumbers}
-use Rattle.banks.specs.Bank.{bankAnswer, bankNumbers}
+use Rattle.banks_judged.specs.Bank.{bankAnswer, bankNumbers}
 use Rattle.fragment.specs.Fragment.{heldAnswer, heldNumbers}
 use Rattle.descriptor.specs.Descriptor.{shiftLimit, writeAnswer, writeNumbers}
 use Rattle.mask.specs.Mask.{maskAnswer, maskMemory, maskNumbers}

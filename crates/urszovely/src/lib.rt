@@ -9,7 +9,7 @@ ghost use mathlib.Core.Path.{_≡_};
 ghost use lib.ListN.{length};
 ghost use Rattle.swizzle.specs.Swizzle.{swizzleAnswer, swizzleNumbers};
 ghost use Rattle.swizzle.specs.Mode.{modeAnswer, modeNumbers};
-ghost use Rattle.banks.specs.Bank.{bankAnswer, bankNumbers};
+ghost use Rattle.banks_judged.specs.Bank.{bankAnswer, bankNumbers};
 ghost use Rattle.fragment.specs.Fragment.{heldAnswer, heldNumbers};
 ghost use Rattle.descriptor.specs.Descriptor.{readAnswer, readNumbers, shiftLimit, writeAnswer, writeNumbers};
 ghost use Rattle.mask.specs.Mask.{maskAnswer, maskMemory, maskNumbers};
@@ -233,11 +233,11 @@ pub extern "C" fn urszovely_fields(descriptor: u64, fields: &mut [u8; 12], answe
     ensures { λ r. ⌜ now (answer .exit) ≡ four (readNumbers (readAnswer descriptor .answer)) ⌝ }
     ensures { λ r. ⌜ now (fields .exit) ≡ bytesOf (readAnswer descriptor .fields) ⌝ }
 {
-    let reading = descriptor::read_descriptor(descriptor);
+    let reading = descriptor_bits::read_descriptor(descriptor);
     let read = reading.fields;
     *fields = c_fields::field_bytes(read);
     let told = reading.answer;
-    let numbers = descriptor::read_numbers(told);
+    let numbers = descriptor_bits::read_numbers(told);
     *answer = c_card::four(numbers);
 }
 
@@ -246,8 +246,8 @@ pub extern "C" fn urszovely_fields(descriptor: u64, fields: &mut [u8; 12], answe
 pub extern "C" fn urszovely_descriptor(m: u64, fields: &[u8; 11], shift: u64, answer: &mut [u64; 4])
     ensures { λ r. ⌜ now (answer .exit) ≡ four (writeNumbers (writeAnswer (shiftLimit m) m (fieldsFrom (now (fields .entry)) shift))) ⌝ }
 {
-    let written = descriptor::write_descriptor(m, c_fields::fields(fields, shift));
-    let numbers = descriptor::write_numbers(written);
+    let written = descriptor_bits::write_descriptor(m, c_fields::fields(fields, shift));
+    let numbers = descriptor_bits::write_numbers(written);
     *answer = c_card::four(numbers);
 }
 

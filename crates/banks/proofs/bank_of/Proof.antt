@@ -7,7 +7,7 @@ use borrow.Author.Needs.{needs}
 use borrow.Author.Tests.{not-true, not-false, ltb-true}
 use lib.Dec.{ltb}
 use Rattle.swizzle.specs.Mode.{knownBits}
-use Rattle.banks.proofs.Groups.{word-fits}
+use Rattle.banks_judged.proofs.Groups.{word-fits}
 use Rattle.banks.proofs.bank_of.Statement.{statement}
 use Rattle.banks.proofs.bank_of.Tie as tie
 
