@@ -1,7 +1,5 @@
 // The four questions on values, of the project and in Rust: the cases, the random questions, the comparison.
-#include <stdint.h>
-#include <stddef.h>
-#include "urszovely.h"
+#define WITHOUT_FLOOR
 #include "../drive.h"
 
 void *memcpy(void *to, const void *from, size_t count);
@@ -86,7 +84,7 @@ static int number_of_cases(void) {
 }
 static const char *name(int i) { return cases[i].name; }
 static void ask_rust(int i) { ask(&cases[i], &of_case[i], 1); }
-static void ask_project(int i) { ask(&cases[i], &of_case[i], 0); }
+static void ask_archive(int i) { ask(&cases[i], &of_case[i], 0); }
 
 // Both on one question: whether answers or anything in memory differ. Leaves Rust's answer in asked.
 static int differ(const struct question *q) {
