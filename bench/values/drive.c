@@ -59,17 +59,17 @@ static void ask(const struct question *q, struct memory *m, int rust) {
     }
 }
 
-// Any bits in all values, and all sorts those of the kind, but for `wrong`: 1 the first register's of the computation, 256 the last's, by which
-// place it has or gets; 2 any one entry's; 3 each one's of 50.
+// Any bits in all memory, but what is to be moved has the kind's sort, but for `wrong`: 1 the first register's of the computation, 256 the last's,
+// by the place that it gets where it is dealt; 2 any one entry's; 3 some of them.
 static void fill(const struct question *q) {
     u8 *bytes = (u8 *)&asked;
     for (u64 i = 0; i < sizeof asked; i++) bytes[i] = any() >> 32;
-    u8 sort = q->kind == 5 ? 1 : 2;
-    for (int i = 0; i < 64; i++) asked.tile_sorts[i] = q->wrong == 3 && below(50) == 0 ? below(4) : sort;
-    for (int i = 0; i < 256; i++) asked.lane_sorts[i] = q->wrong == 3 && below(50) == 0 ? below(4) : sort;
-    if (q->wrong == 2) asked.tile_sorts[below(64)] = asked.lane_sorts[below(256)] = below(256);
-    if (q->wrong == 1) asked.tile_sorts[0] = asked.lane_sorts[0] = 0;
-    if (q->wrong == 256) asked.tile_sorts[63] = asked.lane_sorts[q->kind == 5 ? 255 : 249] = 0;
+    int dealt = q->word != COLLECT, size = dealt ? 64 : 256;
+    u8 *sorts = dealt ? asked.tile_sorts : asked.lane_sorts, sort = q->kind == 5 ? 1 : 2;
+    for (int i = 0; i < size; i++) sorts[i] = q->wrong == 3 && below(50) == 0 ? below(4) : sort;
+    if (q->wrong == 2) sorts[below(size)] = below(256);
+    if (q->wrong == 1) sorts[0] = 0;
+    if (q->wrong == 256) sorts[dealt ? 63 : q->kind == 5 ? 255 : 249] = 0;
 }
 
 static struct memory of_case[CASES];
