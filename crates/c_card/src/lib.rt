@@ -20,8 +20,8 @@ const SWIZZLE: usize = 54;
 // From here on 64 bits are a number below zero.
 const HALF: u64 = 9223372036854775808;
 
-// The signed number that 64 bits are in two's complement.
-fn signed(n: u64) -> i64
+// The signed number that 64 bits are in two's complement. Public for the crate above.
+pub fn signed(n: u64) -> i64
     ensures { λ r. ⌜ r ≡ signed n ⌝ }
 {
     if n < HALF {

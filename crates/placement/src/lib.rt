@@ -82,8 +82,9 @@ fn place_copies(numbers: &[u64; 56], strides: &[i64; 24], flat: Flat, memory: &m
     outside
 }
 
-// The placement of one element of a packed card.
-fn place_packed(
+// The placement of one element of a packed card. Public, with a requires, for the crate above, which packs a
+// card from plain numbers.
+pub fn place_packed(
     numbers: &[u64; 56],
     strides: &[i64; 24],
     shape: Tuple,

@@ -273,9 +273,12 @@ pub extern "C" fn urszovely_mask(
 pub extern "C" fn urszovely_admit(card: &[u64; 57], marks: u64, answer: &mut [u64; 4])
     ensures { λ r. ⌜ now (answer .exit) ≡ four (admissionNumbers (fullAdmission (cardFrom (now (card .entry)) marks))) ⌝ }
 {
-    let admission = idle_search::admit(c_card::card(card, marks));
-    let numbers = admission::admission_numbers(admission);
-    *answer = c_card::four(numbers);
+    let mut numbers = [0u64; 56];
+    let mut strides = [0i64; 24];
+    c_packed::pack(card, marks, &mut numbers, &mut strides);
+    let admission = idle_search::admit_packed(&numbers, &strides);
+    let told = admission::admission_numbers(admission);
+    *answer = c_card::four(told);
 }
 
 // The placement of one element.
@@ -290,14 +293,18 @@ pub extern "C" fn urszovely_place(
 )
     ensures { λ r. ⌜ AsPlacement (now (card .entry)) marks (now (shape .entry)) (now (coordinates .entry)) (now (memory .entry)) (now (memory .exit)) (now (answer .exit)) ⌝ }
 {
-    let placement = placement::place(
-        c_card::card(card, marks),
+    let mut numbers = [0u64; 56];
+    let mut strides = [0i64; 24];
+    c_packed::pack(card, marks, &mut numbers, &mut strides);
+    let placement = placement::place_packed(
+        &numbers,
+        &strides,
         c_tuple::tuple(shape),
         c_tuple::tuple(coordinates),
         memory,
     );
-    let numbers = placement::placement_numbers(placement);
-    *answer = c_card::four(numbers);
+    let told = placement::placement_numbers(placement);
+    *answer = c_card::four(told);
 }
 
 // The verdict.
@@ -310,9 +317,12 @@ pub extern "C" fn urszovely_verdict(
 )
     ensures { λ r. ⌜ AsVerdict (now (card .entry)) marks (now (table .entry)) (now (table .exit)) (now (answer .exit)) ⌝ }
 {
-    let verdict = verdict::judge(c_card::card(card, marks), table);
-    let numbers = judgement_numbers::verdict_numbers(verdict);
-    *answer = c_card::four(numbers);
+    let mut numbers = [0u64; 56];
+    let mut strides = [0i64; 24];
+    c_packed::pack(card, marks, &mut numbers, &mut strides);
+    let verdict = verdict::judge_packed(&numbers, &strides, table);
+    let told = judgement_numbers::verdict_numbers(verdict);
+    *answer = c_card::four(told);
 }
 
 // The owner of a cell.

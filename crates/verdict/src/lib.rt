@@ -42,8 +42,9 @@ fn judge_admitted(numbers: &[u64; 56], strides: &[i64; 24], table: &mut [u32]) -
     judge_cells(numbers, strides, &mut table[..end])
 }
 
-// The verdict on a packed card: the card's own checks, then the table's.
-fn judge_packed(numbers: &[u64; 56], strides: &[i64; 24], table: &mut [u32]) -> Verdict
+// The verdict on a packed card: the card's own checks, then the table's. Public, with a requires, for the
+// crate above, which packs a card from plain numbers.
+pub fn judge_packed(numbers: &[u64; 56], strides: &[i64; 24], table: &mut [u32]) -> Verdict
     requires { ⌜ Whole (now numbers) (now strides) ⌝ }
     ensures { λ r. ⌜ VerdictPromise (cardOf (now (numbers .entry)) (now (strides .entry))) (now (table .entry)) (now (table .exit)) r ⌝ }
 {

@@ -1,10 +1,12 @@
--- `urszovely::urszovely_admit` answers what the library's question answers, in its four numbers.
+-- `urszovely::urszovely_admit` answers what the library's question answers of the card that it packs, in its four numbers.
 use borrow.Author.Needs.{needs}
 use Rattle.urszovely.proofs.urszovely_admit.Statement.{statement}
 use Rattle.urszovely.proofs.urszovely_admit.Tie as tie
 
 returns : tie.Need-returns
-returns c = rw (c .four .ensures, c .before .admission-numbers .ensures, c .before .before .admit .ensures, c .before .before .before .card .ensures)
+returns c =
+    let a = c .before .before in
+    rw (c .four .ensures, c .before .admission-numbers .ensures, a .admit-packed .ensures, a .before .before .before .pack .ensures .same-card)
 
 pub urszovely-admit-spec : {M : Type 1} → statement M
 urszovely-admit-spec = tie.close (tie.spec (λ c κs. search needs) (λ c κs. search needs) (λ c κs. search needs) (λ c κs. search needs) returns)

@@ -1,4 +1,4 @@
--- `urszovely::urszovely_place` answers what the library's question answers, in its four numbers.
+-- `urszovely::urszovely_place` answers what the library's question answers of the card that it packs, in its four numbers.
 use mathlib.Core.Path.{sym}
 use borrow.Author.Needs.{needs}
 use Rattle.urszovely.proofs.urszovely_place.Statement.{statement}
@@ -10,10 +10,10 @@ returns c =
     let p = n .before .before .before in
     let two = p .before .before in
     let one = two .before in
-    let k = one .before in
+    let k = one .before .before .before in
     record {
-      placement = p .place .result;
-      allowed = rw (sym (k .card .ensures), sym (one .tuple .ensures), sym (two .tuple2 .ensures)) (p .place .ensures);
+      placement = p .place-packed .result;
+      allowed = rw (sym (k .pack .ensures .same-card), sym (one .tuple .ensures), sym (two .tuple2 .ensures)) (p .place-packed .ensures);
       numbers = rw (c .four .ensures, n .placement-numbers .ensures);
     }
 

@@ -1,4 +1,4 @@
--- `urszovely::urszovely_verdict` answers what the library's question answers, in its four numbers.
+-- `urszovely::urszovely_verdict` answers what the library's question answers of the card that it packs, in its four numbers.
 use mathlib.Core.Path.{sym}
 use borrow.Author.Needs.{needs}
 use Rattle.urszovely.proofs.urszovely_verdict.Statement.{statement}
@@ -8,10 +8,10 @@ returns : tie.Need-returns
 returns c =
     let n = c .before in
     let j = n .before .before .before in
-    let k = j .before .before in
+    let k = j .before .before .before .before in
     record {
-      verdict = j .judge .result;
-      allowed = rw (sym (k .card .ensures)) (j .judge .ensures);
+      verdict = j .judge-packed .result;
+      allowed = rw (sym (k .pack .ensures .same-card)) (j .judge-packed .ensures);
       numbers = rw (c .four .ensures, n .verdict-numbers .ensures);
     }
 
