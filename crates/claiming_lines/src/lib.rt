@@ -8,6 +8,9 @@ ghost use Prim.Native.Nat.{ℕ, _+_, _<_};
 ghost use lib.ListN.{getD};
 ghost use Rattle.claiming_lines.specs.Lines.{Lined, lineCell, LineThere, StretchThere};
 
+// So many cells at most are claimed one by one.
+const FEW: u64 = 4;
+
 // Whether a stretch of the table is nobody's.
 fn is_free(table: &[u32], from: usize, many: usize) -> bool
     requires { ⌜ StretchThere 0 from many (now table) ⌝ }
@@ -77,8 +80,8 @@ fn claim_cells(
     true
 }
 
-// Claims a line: as a stretch where its cells follow each other. Public, with a requires, for the crate
-// above.
+// Claims a line: as a stretch where its cells follow each other and are more than a few, which are
+// quicker cell by cell. Public, with a requires, for the crate above.
 pub fn claim_line(
     by: Swizzle,
     start: Place,
@@ -90,7 +93,7 @@ pub fn claim_line(
     requires { ⌜ LineThere by start step first many (now table) ⌝ }
     ensures { λ r. ⌜ (r ≡ true → Lined (lineCell by start step) (λ j. first + j) many (now (table .entry)) (now (table .exit))) ⌝ }
 {
-    if (by.b == 0) & (step.level + step.m == 1) {
+    if (FEW < many) & (by.b == 0) & (step.level + step.m == 1) {
         return claim_stretch(
             table,
             (start.level + start.m) as usize,

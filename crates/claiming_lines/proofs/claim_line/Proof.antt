@@ -1,11 +1,11 @@
--- `claiming_lines::claim_line` takes a line without swizzle whose step is 1 as a stretch, and any other cell by cell.
+-- `claiming_lines::claim_line` takes a line of more than four cells without swizzle whose step is 1 as a stretch, and any other cell by cell.
 use mathlib.Core.Path.{_≡_, sym, ap, ap₂, _∙_}
 use mathlib.Core.Bool.{true, _&&_, and-eq-true-iff}
 use Prim.Native.Nat.{ℕ, _+_, _^_, _<_}
 use native.Mathlib.Omega.{arith}
 use borrow.Author.Needs.{needs}
 use borrow.Author.Tests.{eqb-true}
-use lib.Dec.{eqb}
+use lib.Dec.{eqb, ltb}
 use lib.IntN.{ℤ, pos, _+ℤ_}
 use mir.Syntax.{w64}
 use mir.Val.{toZ, ofZ, SFits}
@@ -35,16 +35,19 @@ module _ (c : tie.After-struct-told) where
   step-sum = rw step-is (step-fits (s .args .step .level) (s .args .step .m) (omega (arith, s .pre .step-near .0)) (s .pre .step-near .1))
 
   -- what the test says
-  module _ (e : (eqb (s .args .by .b) 0 && eqb (ofZ w64 adds-step) 1) ≡ true) where
+  module _ (e : ((ltb 4 (s .args .many) && eqb (s .args .by .b) 0) && eqb (ofZ w64 adds-step) 1) ≡ true) where
+    both : ((ltb 4 (s .args .many) && eqb (s .args .by .b) 0) ≡ true) × (eqb (ofZ w64 adds-step) 1 ≡ true)
+    both = and-eq-true-iff (ltb 4 (s .args .many) && eqb (s .args .by .b) 0) (eqb (ofZ w64 adds-step) 1) .0 e
+
     straight : s .args .by .b ≡ 0
-    straight = eqb-true (s .args .by .b) 0 (and-eq-true-iff (eqb (s .args .by .b) 0) (eqb (ofZ w64 adds-step) 1) .0 e .0)
+    straight = eqb-true (s .args .by .b) 0 (and-eq-true-iff (ltb 4 (s .args .many)) (eqb (s .args .by .b) 0) .0 (both .0) .1)
 
     one : s .args .step .level +ℤ s .args .step .m ≡ pos 1
     one =
         let reads : toZ w64 1 ≡ pos 1 = toZ-pos w64 (omega arith) in
         sym step-is
         ∙ sym (toZ-ofZ step-sum)
-        ∙ ap (toZ w64) (eqb-true (ofZ w64 adds-step) 1 (and-eq-true-iff (eqb (s .args .by .b) 0) (eqb (ofZ w64 adds-step) 1) .0 e .1))
+        ∙ ap (toZ w64) (eqb-true (ofZ w64 adds-step) 1 (both .1))
         ∙ reads
 
 -- the stretch
@@ -55,7 +58,7 @@ module _ (c : tie.After-struct-told2) where
   abbrev q : tie.Start
   q = s told
 
-  abbrev tested : (eqb (q .args .by .b) 0 && eqb (ofZ w64 (adds-step told)) 1) ≡ true
+  abbrev tested : ((ltb 4 (q .args .many) && eqb (q .args .by .b) 0) && eqb (ofZ w64 (adds-step told)) 1) ≡ true
   tested = c .before .before .before .if1 .taken
 
   abbrev begin : ℕ
