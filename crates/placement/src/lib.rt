@@ -82,6 +82,31 @@ fn place_copies(numbers: &[u64; 56], strides: &[i64; 24], flat: Flat, memory: &m
     outside
 }
 
+// The same for a card with one copy of each element, without a row of 64.
+fn place_single(numbers: &[u64; 56], strides: &[i64; 24], flat: Flat, memory: &mut [u32]) -> u64
+    requires { ⌜ Admits (now numbers) (now strides) × (length (now memory) ≡ copies (cardOf (now numbers) (now strides))) × (length (now memory) ≡ 1) ⌝ }
+    ensures { λ r. ⌜ Placed (cardOf (now (numbers .entry)) (now (strides .entry))) (flat .0) (now (memory .entry)) (now (memory .exit)) r ⌝ }
+{
+    let mut single = [0u32; 1];
+    let smallest = copies::place_row(numbers, strides, flat, &mut single);
+    if smallest < copies::AXES {
+        return smallest;
+    }
+    memory[0] = single[0];
+    smallest
+}
+
+// Either of the two.
+fn place_cells(numbers: &[u64; 56], strides: &[i64; 24], flat: Flat, memory: &mut [u32]) -> u64
+    requires { ⌜ Admits (now numbers) (now strides) × (length (now memory) ≡ copies (cardOf (now numbers) (now strides))) ⌝ }
+    ensures { λ r. ⌜ Placed (cardOf (now (numbers .entry)) (now (strides .entry))) (flat .0) (now (memory .entry)) (now (memory .exit)) r ⌝ }
+{
+    if memory.len() == 1 {
+        return place_single(numbers, strides, flat, memory);
+    }
+    place_copies(numbers, strides, flat, memory)
+}
+
 // The placement of one element of a packed card. Public, with a requires, for the crate above, which packs a
 // card from plain numbers.
 pub fn place_packed(
@@ -111,7 +136,7 @@ pub fn place_packed(
         return Placement::Refused(Refusal::TooShort { needed: copies });
     }
     let end = copies as usize;
-    let axis = place_copies(numbers, strides, flat, &mut memory[..end]);
+    let axis = place_cells(numbers, strides, flat, &mut memory[..end]);
     if axis < copies::AXES {
         return Placement::Refused(Refusal::CopyOutside { flat, axis });
     }

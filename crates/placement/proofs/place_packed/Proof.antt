@@ -109,13 +109,13 @@ returns-4 c =
     too-short (asked s) (s .args .shape) (s .args .coordinates) (s .args .memory .now) (admitted e) (shape-fits (shape-of k)) (flat-of k) (name-it k)
     _ (is-copies e) (c .if2 .taken)
 
-slice-aggregate-place-copies : tie.Need-slice-aggregate-place-copies
-slice-aggregate-place-copies c =
+slice-aggregate-place-cells : tie.Need-slice-aggregate-place-cells
+slice-aggregate-place-cells c =
     let two = c .before in
     sym (length-take-le _ (start (told (two .before .before)) .args .memory .now) (two .if2 .left))
 
-place-copies-requires : tie.Need-place-copies-requires
-place-copies-requires c κs =
+place-cells-requires : tie.Need-place-cells-requires
+place-cells-requires c κs =
     let two = c .before in
     let e = told (two .before .before) in
     (admits e, length-take-le _ (start e .args .memory .now) (two .if2 .left) ∙ is-copies e)
@@ -129,9 +129,9 @@ returns-5 c =
     let s = start e in
     let n = getD (s .args .numbers .now) 46 0 in
     let memory = s .args .memory .now in
-    rw (ap (λ (l : List ℕ). l ++ drop n memory) (p .place-copies .ensures .refused (c .if3 .taken)) ∙ take-append-drop n memory)
+    rw (ap (λ (l : List ℕ). l ++ drop n memory) (p .place-cells .ensures .refused (c .if3 .taken)) ∙ take-append-drop n memory)
     (lies-outside (asked s) (s .args .shape) (s .args .coordinates) memory (admitted e) (shape-fits (shape-of k)) (flat-of k) (name-it k)
-    n (p .place-copies .result) (is-copies e) (two .if2 .left) (p .place-copies .ensures .smallest-axis) (c .if3 .taken))
+    n (p .place-cells .result) (is-copies e) (two .if2 .left) (p .place-cells .ensures .smallest-axis) (c .if3 .taken))
 
 returns-6 : tie.Need-returns-6
 returns-6 c =
@@ -142,12 +142,12 @@ returns-6 c =
     let s = start e in
     let n = getD (s .args .numbers .now) 46 0 in
     copied (asked s) (s .args .shape) (s .args .coordinates) (s .args .memory .now) (admitted e) (shape-fits (shape-of k)) (flat-of k) (name-it k)
-    n (p .place-copies .result) (is-copies e) (two .if2 .left) (p .place-copies .ensures .smallest-axis) (c .if3 .left)
-    (ap (λ (l : List ℕ). l ++ drop n (s .args .memory .now)) (p .place-copies .ensures .placed (c .if3 .left)))
+    n (p .place-cells .result) (is-copies e) (two .if2 .left) (p .place-cells .ensures .smallest-axis) (c .if3 .left)
+    (ap (λ (l : List ℕ). l ++ drop n (s .args .memory .now)) (p .place-cells .ensures .placed (c .if3 .left)))
 
 pub place-packed-spec : {M : Type 1} → statement M
 place-packed-spec =
     tie.close
     (tie.spec (λ c κs. search needs) (λ c. search needs) returns (λ c. search needs) (λ c. search needs) is-admitted-requires returns-2
     flatten-requires (λ c. search needs) (λ c. search needs) returns-3 (λ c. search needs) returns-4 (λ c. search needs)
-    slice-aggregate-place-copies place-copies-requires (λ c. search needs) returns-5 (λ c. search needs) returns-6)
+    slice-aggregate-place-cells place-cells-requires (λ c. search needs) returns-5 (λ c. search needs) returns-6)
