@@ -1,2 +1,1 @@
-// The owner of a cell and the placement of an element say the same, both ways: proofs/Theorems.antt. There are no
-// functions.
+// The owner of a cell and the placement of an element say the same, both ways: theorems alone, in proofs/Theorems.antt. There are no functions.

@@ -1,5 +1,4 @@
-// The vocabulary of answers: element index and cell number as kinds of their own, the refusals, and
-// the plain numbers in which an answer leaves the library.
+// The vocabulary of answers: flat index and cell number as kinds of their own, the refusals, and the plain numbers in which an answer leaves the library.
 ghost use mathlib.Core.Path.{_≡_};
 ghost use Rattle.answers.specs.Refusals.{answer, refusalNumbers};
 

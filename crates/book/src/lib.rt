@@ -1,4 +1,5 @@
-// The layout book: what reading and writing a block answer, and where its parts stand. There are no functions; the definitions are in specs/.
+// The layout book: the 512 bytes of a card with a note, what a block holds, and the orders of reading and writing; any changed byte is noticed.
+// Here are the answers and where the parts of a block stand; the definitions are in specs/. There are no functions.
 use answers::Refusal;
 use card::Card;
 

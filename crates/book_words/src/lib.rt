@@ -1,4 +1,4 @@
-// The first 216 bytes of a block as 54 words of four bytes.
+// The first 216 bytes of a card's block as 54 words of four bytes.
 use card::Card;
 use card::Iter;
 use card::Iters;

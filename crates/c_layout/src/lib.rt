@@ -1,4 +1,4 @@
-// A layout that was read as plain numbers, for C: the first 46 of the 57 of a card, and its marks as one.
+// A layout that was read as plain numbers, for C and for desk: the first 46 of the 57 of a card, and its marks as one.
 use card::Iters;
 use notation::Layout;
 ghost use mathlib.Core.Path.{_≡_};

@@ -1,4 +1,4 @@
-// A shape, or coordinates, as plain numbers, for C.
+// A shape, or coordinates, as plain numbers, for C and for desk.
 use placement_judged::Tuple;
 ghost use mathlib.Core.Path.{_≡_};
 ghost use Rattle.c_tuple.specs.Tuple.{tupleFrom};

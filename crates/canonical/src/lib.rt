@@ -1,5 +1,5 @@
-// The canonical shared-memory layouts: the numbers that name one, the card that is built for it, and what is reported. There are no
-// functions.
+// The canonical shared-memory layouts of source document 001 by one rule: the numbers that name one, the card that is built for it, and what is reported.
+// There are no functions.
 use card::Admission;
 use card::Card;
 use judgement::Verdict;

@@ -1,5 +1,4 @@
-// The card of a canonical shared-memory layout, built from what is asked: the checks of request 7, then the iters of source document 001's
-// table.
+// The card of a canonical shared-memory layout, built from what is asked: the checks of request 7, then the iters of source document 001's table.
 use answers::Refusal;
 use canonical::Built;
 use canonical::Canonical;

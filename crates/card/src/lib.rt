@@ -1,4 +1,4 @@
-// The layout card by value, the answer of its admission, and where its numbers stand when it is packed.
+// The layout card and checks 1 to 6: the card by value, the answer of its admission, and where its numbers stand when it is packed. There are no functions.
 use answers::Refusal;
 use swizzle::Swizzle;
 

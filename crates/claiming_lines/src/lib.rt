@@ -1,5 +1,5 @@
-// Lines of cells in an owner table: so many elements that follow each other, one copy of each. A line
-// is claimed where every cell of it is nobody's; else it is left, with some of its cells written.
+// Lines of cells in an owner table, one copy of each of some elements that follow each other, claimed where every cell is nobody's.
+// Else a line is left, with some of its cells written.
 use runs::Place;
 use swizzle::Swizzle;
 ghost use mathlib.Core.Path.{_≡_};

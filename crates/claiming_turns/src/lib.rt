@@ -1,5 +1,5 @@
-// From one run of a packed card's elements to the next, by an odometer over the iters that are slower than
-// the run's: one digit for each, and how far one step of it moves level and m.
+// From one run of a packed card's elements to the next, by an odometer over the iters that are slower than the run's.
+// It has one digit for each, and how far one step of it moves level and m.
 use runs::Place;
 ghost use mathlib.Core.Path.{_≡_};
 ghost use mathlib.Core.List.{List};

@@ -1,5 +1,4 @@
-// From element to cell on a packed card: one walk over the iters, the swizzle of m, the number among the
-// lengths, and the row of an element's copies.
+// From element to cell on a packed card: one walk over the iters, the swizzle of m, the number among the lengths, and the row of an element's copies.
 use answers::Cell;
 use answers::Flat;
 use rules::Position;

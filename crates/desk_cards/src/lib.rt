@@ -1,5 +1,4 @@
-// The words of the program desk that ask of a card and of no owner table: the placement of an element, the layout
-// notation and the layout book.
+// The words of the program desk that ask of a card and of no owner table: the placement of an element, the layout notation and the layout book.
 pub mod books;
 pub mod cards;
 pub mod notations;

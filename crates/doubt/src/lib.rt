@@ -1,5 +1,4 @@
-// The first element that leaves the space on m where the swizzle leaves it in doubt: m of one element after
-// the other, in runs.
+// The first element that leaves the space on m where the swizzle leaves it in doubt: m of one element after the other, in runs.
 ghost use Prim.Native.Nat.{_+_, _≤_, _<_};
 ghost use mathlib.Core.Path.{_≡_};
 ghost use mathlib.Core.Bool.{true};

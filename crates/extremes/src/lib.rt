@@ -1,5 +1,4 @@
-// The first element of which a copy strays from a bound on an axis, found from the slowest iter on
-// without a look at the others.
+// The first element of which a copy strays from a bound on an axis, found from the slowest iter on without a look at the others.
 ghost use Prim.Native.Nat.{_≤_, min};
 ghost use mathlib.Core.Path.{_≡_};
 ghost use lib.IntN.{natAbs};

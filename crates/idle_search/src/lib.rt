@@ -1,5 +1,4 @@
-// The search for idle copies on a packed card, and the admission with which verdict, owner and placement
-// begin.
+// The search for idle copies on a packed card, and the admission with which verdict, owner and placement begin.
 use answers::Refusal;
 use card::Admission;
 use card::Card;

@@ -1,2 +1,2 @@
-// What the verdict and the owner of a cell mean without a definition that tests: demand 3 in inequalities and whole
-// numbers, proofs/PlainDemand.antt, and each number by itself, proofs/EachNumber.antt. There are no functions.
+// What the verdict and the owner of a cell mean without a definition that tests: demand 3 in inequalities and whole numbers, and each number by itself.
+// The theorems are in proofs/PlainDemand.antt and proofs/EachNumber.antt. There are no functions.

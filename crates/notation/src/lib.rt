@@ -1,4 +1,5 @@
-// The layout notation: what reading and writing answer, and where in a text its reader stands. Types alone; the definitions are in specs/.
+// The layout notation: its grammar, what a text says, how a card is written, and why a reader can find the longest beginning.
+// Here are what reading and writing answer, and where in a text the reader stands: types alone; the definitions are in specs/.
 use answers::Refusal;
 use card::Iters;
 

@@ -1,5 +1,4 @@
-// The first element of which a copy lies outside the space, and the smallest axis for it, without a pass
-// over the elements.
+// The first element of which a copy lies outside the space, and the smallest axis for it, without a pass over the elements.
 use answers::Flat;
 ghost use Prim.Native.Nat.{_+_, _<_};
 ghost use lib.ListN.{getD};

@@ -1,5 +1,5 @@
-// The owner table, lent as exactly the cells: per cell the flat index plus 1, or 0 for nobody. Public,
-// with a requires, only for the crates above, which place the rows. Between the calls for two elements
+// The cells of a lent owner table, cleared, and claimed a row at a time: per cell the flat index plus 1, or 0 for nobody.
+// The table is lent as exactly the cells. Public, with a requires, only for the crates above, which place the rows. Between the calls for two elements
 // nothing is kept but the table.
 use answers::Cell;
 use answers::Flat;

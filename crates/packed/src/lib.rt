@@ -1,4 +1,4 @@
-// A card packed into two arrays of numbers.
+// A card packed once into two arrays of numbers.
 use card::Card;
 use card::Iters;
 ghost use mathlib.Core.Path.{_≡_};

@@ -1,4 +1,4 @@
-// What the placement of one element comes to: a shape, coordinates in it, and the answer.
+// What the placement of one element comes to, in the order of checks: a shape, coordinates in it, and the answer. There are no functions.
 use answers::Refusal;
 
 // A counted list of numbers: a shape, or coordinates in one.

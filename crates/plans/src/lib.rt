@@ -1,1 +1,2 @@
-// Plans of copies from cell to cell, over any two owner tables: definitions in specs/, laws in proofs/. There are no functions.
+// A carrier's plan over any two tables of owners: its copies in order, the first copy outside, the first wrong cell, the planner's plan.
+// Definitions are in specs/, laws in proofs/. There are no functions.

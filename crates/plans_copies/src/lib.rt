@@ -1,5 +1,6 @@
-// Move plans over lent tables of one space, each table of exactly its cells: a plan's numbers are two a copy, from cell and
-// then to cell. Public, with a requires, only for the crates above, which judge the two cards.
+// Plans over lent tables of one space: the searches, the copies run, the plan written in its own memory.
+// Each table is of exactly its cells; a plan's numbers are two a copy, from cell and then to cell. Public, with a requires, only for the crates
+// above, which judge the two cards.
 ghost use mathlib.Core.Path.{_≡_};
 ghost use Prim.Native.Nat.{_+_, _*_, _≤_};
 ghost use lib.Dec.{ltb};

@@ -1,5 +1,5 @@
-// What two cards and a plan between them come to: the answers to checking a carrier's plan and to writing one. Definitions
-// in specs/, theorems in proofs/. There are no functions.
+// What two cards and a plan between them come to, in the order of checks: the answers to checking a carrier's plan and to writing one.
+// Definitions are in specs/, theorems in proofs/. There are no functions.
 use answers::Refusal;
 
 // The answer to checking a plan.

@@ -1,5 +1,5 @@
-// Two cards of one space and two lent tables, before a plan between them is looked at: the space, the tables, both
-// verdicts, reuse marks, elements. Public for the crate above.
+// Two cards of one space and two lent tables, before a plan between them is looked at: the space, the tables, both verdicts, reuse marks, elements.
+// Public for the crate above.
 use answers::Refusal;
 use card::Card;
 use judgement::Verdict;

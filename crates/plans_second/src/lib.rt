@@ -1,5 +1,5 @@
-// What the second card is asked beside the first, before a plan between them is looked at: the same lengths, its verdict, no reuse
-// mark on either, as many elements. Public for the crates above.
+// What the second card is asked beside the first, before a plan is looked at: the same lengths, its verdict, no reuse mark on either, as many elements.
+// Public for the crates above.
 use answers::Refusal;
 use card::Card;
 use judgement::Verdict;

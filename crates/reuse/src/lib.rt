@@ -1,4 +1,4 @@
-// Which elements lead: of those that differ only in marked components, the smallest.
+// Which elements lead, on a packed card: of those that differ only in marked components, the smallest.
 use answers::Flat;
 ghost use mathlib.Core.Path.{_≡_};
 ghost use mathlib.Core.Bool.{false};

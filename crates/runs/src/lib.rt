@@ -1,5 +1,5 @@
-// The cells of a packed card's copies in runs: an element begins at a level, the number of its sums
-// without m, and at an m; in a run both grow by one step, and each copy adds its own.
+// The cells of a packed card's copies in runs, by level and m: what a step and each copy add, and a row filled by it.
+// An element begins at a level, the number of its sums without m, and at an m; in a run both grow by one step, and each copy adds its own.
 use swizzle::Swizzle;
 ghost use mathlib.Core.Path.{_≡_};
 ghost use mathlib.Core.Bool.{true};

@@ -1,4 +1,4 @@
-// Reading and writing a block of the layout book.
+// Reading and writing a block of the layout book, the note a part of the block.
 use answers::Numbers;
 use answers::Refusal;
 use book::Answer;

@@ -1,4 +1,4 @@
-// What a stretch of a lent owner table comes to: the cells under one prefix of axis coordinates.
+// What a stretch of a lent owner table comes to, in the order of checks: the cells under one prefix of axis coordinates. There are no functions.
 use answers::Cell;
 use answers::Refusal;
 
