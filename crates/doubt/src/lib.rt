@@ -1,4 +1,5 @@
 // The first element that leaves the space on m where the swizzle leaves it in doubt: m of one element after the other, in runs.
+use answers::Flat;
 ghost use Prim.Native.Nat.{_+_, _≤_, _<_};
 ghost use mathlib.Core.Path.{_≡_};
 ghost use mathlib.Core.Bool.{true};
@@ -93,20 +94,21 @@ fn first_of_run(numbers: &[u64; 56], adds: &[i64], base: i64, step: i64, count: 
     count
 }
 // The first element from a place on that leaves on m, or the limit: run by run, by what the copies add.
-fn first_m(numbers: &[u64; 56], strides: &[i64; 24], adds: &[i64], from: u64, limit: u64) -> u64
-    requires { ⌜ Doubted (now numbers) (now strides) (now adds) × Between (now numbers) (now strides) from limit × (from ≤ limit) ⌝ }
-    ensures { λ r. ⌜ Sought (λ f. Leaves (cardOf (now (numbers .entry)) (now (strides .entry))) f lastAxis) limit r ⌝ }
+fn first_m(numbers: &[u64; 56], strides: &[i64; 24], adds: &[i64], from: Flat, limit: Flat) -> Flat
+    requires { ⌜ Doubted (now numbers) (now strides) (now adds) × Between (now numbers) (now strides) (from .0) (limit .0) × (from .0 ≤ limit .0) ⌝ }
+    ensures { λ r. ⌜ Sought (λ f. Leaves (cardOf (now (numbers .entry)) (now (strides .entry))) f lastAxis) (limit .0) (r .0) ⌝ }
 {
     let run = runs::run_length(numbers);
     let step = m_sum(numbers, strides, card::SHARD, 1);
-    let mut flat = from;
-    while flat < limit {
-        let count = extremes::smaller(run - flat % run, limit - flat);
+    let end = limit.0;
+    let mut flat = from.0;
+    while flat < end {
+        let count = extremes::smaller(run - flat % run, end - flat);
         let base = m_sum(numbers, strides, card::SHARD, flat);
         let found = first_of_run(numbers, adds, base, step, count);
         flat = flat + found;
         if found < count {
-            return flat;
+            return Flat(flat);
         }
     }
     limit
@@ -117,12 +119,12 @@ fn first_by_adds(
     numbers: &[u64; 56],
     strides: &[i64; 24],
     adds: &mut [i64],
-    from: u64,
-    limit: u64,
-) -> u64
-    requires { ⌜ Admits (now numbers) (now strides) × Between (now numbers) (now strides) from limit × (from ≤ limit) ⌝ }
+    from: Flat,
+    limit: Flat,
+) -> Flat
+    requires { ⌜ Admits (now numbers) (now strides) × Between (now numbers) (now strides) (from .0) (limit .0) × (from .0 ≤ limit .0) ⌝ }
     requires { ⌜ length (now adds) ≡ copies (cardOf (now numbers) (now strides)) ⌝ }
-    ensures { λ r. ⌜ Sought (λ f. Leaves (cardOf (now (numbers .entry)) (now (strides .entry))) f lastAxis) limit r ⌝ }
+    ensures { λ r. ⌜ Sought (λ f. Leaves (cardOf (now (numbers .entry)) (now (strides .entry))) f lastAxis) (limit .0) (r .0) ⌝ }
 {
     put_adds(numbers, strides, adds);
     first_m(numbers, strides, adds, from, limit)
@@ -130,11 +132,11 @@ fn first_by_adds(
 
 // The first element below a limit that leaves on m, or the limit, where none before a place does. Public,
 // with a requires, for the crate above.
-pub fn first_leaving(numbers: &[u64; 56], strides: &[i64; 24], from: u64, limit: u64) -> u64
-    requires { ⌜ Admits (now numbers) (now strides) × Between (now numbers) (now strides) from limit ⌝ }
-    ensures { λ r. ⌜ Sought (λ f. Leaves (cardOf (now (numbers .entry)) (now (strides .entry))) f lastAxis) limit r ⌝ }
+pub fn first_leaving(numbers: &[u64; 56], strides: &[i64; 24], from: Flat, limit: Flat) -> Flat
+    requires { ⌜ Admits (now numbers) (now strides) × Between (now numbers) (now strides) (from .0) (limit .0) ⌝ }
+    ensures { λ r. ⌜ Sought (λ f. Leaves (cardOf (now (numbers .entry)) (now (strides .entry))) f lastAxis) (limit .0) (r .0) ⌝ }
 {
-    if limit <= from {
+    if limit.0 <= from.0 {
         return limit;
     }
     let copies = numbers[card::COPIES] as usize;

@@ -1,4 +1,5 @@
 // The first element of which a copy strays from a bound on an axis, found from the slowest iter on without a look at the others.
+use answers::Flat;
 ghost use Prim.Native.Nat.{_≤_, min};
 ghost use mathlib.Core.Path.{_≡_};
 ghost use lib.IntN.{natAbs};
@@ -86,14 +87,14 @@ fn first_over(
     bound: u64,
     upwards: bool,
     over: i64,
-) -> u64
+) -> Flat
     requires { ⌜ Over (now numbers) (now strides) axis bound upwards over ⌝ }
-    ensures { λ r. ⌜ Sought (Reaches upwards (cardOf (now (numbers .entry)) (now (strides .entry))) axis bound) (elements (cardOf (now (numbers .entry)) (now (strides .entry)))) r ⌝ }
+    ensures { λ r. ⌜ Sought (Reaches upwards (cardOf (now (numbers .entry)) (now (strides .entry))) axis bound) (elements (cardOf (now (numbers .entry)) (now (strides .entry)))) (r .0) ⌝ }
 {
     if over < 0 {
-        return numbers[card::ELEMENTS];
+        return Flat(numbers[card::ELEMENTS]);
     }
-    first_within(numbers, strides, card::SHARD, axis, upwards, over as u64)
+    Flat(first_within(numbers, strides, card::SHARD, axis, upwards, over as u64))
 }
 
 // The first element of which a copy does not lie from 0 to below a bound on an axis, or as many as there
@@ -105,11 +106,11 @@ pub fn first_astray(
     bound: u64,
     low: i64,
     high: i64,
-) -> u64
+) -> Flat
     requires { ⌜ Ended (now numbers) (now strides) axis bound low high ⌝ }
-    ensures { λ r. ⌜ Sought (Strays (cardOf (now (numbers .entry)) (now (strides .entry))) axis bound) (elements (cardOf (now (numbers .entry)) (now (strides .entry)))) r ⌝ }
+    ensures { λ r. ⌜ Sought (Strays (cardOf (now (numbers .entry)) (now (strides .entry))) axis bound) (elements (cardOf (now (numbers .entry)) (now (strides .entry)))) (r .0) ⌝ }
 {
     let above = first_over(numbers, strides, axis, bound, true, high - bound as i64);
     let below = first_over(numbers, strides, axis, bound, false, -1 - low);
-    smaller(above, below)
+    Flat(smaller(above.0, below.0))
 }

@@ -19,13 +19,13 @@ const M: usize = card::LAST_AXIS as usize;
 
 // The first element that leaves on an axis other than m, or as many as there are: none where the far ends
 // lie inside on it.
-fn first_on_axis(numbers: &[u64; 56], strides: &[i64; 24], axis: usize, low: i64, high: i64) -> u64
+fn first_on_axis(numbers: &[u64; 56], strides: &[i64; 24], axis: usize, low: i64, high: i64) -> Flat
     requires { ⌜ EndedOn (now numbers) (now strides) axis (getD (now numbers) (32 + axis) 0) low high × (axis < 7) ⌝ }
-    ensures { λ r. ⌜ Sought (λ f. Leaves (cardOf (now (numbers .entry)) (now (strides .entry))) f axis) (elements (cardOf (now (numbers .entry)) (now (strides .entry)))) r ⌝ }
+    ensures { λ r. ⌜ Sought (λ f. Leaves (cardOf (now (numbers .entry)) (now (strides .entry))) f axis) (elements (cardOf (now (numbers .entry)) (now (strides .entry)))) (r .0) ⌝ }
 {
     let length = numbers[card::LENGTHS + axis];
     if (0 <= low) & (high < length as i64) {
-        return numbers[card::ELEMENTS];
+        return Flat(numbers[card::ELEMENTS]);
     }
     extremes::first_astray(numbers, strides, axis as u64, length, low, high)
 }
@@ -39,7 +39,7 @@ fn first_on_axes(numbers: &[u64; 56], strides: &[i64; 24], low: &[i64; 8], high:
     let mut axis: usize = 0;
     while axis < M {
         let flat = first_on_axis(numbers, strides, axis, low[axis], high[axis]);
-        word = extremes::smaller(word, copies::AXES * flat + axis as u64);
+        word = extremes::smaller(word, copies::AXES * flat.0 + axis as u64);
         axis += 1;
     }
     word
@@ -55,10 +55,10 @@ fn first_of_all(numbers: &[u64; 56], strides: &[i64; 24], low: &[i64; 8], high: 
     let whole = reach::whole_blocks(numbers);
     let from = extremes::first_astray(numbers, strides, card::LAST_AXIS, whole, low[M], high[M]);
     if whole == numbers[card::LENGTHS + M] {
-        return extremes::smaller(word, copies::AXES * from + card::LAST_AXIS);
+        return extremes::smaller(word, copies::AXES * from.0 + card::LAST_AXIS);
     }
-    let flat = doubt::first_leaving(numbers, strides, from, word / copies::AXES);
-    extremes::smaller(word, copies::AXES * flat + card::LAST_AXIS)
+    let flat = doubt::first_leaving(numbers, strides, from, Flat(word / copies::AXES));
+    extremes::smaller(word, copies::AXES * flat.0 + card::LAST_AXIS)
 }
 
 // What lies outside the space: nothing where the card's far ends lie inside, and else the first element

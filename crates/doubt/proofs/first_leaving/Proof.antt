@@ -27,11 +27,11 @@ long s = length-take-le (count s) (replicate 64 (pos 0)) (few s)
 first-by-adds-requires : tie.Need-first-by-adds-requires
 first-by-adds-requires c κs =
     let e = c .before .before in
-    let s = e .before in
+    let s = e .before .before .before in
     ((s .pre .0, s .pre .1, omega (arith, e .if1 .left)), long s ∙ measured (s .args .numbers .now) (s .args .strides .now) (s .pre .0) .copies-are)
 
 pub first-leaving-spec : {M : Type 1} → statement M
 first-leaving-spec =
     tie.close
-    (tie.spec (λ c. let s = c .before in sought-none (λ j h. s .pre .1 .none-before j (omega (arith, c .if1 .taken)))) (λ c. search needs) (λ c. few (c .before .before))
-    (λ c. sym (long (c .before .before .before))) first-by-adds-requires (λ c. c .before .first-by-adds .ensures))
+    (tie.spec (λ c. let s = c .before .before .before in sought-none (λ j h. s .pre .1 .none-before j (omega (arith, c .if1 .taken)))) (λ c. search needs) (λ c. few (c .before .before .before .before))
+    (λ c. sym (long (c .before .before .before .before .before))) first-by-adds-requires (λ c. c .before .first-by-adds .ensures))

@@ -23,11 +23,11 @@ use Rattle.doubt.proofs.first_m.Statement.{statement}
 use Rattle.doubt.proofs.first_m.Tie as tie
 
 abbrev Inv-loop : tie.InvT-loop
-Inv-loop numbers strides adds from limit run step flat₀ flat =
-    (flat ≤ limit) × ((f : ℕ) → f < flat → Leaves (cardOf numbers strides) f lastAxis → ⊥)
+Inv-loop numbers strides adds limit run step end flat₀ flat =
+    (flat ≤ end) × ((f : ℕ) → f < flat → Leaves (cardOf numbers strides) f lastAxis → ⊥)
 
 abbrev μ-loop : tie.MeasureT-loop
-μ-loop numbers strides adds from limit run step flat₀ flat = limit - flat
+μ-loop numbers strides adds limit run step end flat₀ flat = end - flat
 
 abbrev start : tie.In-loop Inv-loop μ-loop → tie.Start Inv-loop μ-loop
 start t = t .before .before .before .before
@@ -47,16 +47,16 @@ some s =
 counted : (c : tie.After-smaller Inv-loop μ-loop)
     → let s = start (c .before) in
     let flat = c .before .before .loop .flat in
-    c .smaller .result ≡ min (length s - flat % length s) (s .args .limit - flat)
+    c .smaller .result ≡ min (length s - flat % length s) (s .args .limit .0 - flat)
 counted c =
     let s = start (c .before) in
     let flat = c .before .before .loop .flat in
-    c .smaller .ensures ∙ ap (λ (n : ℕ). min (n - flat % n) (s .args .limit - flat)) (c .before .before .before .before .run-length .ensures (s .args .strides .now))
+    c .smaller .ensures ∙ ap (λ (n : ℕ). min (n - flat % n) (s .args .limit .0 - flat)) (c .before .before .before .before .run-length .ensures (s .args .strides .now))
 
 several : (c : tie.After-smaller Inv-loop μ-loop) → 1 ≤ c .smaller .result
 several c = let t = c .before in omega (arith, counted c, t .loop-test .taken, mod-lt (t .before .loop .flat) (some (start t)))
 
-few : (c : tie.After-smaller Inv-loop μ-loop) → c .before .before .loop .flat + c .smaller .result ≤ start (c .before) .args .limit
+few : (c : tie.After-smaller Inv-loop μ-loop) → c .before .before .loop .flat + c .smaller .result ≤ start (c .before) .args .limit .0
 few c = omega (arith, counted c, c .before .loop-test .taken)
 
 -- m where it starts, and its step
@@ -96,7 +96,7 @@ returns : tie.Need-returns Inv-loop μ-loop
 returns c =
     let f = c .before in
     let t = f .before .before .before in
-    part-found (t .before .loop .flat) (f .before .before .smaller .result) (f .first-of-run .result) (t .before .loop .inv .1) (found f) (start t .args .limit)
+    part-found (t .before .loop .flat) (f .before .before .smaller .result) (f .first-of-run .result) (t .before .loop .inv .1) (found f) (start t .args .limit .0)
     (few (f .before .before)) (c .if1 .taken)
 
 loop-again : tie.Need-loop-again Inv-loop μ-loop
@@ -120,5 +120,5 @@ first-m-spec =
     (λ c. let e = c .before .before .before .run-length .ensures (start c .args .strides .now) in omega (arith, mod-lt (c .before .loop .flat) {m = c .before .before .before .run-length .result} (omega (arith, some (start c), e))))
     (λ c. omega arith) (λ c κs. search needs)
     (λ c κs. let s = start (c .before) in walkable-shard (s .args .numbers .now) (s .args .strides .now) (s .pre .0 .admits))
-    first-of-run-requires (λ c. let f = c in omega (arith, few (f .before .before), found f .most, start (f .before .before .before) .fits .limit)) returns
+    first-of-run-requires (λ f. let s = start (f .before .before .before) in omega (arith, few (f .before .before), found f .most, s .pre .1 .most, sized (card s) (s .pre .0 .admits .admitted) .most-elements)) returns
     (λ c. let f = c .before in omega (arith, several (f .before .before), few (f .before .before), c .if1 .left)) loop-again returns-2)

@@ -66,7 +66,7 @@ returns c =
     let s = c .before .before .before in
     let a = s .args in
     rw (c .smaller .ensures)
-    (first-astray (card s) (s .pre .admits .admitted) (a .axis) (a .bound) (c .before .before .first-over .result) (c .before .first-over2 .result)
+    (first-astray (card s) (s .pre .admits .admitted) (a .axis) (a .bound) (c .before .before .first-over .result .0) (c .before .first-over2 .result .0)
     (c .before .before .first-over .ensures) (c .before .first-over2 .ensures))
 
 pub first-astray-spec : {M : Type 1} → statement M

@@ -46,17 +46,17 @@ abbrev strayed : tie.After-first-astray → tie.After-whole-blocks
 strayed c = c .before .before .before
 
 -- the first that strays from the whole blocks is one of the elements, or past them
-early : (c : tie.After-first-astray) → c .first-astray .result ≤ 65536
+early : (c : tie.After-first-astray) → c .first-astray .result .0 ≤ 65536
 early c = omega (arith, c .first-astray .ensures .most, sizes (start (strayed c) .pre) .most-elements)
 
 returns : tie.Need-returns
 returns c =
-    let f = c .before .before .before in
+    let f = c .before .before .before .before in
     let w = strayed f in
     let s = start w in
     rw (c .smaller .ensures)
-    (word-more (card s) (w .before .first-on-axes .result) (f .first-astray .result) lastAxis (omega arith) (w .before .first-on-axes .ensures)
-    (leaves-on-m (s .pre) (f .first-astray .result) (w .whole-blocks .result) (w .whole-blocks .ensures) (c .before .if1 .taken) (f .first-astray .ensures)))
+    (word-more (card s) (w .before .first-on-axes .result) (f .first-astray .result .0) lastAxis (omega arith) (w .before .first-on-axes .ensures)
+    (leaves-on-m (s .pre) (f .first-astray .result .0) (w .whole-blocks .result) (w .whole-blocks .ensures) (c .before .before .if1 .taken) (f .first-astray .ensures)))
 
 first-leaving-requires : tie.Need-first-leaving-requires
 first-leaving-requires c κs =
@@ -64,24 +64,24 @@ first-leaving-requires c κs =
     let w = strayed f in
     let s = start w in (
       s .pre .admits,
-      none-before (s .pre) (f .first-astray .result) (w .before .first-on-axes .result / 8) (few w)
-          (subst (λ (n : ℕ). Sought (Strays (card s) lastAxis n) (elements (card s)) (f .first-astray .result)) (w .whole-blocks .ensures) (f .first-astray .ensures)),
+      none-before (s .pre) (f .first-astray .result .0) (w .before .first-on-axes .result / 8) (few w)
+          (subst (λ (n : ℕ). Sought (Strays (card s) lastAxis n) (elements (card s)) (f .first-astray .result .0)) (w .whole-blocks .ensures) (f .first-astray .ensures)),
     )
 
-small : (c : tie.After-first-leaving) → c .first-leaving .result ≤ 65536
+small : (c : tie.After-first-leaving) → c .first-leaving .result .0 ≤ 65536
 small c =
     let w = strayed (c .before .before .before) in
     omega (arith, c .first-leaving .ensures .most, few w, sizes (start w .pre) .most-elements)
 
 returns-2 : tie.Need-returns-2
 returns-2 c =
-    let f = c .before in
+    let f = c .before .before in
     let w = strayed (f .before .before .before) in
     rw (c .smaller2 .ensures)
-    (word-m (card (start w)) (w .before .first-on-axes .result) (f .first-leaving .result) (w .before .first-on-axes .ensures) (f .first-leaving .ensures))
+    (word-m (card (start w)) (w .before .first-on-axes .result) (f .first-leaving .result .0) (w .before .first-on-axes .ensures) (f .first-leaving .ensures))
 
 pub first-of-all-spec : {M : Type 1} → statement M
 first-of-all-spec =
     tie.close
     (tie.spec (λ c κs. search needs) (λ c κs. let s = c .before in spaced (s .args .numbers .now) (s .args .strides .now) (s .pre .admits)) (λ c. search needs) (λ c. search needs) first-astray-requires
-    (λ c. search needs) (λ c. search needs) (λ c. search needs) (λ c. omega (arith, early (c .before .before))) (λ c. omega (arith, early (c .before .before))) (λ c κs. search needs) returns first-leaving-requires (λ c. omega (arith, small c)) (λ c. omega (arith, small c)) (λ c κs. search needs) returns-2)
+    (λ c. search needs) (λ c. search needs) (λ c. search needs) (λ c. omega (arith, early (c .before .before .before))) (λ c. omega (arith, early (c .before .before .before))) (λ c κs. search needs) returns first-leaving-requires (λ c. omega (arith, small (c .before))) (λ c. omega (arith, small (c .before))) (λ c κs. search needs) returns-2)

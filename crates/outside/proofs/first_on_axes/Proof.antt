@@ -51,18 +51,18 @@ first-on-axis-requires c κs =
     )
     (ended-on (s .pre) axis (getD (a .numbers .now) (32 + axis) 0) (omega (arith, t .loop-test .taken)) (short-length (s .pre) axis (omega (arith, t .loop-test .taken))), t .loop-test .taken)
 
-small : (c : tie.After-first-on-axis Inv-loop μ-loop) → c .first-on-axis .result ≤ 65536
+small : (c : tie.After-first-on-axis Inv-loop μ-loop) → c .first-on-axis .result .0 ≤ 65536
 small c = let s = start (turn (c .before)) in omega (arith, c .first-on-axis .ensures .most, sizes (s .pre) .most-elements)
 
 loop-again : tie.Need-loop-again Inv-loop μ-loop
 loop-again c =
-    let f = c .before in
+    let f = c .before .before in
     let t = turn (f .before) in
     let s = start t in
     let l = t .before .loop in (
       omega (arith, t .loop-test .taken),
       rw (c .smaller .ensures)
-          (word-more (card s) (l .word) (f .first-on-axis .result) (l .axis) (omega (arith, t .loop-test .taken)) (l .inv .1) (f .first-on-axis .ensures)),
+          (word-more (card s) (l .word) (f .first-on-axis .result .0) (l .axis) (omega (arith, t .loop-test .taken)) (l .inv .1) (f .first-on-axis .ensures)),
     )
 
 returns : tie.Need-returns Inv-loop μ-loop
@@ -75,5 +75,5 @@ returns c =
 pub first-on-axes-spec : {M : Type 1} → statement M
 first-on-axes-spec =
     tie.close
-    (tie.spec Inv-loop μ-loop (λ c. search needs) (λ c. omega (arith, few (c .before))) loop-holds (λ c. omega arith) (λ c. omega arith) (λ c. omega arith) (λ c. omega arith) first-on-axis-requires (λ c. omega (arith, small c)) (λ c. omega (arith, small c, turn (c .before) .loop-test .taken)) (λ c κs. search needs) (λ c. omega arith)
+    (tie.spec Inv-loop μ-loop (λ c. search needs) (λ c. omega (arith, few (c .before))) loop-holds (λ c. omega arith) (λ c. omega arith) (λ c. omega arith) (λ c. omega arith) first-on-axis-requires (λ c. omega (arith, small (c .before))) (λ c. omega (arith, small (c .before), turn (c .before .before) .loop-test .taken)) (λ c κs. search needs) (λ c. omega arith)
     (λ c. omega arith) loop-again returns)

@@ -35,7 +35,7 @@ returns-2 : tie.Need-returns-2
 returns-2 c =
     let s = c .before .before .before in
     let a = s .args in
-    leaves-there (a .numbers .now) (a .strides .now) (s .pre .0 .admits) (a .axis) (c .first-astray .result) (s .pre .1) (c .first-astray .ensures)
+    leaves-there (a .numbers .now) (a .strides .now) (s .pre .0 .admits) (a .axis) (c .first-astray .result .0) (s .pre .1) (c .first-astray .ensures)
 
 pub first-on-axis-spec : {M : Type 1} → statement M
 first-on-axis-spec =
