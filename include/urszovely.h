@@ -76,7 +76,8 @@ void urszovely_holder(uint64_t kind, uint64_t computation, uint64_t row, uint64_
 
 /* Values. A register is three numbers at one place of three arrays: its sort, 0 empty, 1 a single, 2 a double, any other is a wrong sort;
  * a float, read and written where the sort is 1; a double, where it is 2. A tile has 64, place 8 row + column, the lanes 256, entry
- * 8 lane + register. Values are moved bit for bit, not-a-number patterns too.
+ * 8 lane + register. Values are moved as their bits, 32 or 64, not-a-number patterns too: the library
+ * reads and writes the arrays of floats and doubles as arrays of numbers of 32 and 64 bits, which are the same memory.
  *
  * Deal a computation's matrix of kind 5, 6, 7 or 8 to its lanes, or collect it from them: 0, or 14 where there is no such kind or
  * computation, and with the smallest lane and register where a value is not of the kind's sort, 1 for kind 5, else 2. What is not the

@@ -399,15 +399,25 @@ static void lend_registers(int side, const uint8_t *sorts, const float *singles,
     lent(LENT_DOUBLES, side, doubles, 8 * count);
 }
 
+/* what a register is dealt, or a place of a tile collected from: its number in what is given; none where it is not the computation's */
+static size_t source(uint64_t kind, uint64_t computation, size_t i, size_t count)
+{
+    uint64_t held[4];
+    if (told()[0]) return MOST_REGISTERS;
+    if (count == 64) {
+        urszovely_holder(kind, computation, i / 8, i % 8, held);
+        return held[0] ? MOST_REGISTERS : 8 * held[1] + held[2];
+    }
+    urszovely_fragment(kind, i / 8, i % 8, held);
+    return held[0] || held[1] != computation ? MOST_REGISTERS : 8 * held[2] + held[3];
+}
+
 /* from the first to the last of the computation's own registers, or of the places of its matrix in a tile: their sorts, and what those name */
 static int may_write_registers(uint64_t kind, uint64_t computation, size_t count)
 {
-    uint64_t held[4];
     size_t i, first = 0, end = 0, single = kind == 5 ? 4 : 0, twice = kind == 5 ? 0 : 8;
-    for (i = 0; i < count && !told()[0]; i++) {
-        if (count == 64) urszovely_holder(kind, computation, i / 8, i % 8, held);
-        else urszovely_fragment(kind, i / 8, i % 8, held);
-        if (held[0] || (count != 64 && held[1] != computation)) continue;
+    for (i = 0; i < count; i++) {
+        if (source(kind, computation, i, count) == MOST_REGISTERS) continue;
         if (!end) first = i;
         end = i + 1;
     }
@@ -416,11 +426,43 @@ static int may_write_registers(uint64_t kind, uint64_t computation, size_t count
     return may_write(LENT, count, first, end);
 }
 
-static void settle_registers(int sides, uint8_t *sorts, float *singles, double *doubles, size_t count)
+/* the registers that are given, by their bits */
+static struct { uint8_t sorts[MOST_REGISTERS]; uint8_t singles[4 * MOST_REGISTERS], doubles[8 * MOST_REGISTERS]; } from;
+
+static void moved_from(const uint8_t *sorts, const float *singles, const double *doubles, size_t count)
+{
+    memcpy(from.sorts, sorts, count);
+    memcpy(from.singles, singles, 4 * count);
+    memcpy(from.doubles, doubles, 8 * count);
+}
+
+/* all three arrays are as they were, bit for bit and also where no sort names them, but for the computation's own sorts and what those name,
+ * which are the bits that were given */
+static void as_moved(uint64_t kind, uint64_t computation, const uint8_t *sorts, const float *singles, const double *doubles, size_t count)
+{
+    static uint8_t all_sorts[MOST_REGISTERS], all_singles[4 * MOST_REGISTERS], all_doubles[8 * MOST_REGISTERS];
+    size_t i, j;
+    memcpy(all_sorts, sorts, count);
+    memcpy(all_singles, singles, 4 * count);
+    memcpy(all_doubles, doubles, 8 * count);
+    for (i = 0; i < count; i++) {
+        j = source(kind, computation, i, count);
+        if (j == MOST_REGISTERS) continue;
+        all_sorts[i] = from.sorts[j];
+        if (kind == 5) memcpy(all_singles + 4 * i, from.singles + 4 * j, 4);
+        else memcpy(all_doubles + 8 * i, from.doubles + 8 * j, 8);
+    }
+    if (memcmp(all_sorts, slot(LENT, 0, count), count)) stop("another sort");
+    if (memcmp(all_singles, slot(LENT_SINGLES, 0, 4 * count), 4 * count)) stop("other bits in the singles");
+    if (memcmp(all_doubles, slot(LENT_DOUBLES, 0, 8 * count), 8 * count)) stop("other bits in the doubles");
+}
+
+static void settle_registers(uint64_t kind, uint64_t computation, int sides, uint8_t *sorts, float *singles, double *doubles, size_t count)
 {
     uint8_t *other;
     size_t i;
     int side;
+    as_moved(kind, computation, sorts, singles, doubles, count);
     for (side = 1; side < sides; side += 2) {
         other = slot(LENT, side, count);
         access_to(LENT, side, 0, ROOM, READ_WRITE);
@@ -445,7 +487,8 @@ static void guarded_deal(uint64_t kind, uint64_t computation, const uint8_t *til
         urszovely_deal(kind, computation, GIVEN(side, 64), LENT_TO(side, 256), blank(side));
         if (!side) sides = may_write_registers(kind, computation, 256);
     }
-    settle_registers(sides, sorts, singles, doubles, 256);
+    moved_from(tile_sorts, tile_singles, tile_doubles, 64);
+    settle_registers(kind, computation, sides, sorts, singles, doubles, 256);
     settle(ANSWER, sides, answer, 32);
 }
 
@@ -459,9 +502,13 @@ static void guarded_collect(uint64_t kind, uint64_t computation, const uint8_t *
         urszovely_collect(kind, computation, GIVEN(side, 256), LENT_TO(side, 64), blank(side));
         if (!side) sides = may_write_registers(kind, computation, 64);
     }
-    settle_registers(sides, sorts, singles, doubles, 64);
+    moved_from(lane_sorts, lane_singles, lane_doubles, 256);
+    settle_registers(kind, computation, sides, sorts, singles, doubles, 64);
     settle(ANSWER, sides, answer, 32);
 }
+
+/* a register of a lane in its holding */
+static size_t field(uint64_t kind, size_t i) { return 4 * (i / 8) + (kind == 8 ? 2 + i % 8 : kind - 6); }
 
 /* from the first lane's field of the kind to the last lane's: A, B, the two accumulators */
 static int may_write_fields(uint64_t kind)
@@ -473,25 +520,38 @@ static int may_write_fields(uint64_t kind)
 static void guarded_deal_f64(uint64_t kind, uint64_t computation, const uint8_t *tile_sorts, const float *tile_singles, const double *tile_doubles,
                              double *holdings, uint64_t *answer)
 {
+    static uint8_t all[8 * 128];
+    size_t i, j;
     int side, sides = 2;
     for (side = 0; side < sides; side++) {
         give_registers(side, tile_sorts, tile_singles, tile_doubles, 64);
         urszovely_deal_f64(kind, computation, GIVEN(side, 64), lent(LENT, side, holdings, 8 * 128), blank(side));
         if (!side) sides = may_write_fields(kind);
     }
+    memcpy(all, holdings, sizeof all);
+    for (i = 0; i < 256; i++) {
+        j = source(kind, computation, i, 256);
+        if (j != MOST_REGISTERS) memcpy(all + 8 * field(kind, i), (const uint8_t *)tile_doubles + 8 * j, 8);
+    }
+    if (memcmp(all, slot(LENT, 0, sizeof all), sizeof all)) stop("other bits in the holdings");
     settle(LENT, sides, holdings, 8 * 128);
     settle(ANSWER, sides, answer, 32);
 }
 
 static void guarded_collect_f64(uint64_t kind, uint64_t computation, const double *holdings, uint8_t *sorts, float *singles, double *doubles, uint64_t *answer)
 {
+    size_t i;
     int side, sides = 2;
     for (side = 0; side < sides; side++) {
         lend_registers(side, sorts, singles, doubles, 64);
         urszovely_collect_f64(kind, computation, given(FIRST, side, holdings, 8 * 128), LENT_TO(side, 64), blank(side));
         if (!side) sides = may_write_registers(kind, computation, 64);
     }
-    settle_registers(sides, sorts, singles, doubles, 64);
+    for (i = 0; i < 256 && !told()[0]; i++) {
+        from.sorts[i] = 2;
+        if (i % 8 < 2) memcpy(from.doubles + 8 * i, (const uint8_t *)holdings + 8 * field(kind, i), 8);
+    }
+    settle_registers(kind, computation, sides, sorts, singles, doubles, 64);
     settle(ANSWER, sides, answer, 32);
 }
 

@@ -1,4 +1,1 @@
-pub mod Made
-pub mod Given
-pub mod Empties
 pub mod Entries

@@ -1,6 +1,7 @@
 // Registers in a caller's arrays judged: whether a tile can be dealt, or collected from the lanes, and the first register of the wrong sort. Public,
 // with a requires, only for the crate above, whose arrays are as long as said.
 use answers::Refusal;
+use bits::Bits;
 use values::Moved;
 ghost use mathlib.Core.Path.{_≡_};
 ghost use Prim.Native.Nat.{_<_};
@@ -9,26 +10,37 @@ ghost use Rattle.fragment.specs.Kinds.{place};
 ghost use Rattle.values.specs.declared.Register.the-variants.{Empty};
 ghost use Rattle.values.specs.Rows.{entry};
 ghost use Rattle.values.specs.Values.{inTile};
-ghost use Rattle.values.specs.Registers.{isWrong, judged, dealAnswer, collectAnswer};
+ghost use Rattle.values.specs.Registers.{isOfSort, isWrong, judged, dealAnswer, collectAnswer};
 ghost use Rattle.values.specs.Holdings.{dealHoldingsAnswer};
-ghost use Rattle.lent.specs.Lent.{rowsFrom};
+ghost use Rattle.bits.specs.Bits.{rowsFrom, readAs, registers};
+
+// Whether the bits are a value of the kind's sort: they are read as a single or as a double, whatever they are.
+fn is_of_sort(kind: u64, register: Bits) -> bool
+    ensures { λ r. ⌜ r ≡ isOfSort kind (readAs register) ⌝ }
+{
+    match register {
+        Bits::Empty => false,
+        Bits::Single(_) => kind == 5,
+        Bits::Double(_) => !(kind == 5),
+    }
+}
 
 // Whether what a register would be dealt is of the wrong sort, the registers counted through the lanes.
 fn is_wrong_in_tile(
     kind: u64,
     computation: u64,
     sorts: &[u8],
-    singles: &[f32],
-    doubles: &[f64],
+    singles: &[u32],
+    doubles: &[u64],
     n: usize,
 ) -> bool
     requires { ⌜ (4 < kind) × (n < 256) ⌝ }
     requires { ⌜ (length (now sorts) ≡ 64) × (length (now singles) ≡ 64) × (length (now doubles) ≡ 64) ⌝ }
-    ensures { λ r. ⌜ r ≡ isWrong kind computation (λ lane i. inTile Empty (rowsFrom 8 (now (sorts .entry)) (now (singles .entry)) (now (doubles .entry))) (place kind lane i)) n ⌝ }
+    ensures { λ r. ⌜ r ≡ isWrong kind computation (λ lane i. inTile Empty (registers (rowsFrom 8 (now (sorts .entry)) (now (singles .entry)) (now (doubles .entry)))) (place kind lane i)) n ⌝ }
 {
     let p = moves::matrix_source(kind, computation, n as u64 / 8, n as u64 % 8) as usize;
     if p < 64 {
-        return !dealing::is_of_sort(kind, lent::register_at(sorts, singles, doubles, p));
+        return !is_of_sort(kind, lent::register_at(sorts, singles, doubles, p));
     }
     false
 }
@@ -38,25 +50,25 @@ fn is_wrong_in_lanes(
     kind: u64,
     computation: u64,
     sorts: &[u8],
-    singles: &[f32],
-    doubles: &[f64],
+    singles: &[u32],
+    doubles: &[u64],
     n: usize,
 ) -> bool
     requires { ⌜ (4 < kind) × (n < 256) ⌝ }
     requires { ⌜ (length (now sorts) ≡ 256) × (length (now singles) ≡ 256) × (length (now doubles) ≡ 256) ⌝ }
-    ensures { λ r. ⌜ r ≡ isWrong kind computation (entry Empty (rowsFrom 32 (now (sorts .entry)) (now (singles .entry)) (now (doubles .entry)))) n ⌝ }
+    ensures { λ r. ⌜ r ≡ isWrong kind computation (entry Empty (registers (rowsFrom 32 (now (sorts .entry)) (now (singles .entry)) (now (doubles .entry))))) n ⌝ }
 {
     if moves::matrix_source(kind, computation, n as u64 / 8, n as u64 % 8) < 64 {
-        return !dealing::is_of_sort(kind, lent::register_at(sorts, singles, doubles, n));
+        return !is_of_sort(kind, lent::register_at(sorts, singles, doubles, n));
     }
     false
 }
 
 // Whether all that would be dealt is of the kind's sort; if not, the first register that would get what is not.
-fn judge_tile(kind: u64, computation: u64, sorts: &[u8], singles: &[f32], doubles: &[f64]) -> Moved
+fn judge_tile(kind: u64, computation: u64, sorts: &[u8], singles: &[u32], doubles: &[u64]) -> Moved
     requires { ⌜ 4 < kind ⌝ }
     requires { ⌜ (length (now sorts) ≡ 64) × (length (now singles) ≡ 64) × (length (now doubles) ≡ 64) ⌝ }
-    ensures { λ r. ⌜ r ≡ judged kind computation (λ lane i. inTile Empty (rowsFrom 8 (now (sorts .entry)) (now (singles .entry)) (now (doubles .entry))) (place kind lane i)) ⌝ }
+    ensures { λ r. ⌜ r ≡ judged kind computation (λ lane i. inTile Empty (registers (rowsFrom 8 (now (sorts .entry)) (now (singles .entry)) (now (doubles .entry)))) (place kind lane i)) ⌝ }
 {
     let mut n: usize = 0;
     while n < 256 {
@@ -72,10 +84,10 @@ fn judge_tile(kind: u64, computation: u64, sorts: &[u8], singles: &[f32], double
 }
 
 // Whether all of the computation's registers are of the kind's sort; if not, the first that is not.
-fn judge_lanes(kind: u64, computation: u64, sorts: &[u8], singles: &[f32], doubles: &[f64]) -> Moved
+fn judge_lanes(kind: u64, computation: u64, sorts: &[u8], singles: &[u32], doubles: &[u64]) -> Moved
     requires { ⌜ 4 < kind ⌝ }
     requires { ⌜ (length (now sorts) ≡ 256) × (length (now singles) ≡ 256) × (length (now doubles) ≡ 256) ⌝ }
-    ensures { λ r. ⌜ r ≡ judged kind computation (entry Empty (rowsFrom 32 (now (sorts .entry)) (now (singles .entry)) (now (doubles .entry)))) ⌝ }
+    ensures { λ r. ⌜ r ≡ judged kind computation (entry Empty (registers (rowsFrom 32 (now (sorts .entry)) (now (singles .entry)) (now (doubles .entry))))) ⌝ }
 {
     let mut n: usize = 0;
     while n < 256 {
@@ -95,11 +107,11 @@ pub fn judge_dealing(
     kind: u64,
     computation: u64,
     sorts: &[u8],
-    singles: &[f32],
-    doubles: &[f64],
+    singles: &[u32],
+    doubles: &[u64],
 ) -> Moved
     requires { ⌜ (length (now sorts) ≡ 64) × (length (now singles) ≡ 64) × (length (now doubles) ≡ 64) ⌝ }
-    ensures { λ r. ⌜ r ≡ dealAnswer kind computation (rowsFrom 8 (now (sorts .entry)) (now (singles .entry)) (now (doubles .entry))) ⌝ }
+    ensures { λ r. ⌜ r ≡ dealAnswer kind computation (registers (rowsFrom 8 (now (sorts .entry)) (now (singles .entry)) (now (doubles .entry)))) ⌝ }
 {
     if dealing::is_matrix(kind, computation) {
         judge_tile(kind, computation, sorts, singles, doubles)
@@ -113,11 +125,11 @@ pub fn judge_dealing_holdings(
     kind: u64,
     computation: u64,
     sorts: &[u8],
-    singles: &[f32],
-    doubles: &[f64],
+    singles: &[u32],
+    doubles: &[u64],
 ) -> Moved
     requires { ⌜ (length (now sorts) ≡ 64) × (length (now singles) ≡ 64) × (length (now doubles) ≡ 64) ⌝ }
-    ensures { λ r. ⌜ r ≡ dealHoldingsAnswer kind computation (rowsFrom 8 (now (sorts .entry)) (now (singles .entry)) (now (doubles .entry))) ⌝ }
+    ensures { λ r. ⌜ r ≡ dealHoldingsAnswer kind computation (registers (rowsFrom 8 (now (sorts .entry)) (now (singles .entry)) (now (doubles .entry)))) ⌝ }
 {
     if 5 < kind {
         judge_dealing(kind, computation, sorts, singles, doubles)
@@ -131,11 +143,11 @@ pub fn judge_collecting(
     kind: u64,
     computation: u64,
     sorts: &[u8],
-    singles: &[f32],
-    doubles: &[f64],
+    singles: &[u32],
+    doubles: &[u64],
 ) -> Moved
     requires { ⌜ (length (now sorts) ≡ 256) × (length (now singles) ≡ 256) × (length (now doubles) ≡ 256) ⌝ }
-    ensures { λ r. ⌜ r ≡ collectAnswer kind computation (rowsFrom 32 (now (sorts .entry)) (now (singles .entry)) (now (doubles .entry))) ⌝ }
+    ensures { λ r. ⌜ r ≡ collectAnswer kind computation (registers (rowsFrom 32 (now (sorts .entry)) (now (singles .entry)) (now (doubles .entry)))) ⌝ }
 {
     if dealing::is_matrix(kind, computation) {
         judge_lanes(kind, computation, sorts, singles, doubles)

@@ -3,31 +3,30 @@
 use Prim.Native.Nat.{ℕ, _*_}
 use mathlib.Core.Path.{_≡_, sym, ap, _∙_}
 use mathlib.Core.List.{List}
-use lib.Ieee.{Float}
 use lib.ListN.{length}
 use Rattle.answers.specs.declared.Refusal.{Refusal}
-use Rattle.values.specs.declared.Register.{Register}
+use Rattle.bits.specs.declared.Bits.{Bits}
 use Rattle.values.specs.declared.Moved.{Moved}
 use Rattle.values.specs.declared.Moved.the-variants.{Refused}
 use Rattle.values.specs.Registers.{filled}
-use Rattle.lent.specs.Lent.{rowsFrom, sortAfter, singleAfter, doubleAfter, after}
-use Rattle.lent.proofs.Given.{left-as-given}
-use Rattle.lent.proofs.Empties.{WrittenAlike}
+use Rattle.bits.specs.Bits.{rowsFrom, sortAfter, singleAfter, doubleAfter, after}
+use Rattle.bits.proofs.Given.{left-as-given}
+use Rattle.bits.proofs.Empties.{WrittenAlike}
 use Rattle.urszovely.specs.Answers.{Written}
 
-module _ (rows : ℕ) (sorts : List ℕ) (singles doubles : List Float) where
-  pub untouched : (m : Moved) (new : List (List Register)) (refusal : Refusal) → m ≡ Refused refusal
+module _ (rows : ℕ) (sorts singles doubles : List ℕ) where
+  pub untouched : (m : Moved) (new : List (List Bits)) (refusal : Refusal) → m ≡ Refused refusal
       → Written (filled m new (rowsFrom rows sorts singles doubles)) sorts singles doubles sorts singles doubles
   untouched m new refusal e =
       let same = left-as-given rows sorts singles doubles in
       rw e (record { of-sorts = sym (same .of-sorts); of-singles = sym (same .of-singles); of-doubles = sym (same .of-doubles) })
 
-  pub stored : length sorts ≡ 8 * rows → length singles ≡ 8 * rows → length doubles ≡ 8 * rows → (put bare whole : List (List Register)) → put ≡ bare → WrittenAlike rows sorts singles doubles bare whole
-      → (sorts′ : List ℕ) (singles′ doubles′ : List Float)
+  pub stored : length sorts ≡ 8 * rows → length singles ≡ 8 * rows → length doubles ≡ 8 * rows → (put bare whole : List (List Bits)) → put ≡ bare → WrittenAlike rows sorts singles doubles bare whole
+      → (sorts′ singles′ doubles′ : List ℕ)
       → (sorts′ ≡ after sortAfter put sorts) × ((singles′ ≡ after singleAfter put singles) × (doubles′ ≡ after doubleAfter put doubles))
       → Written whole sorts singles doubles sorts′ singles′ doubles′
   stored s x y put bare whole e alike sorts′ singles′ doubles′ now = record {
-    of-sorts = now .0 ∙ ap (λ (r : List (List Register)). after sortAfter r sorts) e ∙ alike .of-sorts s;
-    of-singles = now .1 .0 ∙ ap (λ (r : List (List Register)). after singleAfter r singles) e ∙ alike .of-singles x;
-    of-doubles = now .1 .1 ∙ ap (λ (r : List (List Register)). after doubleAfter r doubles) e ∙ alike .of-doubles y;
+    of-sorts = now .0 ∙ ap (λ (r : List (List Bits)). after sortAfter r sorts) e ∙ alike .of-sorts s;
+    of-singles = now .1 .0 ∙ ap (λ (r : List (List Bits)). after singleAfter r singles) e ∙ alike .of-singles x;
+    of-doubles = now .1 .1 ∙ ap (λ (r : List (List Bits)). after doubleAfter r doubles) e ∙ alike .of-doubles y;
   }

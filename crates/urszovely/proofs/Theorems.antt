@@ -2,7 +2,6 @@
 use Prim.Native.Nat.{ℕ}
 use mathlib.Core.Path.{_≡_, sym, ap, _∙_}
 use mathlib.Core.List.{List, [], _∷_}
-use lib.Ieee.{Float}
 use Rattle.fragment.specs.Fragment.{holderNumbers}
 use Rattle.fragment.specs.declared.Place.{Place}
 use Rattle.fragment.specs.declared.Holder.{Holder}
@@ -17,7 +16,7 @@ use Rattle.judgement.specs.Verdict.{verdictNumbers, ownerNumbers}
 use Rattle.judgement.specs.declared.Verdict.{Verdict}
 use Rattle.judgement.specs.declared.Owner.{Owner}
 use Rattle.judgement.proofs.Theorems.{verdict-settled, owner-settled}
-use Rattle.values.specs.declared.Register.{Register}
+use Rattle.bits.specs.declared.Bits.{Bits}
 use Rattle.c_card.specs.Card.{cardFrom, four}
 use Rattle.c_tuple.specs.Tuple.{tupleFrom}
 use Rattle.c_layout.specs.Layout.{cardWith, markBits}
@@ -52,6 +51,6 @@ as-owner-settled card marks coordinates before a b x y h k =
     let same = owner-settled (cardFrom card marks) coordinates before a b (h .owner) (k .owner) (h .allowed) (k .allowed) in
     (same .0, h .numbers ∙ ap (λ (v : Owner). four (ownerNumbers v)) (same .1) ∙ sym (k .numbers))
 
-pub written-settled : (registers : List (List Register)) (sorts : List ℕ) (singles doubles : List Float) (s t : List ℕ) (x y v w : List Float)
+pub written-settled : (registers : List (List Bits)) (sorts singles doubles s t x y v w : List ℕ)
     → Written registers sorts singles doubles s x v → Written registers sorts singles doubles t y w → (s ≡ t) × (x ≡ y) × (v ≡ w)
 written-settled registers sorts singles doubles s t x y v w h k = (h .of-sorts ∙ sym (k .of-sorts), h .of-singles ∙ sym (k .of-singles), h .of-doubles ∙ sym (k .of-doubles))

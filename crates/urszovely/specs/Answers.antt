@@ -3,7 +3,6 @@
 use Prim.Native.Nat.{ℕ}
 use mathlib.Core.Path.{_≡_}
 use mathlib.Core.List.{List, [], _∷_}
-use lib.Ieee.{Float}
 use Rattle.fragment.specs.Fragment.{HolderAnswer, holderNumbers}
 use Rattle.fragment.specs.declared.Place.{Place}
 use Rattle.fragment.specs.declared.Holder.{Holder}
@@ -14,8 +13,8 @@ use Rattle.notation.specs.declared.Reading.{Reading}
 use Rattle.judgement.specs.Verdict.{VerdictPromise, OwnerPromise, verdictNumbers, ownerNumbers}
 use Rattle.judgement.specs.declared.Verdict.{Verdict}
 use Rattle.judgement.specs.declared.Owner.{Owner}
-use Rattle.values.specs.declared.Register.{Register}
-use Rattle.lent.specs.Lent.{sortAfter, singleAfter, doubleAfter, after}
+use Rattle.bits.specs.declared.Bits.{Bits}
+use Rattle.bits.specs.Bits.{sortAfter, singleAfter, doubleAfter, after}
 use Rattle.c_card.specs.Card.{cardFrom, four}
 use Rattle.c_tuple.specs.Tuple.{tupleFrom}
 use Rattle.c_layout.specs.Layout.{cardWith, markBits}
@@ -49,7 +48,7 @@ pub record AsOwner (card : List ℕ) (marks : ℕ) (coordinates before after ans
   pub numbers : answer ≡ four (ownerNumbers owner)
 
 -- registers written back to three arrays, as they were and as they are after
-pub record Written (registers : List (List Register)) (sorts : List ℕ) (singles doubles : List Float) (sorts′ : List ℕ) (singles′ doubles′ : List Float) : Type 0 where
+pub record Written (registers : List (List Bits)) (sorts singles doubles sorts′ singles′ doubles′ : List ℕ) : Type 0 where
   pub of-sorts : sorts′ ≡ after sortAfter registers sorts
   pub of-singles : singles′ ≡ after singleAfter registers singles
   pub of-doubles : doubles′ ≡ after doubleAfter registers doubles

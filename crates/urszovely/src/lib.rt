@@ -16,9 +16,9 @@ ghost use Rattle.mask.specs.Mask.{maskAnswer, maskMemory, maskNumbers};
 ghost use Rattle.card.specs.Admission.{admissionNumbers};
 ghost use Rattle.idle.specs.Admission.{fullAdmission};
 ghost use Rattle.stretch_judged.specs.Stretch.{stretchAnswer, stretchNumbers};
-ghost use Rattle.values.specs.Registers.{dealAnswer, collectAnswer, dealtLanes, collectedTile, movedNumbers};
-ghost use Rattle.values.specs.Holdings.{dealHoldingsAnswer, collectHoldingsAnswer, dealtHoldings, collectedFromHoldings};
-ghost use Rattle.lent.specs.Lent.{rowsFrom, holdingsFrom, numbersOf};
+ghost use Rattle.values.specs.Registers.{dealAnswer, collectAnswer, movedNumbers};
+ghost use Rattle.values.specs.Holdings.{dealHoldingsAnswer, collectHoldingsAnswer};
+ghost use Rattle.bits.specs.Bits.{rowsFrom, registers, dealtBits, collectedBits, dealtNumbers, collectedFromNumbers};
 ghost use Rattle.notation.specs.Writing.{writeAnswer as textAnswer, bytesAfter, writeNumbers as textNumbers};
 ghost use Rattle.c_card.specs.Card.{cardFrom, four};
 ghost use Rattle.c_fields.specs.Fields.{fieldsFrom, bytesOf};
@@ -85,22 +85,23 @@ pub extern "C" fn urszovely_holder(
     *answer = c_card::four(numbers);
 }
 
-// A computation's matrix dealt to its lanes. Where refused no lent memory is touched; dealt to empty lanes, all registers but the
+// A computation's matrix dealt to its lanes. Values are bits here, 32 of a single and 64 of a double, which in C are the same memory as the
+// floats that the header names: so a promise speaks of every pattern of a not-a-number. Where refused no lent memory is touched; dealt to empty lanes, all registers but the
 // computation's own stay empty, and an empty one is not stored.
 #[no_mangle]
 pub extern "C" fn urszovely_deal(
     kind: u64,
     computation: u64,
     tile_sorts: &[u8; 64],
-    tile_singles: &[f32; 64],
-    tile_doubles: &[f64; 64],
+    tile_singles: &[u32; 64],
+    tile_doubles: &[u64; 64],
     sorts: &mut [u8; 256],
-    singles: &mut [f32; 256],
-    doubles: &mut [f64; 256],
+    singles: &mut [u32; 256],
+    doubles: &mut [u64; 256],
     answer: &mut [u64; 4],
 )
-    ensures { λ r. ⌜ now (answer .exit) ≡ four (movedNumbers (dealAnswer kind computation (rowsFrom 8 (now («tile_sorts» .entry)) (now («tile_singles» .entry)) (now («tile_doubles» .entry))))) ⌝ }
-    ensures { λ r. ⌜ Written (dealtLanes kind computation (rowsFrom 8 (now («tile_sorts» .entry)) (now («tile_singles» .entry)) (now («tile_doubles» .entry))) (rowsFrom 32 (now (sorts .entry)) (now (singles .entry)) (now (doubles .entry)))) (now (sorts .entry)) (now (singles .entry)) (now (doubles .entry)) (now (sorts .exit)) (now (singles .exit)) (now (doubles .exit)) ⌝ }
+    ensures { λ r. ⌜ now (answer .exit) ≡ four (movedNumbers (dealAnswer kind computation (registers (rowsFrom 8 (now («tile_sorts» .entry)) (now («tile_singles» .entry)) (now («tile_doubles» .entry)))))) ⌝ }
+    ensures { λ r. ⌜ Written (dealtBits kind computation (rowsFrom 8 (now («tile_sorts» .entry)) (now («tile_singles» .entry)) (now («tile_doubles» .entry))) (rowsFrom 32 (now (sorts .entry)) (now (singles .entry)) (now (doubles .entry)))) (now (sorts .entry)) (now (singles .entry)) (now (doubles .entry)) (now (sorts .exit)) (now (singles .exit)) (now (doubles .exit)) ⌝ }
 {
     let told = lent_judged::judge_dealing(
         kind,
@@ -132,15 +133,15 @@ pub extern "C" fn urszovely_collect(
     kind: u64,
     computation: u64,
     lane_sorts: &[u8; 256],
-    lane_singles: &[f32; 256],
-    lane_doubles: &[f64; 256],
+    lane_singles: &[u32; 256],
+    lane_doubles: &[u64; 256],
     sorts: &mut [u8; 64],
-    singles: &mut [f32; 64],
-    doubles: &mut [f64; 64],
+    singles: &mut [u32; 64],
+    doubles: &mut [u64; 64],
     answer: &mut [u64; 4],
 )
-    ensures { λ r. ⌜ now (answer .exit) ≡ four (movedNumbers (collectAnswer kind computation (rowsFrom 32 (now («lane_sorts» .entry)) (now («lane_singles» .entry)) (now («lane_doubles» .entry))))) ⌝ }
-    ensures { λ r. ⌜ Written (collectedTile kind computation (rowsFrom 32 (now («lane_sorts» .entry)) (now («lane_singles» .entry)) (now («lane_doubles» .entry))) (rowsFrom 8 (now (sorts .entry)) (now (singles .entry)) (now (doubles .entry)))) (now (sorts .entry)) (now (singles .entry)) (now (doubles .entry)) (now (sorts .exit)) (now (singles .exit)) (now (doubles .exit)) ⌝ }
+    ensures { λ r. ⌜ now (answer .exit) ≡ four (movedNumbers (collectAnswer kind computation (registers (rowsFrom 32 (now («lane_sorts» .entry)) (now («lane_singles» .entry)) (now («lane_doubles» .entry)))))) ⌝ }
+    ensures { λ r. ⌜ Written (collectedBits kind computation (rowsFrom 32 (now («lane_sorts» .entry)) (now («lane_singles» .entry)) (now («lane_doubles» .entry))) (rowsFrom 8 (now (sorts .entry)) (now (singles .entry)) (now (doubles .entry)))) (now (sorts .entry)) (now (singles .entry)) (now (doubles .entry)) (now (sorts .exit)) (now (singles .exit)) (now (doubles .exit)) ⌝ }
 {
     let told = lent_judged::judge_collecting(
         kind,
@@ -172,16 +173,16 @@ pub extern "C" fn urszovely_deal_f64(
     kind: u64,
     computation: u64,
     tile_sorts: &[u8; 64],
-    tile_singles: &[f32; 64],
-    tile_doubles: &[f64; 64],
-    holdings: &mut [f64; 128],
+    tile_singles: &[u32; 64],
+    tile_doubles: &[u64; 64],
+    holdings: &mut [u64; 128],
     answer: &mut [u64; 4],
 )
-    ensures { λ r. ⌜ now (answer .exit) ≡ four (movedNumbers (dealHoldingsAnswer kind computation (rowsFrom 8 (now («tile_sorts» .entry)) (now («tile_singles» .entry)) (now («tile_doubles» .entry))))) ⌝ }
-    ensures { λ r. ⌜ now (holdings .exit) ≡ numbersOf (dealtHoldings kind computation (rowsFrom 8 (now («tile_sorts» .entry)) (now («tile_singles» .entry)) (now («tile_doubles» .entry))) (holdingsFrom (now (holdings .entry)))) ⌝ }
+    ensures { λ r. ⌜ now (answer .exit) ≡ four (movedNumbers (dealHoldingsAnswer kind computation (registers (rowsFrom 8 (now («tile_sorts» .entry)) (now («tile_singles» .entry)) (now («tile_doubles» .entry)))))) ⌝ }
+    ensures { λ r. ⌜ now (holdings .exit) ≡ dealtNumbers kind computation (rowsFrom 8 (now («tile_sorts» .entry)) (now («tile_singles» .entry)) (now («tile_doubles» .entry))) (now (holdings .entry)) ⌝ }
 {
     // as a slice, whose length the proof knows where refused too
-    let fields: &mut [f64] = holdings;
+    let fields: &mut [u64] = holdings;
     let told = lent_judged::judge_dealing_holdings(
         kind,
         computation,
@@ -194,7 +195,7 @@ pub extern "C" fn urszovely_deal_f64(
     let Moved::Done = told else {
         return;
     };
-    lent::deal_holdings(
+    lent_holdings::deal_holdings(
         kind,
         computation,
         tile_sorts,
@@ -209,14 +210,14 @@ pub extern "C" fn urszovely_deal_f64(
 pub extern "C" fn urszovely_collect_f64(
     kind: u64,
     computation: u64,
-    holdings: &[f64; 128],
+    holdings: &[u64; 128],
     sorts: &mut [u8; 64],
-    singles: &mut [f32; 64],
-    doubles: &mut [f64; 64],
+    singles: &mut [u32; 64],
+    doubles: &mut [u64; 64],
     answer: &mut [u64; 4],
 )
     ensures { λ r. ⌜ now (answer .exit) ≡ four (movedNumbers (collectHoldingsAnswer kind computation)) ⌝ }
-    ensures { λ r. ⌜ Written (collectedFromHoldings kind computation (holdingsFrom (now (holdings .entry))) (rowsFrom 8 (now (sorts .entry)) (now (singles .entry)) (now (doubles .entry)))) (now (sorts .entry)) (now (singles .entry)) (now (doubles .entry)) (now (sorts .exit)) (now (singles .exit)) (now (doubles .exit)) ⌝ }
+    ensures { λ r. ⌜ Written (collectedFromNumbers kind computation (now (holdings .entry)) (rowsFrom 8 (now (sorts .entry)) (now (singles .entry)) (now (doubles .entry)))) (now (sorts .entry)) (now (singles .entry)) (now (doubles .entry)) (now (sorts .exit)) (now (singles .exit)) (now (doubles .exit)) ⌝ }
 {
     let told = holdings::judge_collecting(kind, computation);
     let numbers = dealing::moved_numbers(told);
@@ -224,7 +225,7 @@ pub extern "C" fn urszovely_collect_f64(
     let Moved::Done = told else {
         return;
     };
-    lent::collect_holdings(kind, computation, holdings, sorts, singles, doubles);
+    lent_holdings::collect_holdings(kind, computation, holdings, sorts, singles, doubles);
 }
 
 // The fields of a descriptor, read.

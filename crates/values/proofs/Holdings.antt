@@ -30,7 +30,7 @@ use Rattle.values.proofs.Theorems.{IsTile, AreLanes, own, led-to-own, d
 use Rattle.values.proofs.Answers.{AllOfSort, judged-means, dealt-as-collected}
 
 -- the register of a kind that is a field of a holding: A, B and the two accumulators
-data Field : ℕ → ℕ → Type 0 where
+pub data Field : ℕ → ℕ → Type 0 where
   of-a : Field 6 0
   of-b : Field 7 0
   of-first : Field 8 0
@@ -105,7 +105,7 @@ fields-stay of-first h row = record { of-a = λ d. refl; of-b = λ d. refl; of-f
 fields-stay of-second h row = record { of-a = λ d. refl; of-b = λ d. refl; of-first = λ d. absurd (d refl); of-second = λ d. absurd (d refl) }
 
 -- an .f64 kind has a first field
-first-field : (kind c : ℕ) → ltb 5 kind ≡ true → isMatrix kind c ≡ true → Field kind 0
+pub first-field : (kind c : ℕ) → ltb 5 kind ≡ true → isMatrix kind c ≡ true → Field kind 0
 first-field kind c f m =
     let above = ltb-true 5 kind f in
     let below = ltb-true kind 9 (and-eq-true-iff (leb 5 kind) (ltb kind 9) .0 (and-eq-true-iff (leb 5 kind && ltb kind 9) (ltb c (computations kind)) .0 m .0) .1) in
@@ -137,7 +137,7 @@ module _ (kind c : ℕ) where
   }
 
   -- a register of the computation is a field
-  own-field : ltb 5 kind ≡ true → (lane i : ℕ) → isOwn kind c lane i ≡ true → (lane < 32) × Field kind i
+  pub own-field : ltb 5 kind ≡ true → (lane i : ℕ) → isOwn kind c lane i ≡ true → (lane < 32) × Field kind i
   own-field f lane i o =
       let s = slot-numbers kind lane i (own kind c lane i o .slot) in (s .of-lane, field kind i (ltb-true 5 kind f) (s .known) (s .of-register))
 

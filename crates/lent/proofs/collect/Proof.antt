@@ -4,18 +4,17 @@ use mathlib.Core.List.{List}
 use Prim.Native.Nat.{ℕ, _-_}
 use native.Mathlib.Omega.{arith}
 use borrow.Author.Needs.{needs}
-use lib.Ieee.{Float, nan}
 use lib.ListN.{getD, set}
-use Rattle.values.specs.declared.Register.{Register}
-use Rattle.values.specs.declared.Register.the-variants.{Empty}
+use Rattle.bits.specs.declared.Bits.{Bits}
+use Rattle.bits.specs.declared.Bits.the-variants.{Empty}
 use Rattle.values.specs.Values.{collected}
 use Rattle.values.proofs.Rows.{Anew, anew-none, anew-all}
-use Rattle.lent.specs.Lent.{rowsFrom, empties, sortAfter, singleAfter, doubleAfter}
-use Rattle.lent.proofs.Made.{written, anew-turn}
+use Rattle.bits.specs.Bits.{rowsFrom, empties, sortAfter, singleAfter, doubleAfter}
+use Rattle.bits.proofs.Made.{written, anew-turn}
 use Rattle.lent.proofs.collect.Statement.{statement}
 use Rattle.lent.proofs.collect.Tie as tie
 
-abbrev rows : ℕ → ℕ → List ℕ → List Float → List Float → List (List Register)
+abbrev rows : ℕ → ℕ → List ℕ → List ℕ → List ℕ → List (List Bits)
 rows kind c sorts singles doubles = collected Empty kind c (rowsFrom 32 sorts singles doubles) (empties 8)
 
 abbrev Inv-loop : tie.InvT-loop
@@ -34,8 +33,8 @@ loop-holds c =
     let p = s .pre .1 in
     let w = rows (a .kind) (a .computation) (a .lane-sorts .now) (a .lane-singles .now) (a .lane-doubles .now) in (
       anew-none 0 64 (written sortAfter w) (a .sorts .now) (p .0),
-      anew-none nan 64 (written singleAfter w) (a .singles .now) (p .1),
-      anew-none nan 64 (written doubleAfter w) (a .doubles .now) (p .2),
+      anew-none 0 64 (written singleAfter w) (a .singles .now) (p .1),
+      anew-none 0 64 (written doubleAfter w) (a .doubles .now) (p .2),
     )
 
 loop-again : tie.Need-loop-again Inv-loop μ-loop
@@ -51,11 +50,11 @@ loop-again c =
     let i = l .inv in
     let w = rows (a .kind) (a .computation) (a .lane-sorts .now) (a .lane-singles .now) (a .lane-doubles .now) in (
       anew-turn 0 64 (written sortAfter w) (a .sorts .now) (l .sorts) _ (l .j) (i .0) h
-          (e .0 ∙ ap (λ (x : Register). set (l .sorts) (l .j) (sortAfter x (getD (l .sorts) (l .j) 0))) r),
-      anew-turn nan 64 (written singleAfter w) (a .singles .now) (l .singles) _ (l .j) (i .1) h
-          (e .1 .0 ∙ ap (λ (x : Register). set (l .singles) (l .j) (singleAfter x (getD (l .singles) (l .j) nan))) r),
-      anew-turn nan 64 (written doubleAfter w) (a .doubles .now) (l .doubles) _ (l .j) (i .2) h
-          (e .1 .1 ∙ ap (λ (x : Register). set (l .doubles) (l .j) (doubleAfter x (getD (l .doubles) (l .j) nan))) r),
+          (e .0 ∙ ap (λ (x : Bits). set (l .sorts) (l .j) (sortAfter x (getD (l .sorts) (l .j) 0))) r),
+      anew-turn 0 64 (written singleAfter w) (a .singles .now) (l .singles) _ (l .j) (i .1) h
+          (e .1 .0 ∙ ap (λ (x : Bits). set (l .singles) (l .j) (singleAfter x (getD (l .singles) (l .j) 0))) r),
+      anew-turn 0 64 (written doubleAfter w) (a .doubles .now) (l .doubles) _ (l .j) (i .2) h
+          (e .1 .1 ∙ ap (λ (x : Bits). set (l .doubles) (l .j) (doubleAfter x (getD (l .doubles) (l .j) 0))) r),
     )
 
 returns : tie.Need-returns Inv-loop μ-loop
@@ -67,8 +66,8 @@ returns c =
     let w = rows (a .kind) (a .computation) (a .lane-sorts .now) (a .lane-singles .now) (a .lane-doubles .now) in (
       anew-all 0 64 (written sortAfter w) (a .sorts .now) (l .sorts) (l .j) (i .0) h,
       (
-        anew-all nan 64 (written singleAfter w) (a .singles .now) (l .singles) (l .j) (i .1) h,
-        anew-all nan 64 (written doubleAfter w) (a .doubles .now) (l .doubles) (l .j) (i .2) h,
+        anew-all 0 64 (written singleAfter w) (a .singles .now) (l .singles) (l .j) (i .1) h,
+        anew-all 0 64 (written doubleAfter w) (a .doubles .now) (l .doubles) (l .j) (i .2) h,
       ),
     )
 

@@ -3,9 +3,9 @@ use mathlib.Core.Path.{sym, _∙_}
 use mathlib.Core.List.{List}
 use native.Mathlib.Omega.{arith}
 use borrow.Author.Needs.{needs}
-use Rattle.values.specs.declared.Register.{Register}
-use Rattle.lent.specs.Lent.{rowsFrom}
-use Rattle.lent.proofs.Given.{entry-at}
+use Rattle.bits.specs.declared.Bits.{Bits}
+use Rattle.bits.specs.Bits.{rowsFrom}
+use Rattle.bits.proofs.Given.{entry-at}
 use Rattle.lent.proofs.Entries.{collected-there, collected-nothing}
 use Rattle.lent.proofs.collected_at.Statement.{statement}
 use Rattle.lent.proofs.collected_at.Tie as tie
@@ -15,7 +15,7 @@ returns c =
     let m = c .before .before in
     let s = m .before .before .before .before in
     let a = s .args in
-    let rows : List (List Register) = rowsFrom 32 (a .sorts .now) (a .singles .now) (a .doubles .now) in
+    let rows : List (List Bits) = rowsFrom 32 (a .sorts .now) (a .singles .now) (a .doubles .now) in
     c .register-at .ensures
     ∙ sym (collected-there (a .kind) (a .computation) rows (a .j) (m .holder .result) (s .pre .0) (m .holder .ensures) (c .before .if1 .taken)
     ∙ entry-at 32 (a .sorts .now) (a .singles .now) (a .doubles .now) (m .holder .result) (omega (arith, c .before .if1 .taken)))
@@ -25,7 +25,7 @@ returns-2 c =
     let m = c .before in
     let s = m .before .before .before .before in
     let a = s .args in
-    let rows : List (List Register) = rowsFrom 32 (a .sorts .now) (a .singles .now) (a .doubles .now) in
+    let rows : List (List Bits) = rowsFrom 32 (a .sorts .now) (a .singles .now) (a .doubles .now) in
     sym (collected-nothing (a .kind) (a .computation) rows (a .j) (m .holder .result) (s .pre .0) (m .holder .ensures) (c .if1 .left))
 
 pub collected-at-spec : {M : Type 1} → statement M

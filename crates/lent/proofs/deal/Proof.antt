@@ -4,18 +4,17 @@ use mathlib.Core.List.{List}
 use Prim.Native.Nat.{ℕ, _-_}
 use native.Mathlib.Omega.{arith}
 use borrow.Author.Needs.{needs}
-use lib.Ieee.{Float, nan}
 use lib.ListN.{getD, set}
-use Rattle.values.specs.declared.Register.{Register}
-use Rattle.values.specs.declared.Register.the-variants.{Empty}
+use Rattle.bits.specs.declared.Bits.{Bits}
+use Rattle.bits.specs.declared.Bits.the-variants.{Empty}
 use Rattle.values.specs.Values.{dealt}
 use Rattle.values.proofs.Rows.{Anew, anew-none, anew-all}
-use Rattle.lent.specs.Lent.{rowsFrom, empties, sortAfter, singleAfter, doubleAfter}
-use Rattle.lent.proofs.Made.{written, anew-turn}
+use Rattle.bits.specs.Bits.{rowsFrom, empties, sortAfter, singleAfter, doubleAfter}
+use Rattle.bits.proofs.Made.{written, anew-turn}
 use Rattle.lent.proofs.deal.Statement.{statement}
 use Rattle.lent.proofs.deal.Tie as tie
 
-abbrev rows : ℕ → ℕ → List ℕ → List Float → List Float → List (List Register)
+abbrev rows : ℕ → ℕ → List ℕ → List ℕ → List ℕ → List (List Bits)
 rows kind c sorts singles doubles = dealt Empty kind c (rowsFrom 8 sorts singles doubles) (empties 32)
 
 abbrev Inv-loop : tie.InvT-loop
@@ -34,8 +33,8 @@ loop-holds c =
     let p = s .pre .1 .1 in
     let w = rows (a .kind) (a .computation) (a .tile-sorts .now) (a .tile-singles .now) (a .tile-doubles .now) in (
       anew-none 0 256 (written sortAfter w) (a .sorts .now) (p .0),
-      anew-none nan 256 (written singleAfter w) (a .singles .now) (p .1),
-      anew-none nan 256 (written doubleAfter w) (a .doubles .now) (p .2),
+      anew-none 0 256 (written singleAfter w) (a .singles .now) (p .1),
+      anew-none 0 256 (written doubleAfter w) (a .doubles .now) (p .2),
     )
 
 loop-again : tie.Need-loop-again Inv-loop μ-loop
@@ -51,11 +50,11 @@ loop-again c =
     let i = l .inv in
     let w = rows (a .kind) (a .computation) (a .tile-sorts .now) (a .tile-singles .now) (a .tile-doubles .now) in (
       anew-turn 0 256 (written sortAfter w) (a .sorts .now) (l .sorts) _ (l .n) (i .0) h
-          (e .0 ∙ ap (λ (x : Register). set (l .sorts) (l .n) (sortAfter x (getD (l .sorts) (l .n) 0))) r),
-      anew-turn nan 256 (written singleAfter w) (a .singles .now) (l .singles) _ (l .n) (i .1) h
-          (e .1 .0 ∙ ap (λ (x : Register). set (l .singles) (l .n) (singleAfter x (getD (l .singles) (l .n) nan))) r),
-      anew-turn nan 256 (written doubleAfter w) (a .doubles .now) (l .doubles) _ (l .n) (i .2) h
-          (e .1 .1 ∙ ap (λ (x : Register). set (l .doubles) (l .n) (doubleAfter x (getD (l .doubles) (l .n) nan))) r),
+          (e .0 ∙ ap (λ (x : Bits). set (l .sorts) (l .n) (sortAfter x (getD (l .sorts) (l .n) 0))) r),
+      anew-turn 0 256 (written singleAfter w) (a .singles .now) (l .singles) _ (l .n) (i .1) h
+          (e .1 .0 ∙ ap (λ (x : Bits). set (l .singles) (l .n) (singleAfter x (getD (l .singles) (l .n) 0))) r),
+      anew-turn 0 256 (written doubleAfter w) (a .doubles .now) (l .doubles) _ (l .n) (i .2) h
+          (e .1 .1 ∙ ap (λ (x : Bits). set (l .doubles) (l .n) (doubleAfter x (getD (l .doubles) (l .n) 0))) r),
     )
 
 returns : tie.Need-returns Inv-loop μ-loop
@@ -67,8 +66,8 @@ returns c =
     let w = rows (a .kind) (a .computation) (a .tile-sorts .now) (a .tile-singles .now) (a .tile-doubles .now) in (
       anew-all 0 256 (written sortAfter w) (a .sorts .now) (l .sorts) (l .n) (i .0) h,
       (
-        anew-all nan 256 (written singleAfter w) (a .singles .now) (l .singles) (l .n) (i .1) h,
-        anew-all nan 256 (written doubleAfter w) (a .doubles .now) (l .doubles) (l .n) (i .2) h,
+        anew-all 0 256 (written singleAfter w) (a .singles .now) (l .singles) (l .n) (i .1) h,
+        anew-all 0 256 (written doubleAfter w) (a .doubles .now) (l .doubles) (l .n) (i .2) h,
       ),
     )
 

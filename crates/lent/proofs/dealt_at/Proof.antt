@@ -3,9 +3,9 @@ use mathlib.Core.Path.{sym, _∙_}
 use mathlib.Core.List.{List}
 use native.Mathlib.Omega.{arith}
 use borrow.Author.Needs.{needs}
-use Rattle.values.specs.declared.Register.{Register}
-use Rattle.lent.specs.Lent.{rowsFrom}
-use Rattle.lent.proofs.Given.{entry-at}
+use Rattle.bits.specs.declared.Bits.{Bits}
+use Rattle.bits.specs.Bits.{rowsFrom}
+use Rattle.bits.proofs.Given.{entry-at}
 use Rattle.lent.proofs.Entries.{dealt-there, dealt-nothing}
 use Rattle.lent.proofs.dealt_at.Statement.{statement}
 use Rattle.lent.proofs.dealt_at.Tie as tie
@@ -15,7 +15,7 @@ returns c =
     let m = c .before .before in
     let s = m .before .before .before .before in
     let a = s .args in
-    let rows : List (List Register) = rowsFrom 8 (a .sorts .now) (a .singles .now) (a .doubles .now) in
+    let rows : List (List Bits) = rowsFrom 8 (a .sorts .now) (a .singles .now) (a .doubles .now) in
     c .register-at .ensures
     ∙ sym (dealt-there (a .kind) (a .computation) rows (a .n) (m .matrix-source .result) (s .pre .0 .1) (m .matrix-source .ensures) (c .before .if1 .taken)
     ∙ entry-at 8 (a .sorts .now) (a .singles .now) (a .doubles .now) (m .matrix-source .result) (omega (arith, c .before .if1 .taken)))
@@ -25,7 +25,7 @@ returns-2 c =
     let m = c .before in
     let s = m .before .before .before .before in
     let a = s .args in
-    let rows : List (List Register) = rowsFrom 8 (a .sorts .now) (a .singles .now) (a .doubles .now) in
+    let rows : List (List Bits) = rowsFrom 8 (a .sorts .now) (a .singles .now) (a .doubles .now) in
     sym (dealt-nothing (a .kind) (a .computation) rows (a .n) (m .matrix-source .result) (s .pre .0 .1) (m .matrix-source .ensures) (c .if1 .left))
 
 pub dealt-at-spec : {M : Type 1} → statement M

@@ -1,7 +1,6 @@
 -- `lent::put` writes what the register leaves of each of the three entries: in each arm an entry that is not stored is as it was.
 use mathlib.Core.Path.{refl, sym}
 use borrow.Author.Needs.{needs}
-use lib.Ieee.{nan}
 use lib.Seq.{set-getD}
 use Rattle.lent.proofs.put.Statement.{statement}
 use Rattle.lent.proofs.put.Tie as tie
@@ -11,18 +10,18 @@ returns c =
     let a = c .before .before .args in
     rw (c .enum-told .given .1) (
       sym (set-getD (a .sorts .now) (a .j) 0),
-      (sym (set-getD (a .singles .now) (a .j) nan), sym (set-getD (a .doubles .now) (a .j) nan)),
+      (sym (set-getD (a .singles .now) (a .j) 0), sym (set-getD (a .doubles .now) (a .j) 0)),
     )
 
 returns-2 : tie.Need-returns-2
 returns-2 c =
     let a = c .before .before .before .args in
-    rw (c .before .register .given .1) (refl, (refl, sym (set-getD (a .doubles .now) (a .j) nan)))
+    rw (c .before .register .given .1) (refl, (refl, sym (set-getD (a .doubles .now) (a .j) 0)))
 
 returns-3 : tie.Need-returns-3
 returns-3 c =
     let a = c .before .before .before .args in
-    rw (c .before .register2 .given .1) (refl, (sym (set-getD (a .singles .now) (a .j) nan), refl))
+    rw (c .before .register2 .given .1) (refl, (sym (set-getD (a .singles .now) (a .j) 0), refl))
 
 pub put-spec : {M : Type 1} → statement M
 put-spec =

@@ -4,7 +4,6 @@ use mathlib.Core.List.{List}
 use Prim.Native.Nat.{ℕ, _-_, _≤_}
 use native.Mathlib.Omega.{arith}
 use native.Mathlib.Nat.{not-suc-le-zero}
-use lib.Ieee.{Float}
 use Rattle.values.specs.declared.Register.{Register}
 use Rattle.values.specs.declared.Register.the-variants.{Empty}
 use Rattle.fragment.specs.Kinds.{place}
@@ -12,12 +11,12 @@ use Rattle.values.specs.Values.{inTile}
 use Rattle.values.specs.Registers.{isWrong}
 use Rattle.values.proofs.First.{NoneBefore, none-next}
 use Rattle.values.proofs.Sorts.{judged-at, judged-done}
-use Rattle.lent.specs.Lent.{rowsFrom}
+use Rattle.bits.specs.Bits.{rowsFrom, registers}
 use Rattle.lent_judged.proofs.judge_tile.Statement.{statement}
 use Rattle.lent_judged.proofs.judge_tile.Tie as tie
 
-abbrev value : ℕ → List ℕ → List Float → List Float → ℕ → ℕ → Register
-value kind sorts singles doubles = λ lane i. inTile Empty (rowsFrom 8 sorts singles doubles) (place kind lane i)
+abbrev value : ℕ → List ℕ → List ℕ → List ℕ → ℕ → ℕ → Register
+value kind sorts singles doubles = λ lane i. inTile Empty (registers (rowsFrom 8 sorts singles doubles)) (place kind lane i)
 
 abbrev Inv-loop : tie.InvT-loop
 Inv-loop kind computation sorts singles doubles n₀ n = (n ≤ 256) × NoneBefore (isWrong kind computation (value kind sorts singles doubles)) n

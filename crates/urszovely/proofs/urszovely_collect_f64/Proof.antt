@@ -1,16 +1,16 @@
 -- `urszovely::urszovely_collect_f64` answers what the library's question answers, over the values that the arrays hold; refused it stores nothing.
 use mathlib.Core.Path.{_≡_, refl, sym, ap, _∙_}
-use mathlib.Core.List.{List, map}
+use mathlib.Core.List.{List}
 use native.Mathlib.Omega.{arith}
 use borrow.Author.Needs.{needs}
-use Rattle.values.specs.declared.Register.{Register}
-use Rattle.values.specs.declared.Register.the-variants.{Empty}
+use Rattle.bits.specs.declared.Bits.{Bits}
+use Rattle.bits.specs.declared.Bits.the-variants.{Empty}
 use Rattle.values.specs.declared.Moved.the-variants.{Done}
 use Rattle.values.specs.Values.{collected}
 use Rattle.values.specs.Registers.{movedNumbers}
-use Rattle.values.specs.Holdings.{registersOf, collectHoldingsAnswer}
-use Rattle.lent.specs.Lent.{empties, holdingsFrom}
-use Rattle.lent.proofs.Empties.{collected-into-empties}
+use Rattle.values.specs.Holdings.{collectHoldingsAnswer}
+use Rattle.bits.specs.Bits.{empties, lanesFrom}
+use Rattle.bits.proofs.Empties.{collected-into-empties}
 use Rattle.c_card.specs.Card.{four}
 use Rattle.urszovely.proofs.Left.{untouched, stored}
 use Rattle.urszovely.proofs.urszovely_collect_f64.Statement.{statement}
@@ -34,7 +34,7 @@ returns-2 c =
     let m = f .before in
     let j = m .before in
     let a = j .before .args in
-    let lanes : List (List Register) = map (registersOf (a .kind)) (holdingsFrom (a .holdings .now)) in
+    let lanes : List (List Bits) = lanesFrom (a .kind) (a .holdings .now) in
     let done : collectHoldingsAnswer (a .kind) (a .computation) ≡ Done = sym (j .judge-collecting .ensures) ∙ e .enum-told .given .1 in (
       f .four .ensures ∙ ap four (m .moved-numbers .ensures ∙ ap movedNumbers (j .judge-collecting .ensures)),
       stored 8 (a .sorts .now) (a .singles .now) (a .doubles .now) (omega (arith, c .before .before .before .collect-holdings-arg2 .given)) (omega (arith, c .before .before .collect-holdings-arg3 .given)) (omega (arith, c .before .collect-holdings-arg4 .given)) _ (collected Empty (a .kind) (a .computation) lanes (empties 8)) _ refl

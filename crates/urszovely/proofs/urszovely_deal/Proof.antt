@@ -3,12 +3,12 @@ use mathlib.Core.Path.{refl, sym, ap, _∙_}
 use mathlib.Core.List.{List}
 use native.Mathlib.Omega.{arith}
 use borrow.Author.Needs.{needs}
-use Rattle.values.specs.declared.Register.{Register}
-use Rattle.values.specs.declared.Register.the-variants.{Empty}
+use Rattle.bits.specs.declared.Bits.{Bits}
+use Rattle.bits.specs.declared.Bits.the-variants.{Empty}
 use Rattle.values.specs.Values.{dealt}
 use Rattle.values.specs.Registers.{movedNumbers}
-use Rattle.lent.specs.Lent.{rowsFrom, empties}
-use Rattle.lent.proofs.Empties.{dealt-to-empties}
+use Rattle.bits.specs.Bits.{rowsFrom, empties, registers}
+use Rattle.bits.proofs.Empties.{dealt-to-empties}
 use Rattle.lent_judged.proofs.Wrong.{dealt-kind}
 use Rattle.c_card.specs.Card.{four}
 use Rattle.urszovely.proofs.Left.{untouched, stored}
@@ -31,8 +31,8 @@ deal-requires c κs =
     let e = c .before .before .before .before .before .before in
     let j = e .before .before .before .before in
     let a = j .before .before .before .before .args in
-    let tile : List (List Register) = rowsFrom 8 (a .tile-sorts .now) (a .tile-singles .now) (a .tile-doubles .now) in
-    (dealt-kind (a .kind) (a .computation) tile (sym (j .judge-dealing .ensures) ∙ e .enum-told .given .1), (search needs, search needs))
+    let tile : List (List Bits) = rowsFrom 8 (a .tile-sorts .now) (a .tile-singles .now) (a .tile-doubles .now) in
+    (dealt-kind (a .kind) (a .computation) (registers tile) (sym (j .judge-dealing .ensures) ∙ e .enum-told .given .1), (search needs, search needs))
 
 returns-2 : tie.Need-returns-2
 returns-2 c =
@@ -41,7 +41,7 @@ returns-2 c =
     let m = f .before in
     let j = m .before in
     let a = j .before .before .before .before .args in
-    let tile : List (List Register) = rowsFrom 8 (a .tile-sorts .now) (a .tile-singles .now) (a .tile-doubles .now) in
+    let tile : List (List Bits) = rowsFrom 8 (a .tile-sorts .now) (a .tile-singles .now) (a .tile-doubles .now) in
     let told = j .judge-dealing .ensures in (
       f .four .ensures ∙ ap four (m .moved-numbers .ensures ∙ ap movedNumbers told),
       stored 32 (a .sorts .now) (a .singles .now) (a .doubles .now) (omega (arith, c .before .before .before .deal-arg4 .given)) (omega (arith, c .before .before .deal-arg5 .given)) (omega (arith, c .before .deal-arg6 .given)) _ (dealt Empty (a .kind) (a .computation) tile (empties 32)) _ refl

@@ -3,11 +3,9 @@ use mathlib.Core.Path.{sym, ap, _∙_}
 use mathlib.Core.List.{List}
 use native.Mathlib.Omega.{arith}
 use borrow.Author.Needs.{needs}
-use Rattle.values.specs.declared.Register.{Register}
+use Rattle.bits.specs.declared.Bits.{Bits}
 use Rattle.values.specs.Registers.{movedNumbers}
-use Rattle.lent.specs.Lent.{rowsFrom}
-use Rattle.lent.proofs.Given.{holdings-left-as-given}
-use Rattle.lent.proofs.Empties.{dealt-to-own-fields}
+use Rattle.bits.specs.Bits.{rowsFrom, registers}
 use Rattle.lent_judged.proofs.Wrong.{dealt-holdings-kind}
 use Rattle.c_card.specs.Card.{four}
 use Rattle.urszovely.proofs.urszovely_deal_f64.Statement.{statement}
@@ -18,11 +16,9 @@ returns c =
     let f = c .before .before in
     let m = f .before in
     let j = m .before in
-    let l = j .before .before .before .before in
-    let a = l .before .args in
     let told = j .judge-dealing-holdings .ensures in (
       f .four .ensures ∙ ap four (m .moved-numbers .ensures ∙ ap movedNumbers told),
-      rw (sym told ∙ c .enum-told2 .given .1) (sym (holdings-left-as-given (a .holdings .now) (omega (arith, l .fields .given)))),
+      rw (sym told ∙ c .enum-told2 .given .1),
     )
 
 deal-requires : tie.Need-deal-holdings-requires
@@ -31,8 +27,8 @@ deal-requires c κs =
     let j = e .before .before .before .before in
     let l = j .before .before .before .before in
     let a = l .before .args in
-    let tile : List (List Register) = rowsFrom 8 (a .tile-sorts .now) (a .tile-singles .now) (a .tile-doubles .now) in (
-      (dealt-holdings-kind (a .kind) (a .computation) tile (sym (j .judge-dealing-holdings .ensures) ∙ e .enum-told .given .1), omega (arith, l .fields .given)),
+    let tile : List (List Bits) = rowsFrom 8 (a .tile-sorts .now) (a .tile-singles .now) (a .tile-doubles .now) in (
+      (dealt-holdings-kind (a .kind) (a .computation) (registers tile) (sym (j .judge-dealing-holdings .ensures) ∙ e .enum-told .given .1), omega (arith, l .fields .given)),
       search needs,
     )
 
@@ -42,13 +38,9 @@ returns-2 c =
     let f = e .before .before in
     let m = f .before in
     let j = m .before in
-    let l = j .before .before .before .before in
-    let a = l .before .args in
-    let tile : List (List Register) = rowsFrom 8 (a .tile-sorts .now) (a .tile-singles .now) (a .tile-doubles .now) in
     let told = j .judge-dealing-holdings .ensures in (
       f .four .ensures ∙ ap four (m .moved-numbers .ensures ∙ ap movedNumbers told),
-      c .deal-holdings .ensures
-          ∙ dealt-to-own-fields (a .kind) (a .computation) tile (a .holdings .now) (omega (arith, l .fields .given)) (sym told ∙ e .enum-told .given .1),
+      rw (sym told ∙ e .enum-told .given .1) (c .deal-holdings .ensures),
     )
 
 pub urszovely-deal-f64-spec : {M : Type 1} → statement M
