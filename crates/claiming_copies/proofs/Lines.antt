@@ -38,27 +38,27 @@ module _ (numbers : List ℕ) (strides : List ℤ) (start step : Place) (run : R
     place = record { level = start .level +ℤ getD levels r (pos 0); m = start .m +ℤ getD ms r (pos 0) }
 
     level-of : (j : ℕ) → j < run .length
-        → levelAfter place step j ≡ levelAt (card .lengths) (base card (run .first + j)) +ℤ levelAt (card .lengths) (part (card .replica) r)
+        → levelAfter place step j ≡ levelAt (card .lengths) (base card (run .first .0 + j)) +ℤ levelAt (card .lengths) (part (card .replica) r)
     level-of j h =
         between (start .level) (getD levels r (pos 0)) (pos j *ℤ step .level)
         ∙ ap₂ (λ (x y : ℤ). x +ℤ y) (p .begins j h .level-is) (adds .levels-at r hr)
 
-    m-of : (j : ℕ) → j < run .length → mAfter place step j ≡ base card (run .first + j) lastAxis +ℤ part (card .replica) r lastAxis
+    m-of : (j : ℕ) → j < run .length → mAfter place step j ≡ base card (run .first .0 + j) lastAxis +ℤ part (card .replica) r lastAxis
     m-of j h =
         between (start .m) (getD ms r (pos 0)) (pos j *ℤ step .m)
         ∙ ap₂ (λ (x y : ℤ). x +ℤ y) (p .begins j h .m-is) (adds .ms-at r hr)
 
     there : (j : ℕ) → j < run .length → CellThere (swizzleOf numbers) (levelAfter place step j) (mAfter place step j)
-    there j h = copy-there numbers strides (p .admits) (p .inside) (run .first + j) r (p .element j h) hr (level-of j h) (m-of j h)
+    there j h = copy-there numbers strides (p .admits) (p .inside) (run .first .0 + j) r (p .element j h) hr (level-of j h) (m-of j h)
 
-    pub line-cell : (j : ℕ) → j < run .length → lineCell (swizzleOf numbers) place step j ≡ placed card .at (run .first + j) r
+    pub line-cell : (j : ℕ) → j < run .length → lineCell (swizzleOf numbers) place step j ≡ placed card .at (run .first .0 + j) r
     line-cell j h =
         let c = there j h in
         let is = c .there ∙ ap (λ (z : ℤ). levelAfter place step j +ℤ z) (sym (c .m-there)) in
         sym (ap natAbs is)
-        ∙ cell-is numbers strides (p .admits) (p .inside) (run .first + j) r (p .element j h) hr {level = levelAfter place step j} {m = mAfter place step j} (c .cell) (level-of j h) (m-of j h) is
+        ∙ cell-is numbers strides (p .admits) (p .inside) (run .first .0 + j) r (p .element j h) hr {level = levelAfter place step j} {m = mAfter place step j} (c .cell) (level-of j h) (m-of j h) is
 
-    pub line-there : 0 < run .length → (table : List ℕ) → length table ≡ cells card → LineThere (swizzleOf numbers) place step (run .first) (run .length) table
+    pub line-there : 0 < run .length → (table : List ℕ) → length table ≡ cells card → LineThere (swizzleOf numbers) place step (run .first .0) (run .length) table
     line-there some table size = record {
       some = some;
       small =
@@ -66,9 +66,9 @@ module _ (numbers : List ℕ) (strides : List ℤ) (start step : Place) (run : R
           omega (arith, p .element (run .length - 1) last, sized card (p .admits .admitted) .most-elements);
       cells = there;
       inside = λ j h.
-          omega (arith, line-cell j h, cell-short numbers strides (p .admits) (p .inside) (run .first + j) r (p .element j h) hr);
+          omega (arith, line-cell j h, cell-short numbers strides (p .admits) (p .inside) (run .first .0 + j) r (p .element j h) hr);
       near = λ j h.
-          let n = base-near numbers strides (p .admits) (run .first + j) (p .begins j h) in
+          let n = base-near numbers strides (p .admits) (run .first .0 + j) (p .begins j h) in
           let a = between (start .level) (getD levels r (pos 0)) (pos j *ℤ step .level) in
           let b = between (start .m) (getD ms r (pos 0)) (pos j *ℤ step .m) in (
             rw a (omega (arith, sum-far (start .level +ℤ pos j *ℤ step .level) (getD levels r (pos 0)), n .0, copy-near numbers strides (p .admits) adds r hr .0)),
@@ -78,28 +78,28 @@ module _ (numbers : List ℕ) (strides : List ℤ) (start step : Place) (run : R
     }
 
     -- its line claimed
-    pub copies-more : (before after : List ℕ) → Partly (placed card) (run .first) (λ j. run .first + j) (run .length) r before
-        → Lined (lineCell (swizzleOf numbers) place step) (λ j. run .first + j) (run .length) before after
-        → Partly (placed card) (run .first) (λ j. run .first + j) (run .length) (r + 1) after
+    pub copies-more : (before after : List ℕ) → Partly (placed card) (run .first .0) (λ j. run .first .0 + j) (run .length) r before
+        → Lined (lineCell (swizzleOf numbers) place step) (λ j. run .first .0 + j) (run .length) before after
+        → Partly (placed card) (run .first .0) (λ j. run .first .0 + j) (run .length) (r + 1) after
     copies-more before after was l =
-        partly-more (placed card) (run .first) (λ j. run .first + j) (run .length) (λ j h. omega arith) (λ i j hi hj e. omega arith) r before after was
-        (lined-as (lineCell (swizzleOf numbers) place step) (λ j. placed card .at (run .first + j) r) (λ j. run .first + j) (run .length) line-cell l)
+        partly-more (placed card) (run .first .0) (λ j. run .first .0 + j) (run .length) (λ j h. omega arith) (λ i j hi hj e. omega arith) r before after was
+        (lined-as (lineCell (swizzleOf numbers) place step) (λ j. placed card .at (run .first .0 + j) r) (λ j. run .first .0 + j) (run .length) line-cell l)
 
-  pub copies-none : Partly (placed card) (run .first) (λ j. run .first + j) (run .length) 0 table₀
-  copies-none = partly-none (placed card) (run .first) (λ j. run .first + j) (run .length) (λ j h. omega arith) table₀ (p .owned .owners)
+  pub copies-none : Partly (placed card) (run .first .0) (λ j. run .first .0 + j) (run .length) 0 table₀
+  copies-none = partly-none (placed card) (run .first .0) (λ j. run .first .0 + j) (run .length) (λ j h. omega arith) table₀ (p .owned .owners)
 
   -- all copies claimed
-  pub copies-all : (table : List ℕ) (newly : ℕ) → length table ≡ cells card → Partly (placed card) (run .first) (λ j. run .first + j) (run .length) (copies card) table
-      → occupied table ≡ occupied table₀ + newly → OwnedTable (placed card) (run .first + run .length) (cells card) table (occupied table₀ + newly)
+  pub copies-all : (table : List ℕ) (newly : ℕ) → length table ≡ cells card → Partly (placed card) (run .first .0) (λ j. run .first .0 + j) (run .length) (copies card) table
+      → occupied table ≡ occupied table₀ + newly → OwnedTable (placed card) (run .first .0 + run .length) (cells card) table (occupied table₀ + newly)
   copies-all table newly size is counted = record {
     size = size;
     owners =
-        partly-all (placed card) (run .first) (λ j. run .first + j) (run .length) (λ j h. omega arith) (copies card) (run .first + run .length)
+        partly-all (placed card) (run .first .0) (λ j. run .first .0 + j) (run .length) (λ j h. omega arith) (copies card) (run .first .0 + run .length)
         (record {
           end = omega arith;
           within = λ j h. omega arith;
-          whole = λ j h. own-copies card (run .first + j) (p .leads j h);
-          which = λ f from below. inl (f - run .first, omega arith, omega arith);
+          whole = λ j h. own-copies card (run .first .0 + j) (p .leads j h);
+          which = λ f from below. inl (f - run .first .0, omega arith, omega arith);
         })
         table is;
     counted = sym counted;
@@ -109,5 +109,5 @@ module _ (numbers : List ℕ) (strides : List ℤ) (start step : Place) (run : R
 pub start-near : (numbers : List ℕ) (strides : List ℤ) (start step : Place) (run : Run) (table₀ : List ℕ) → Running numbers strides start step run table₀ → 0 < run .length
     → (natAbs (start .level) ≤ roomy) × (natAbs (start .m) ≤ roomy)
 start-near numbers strides start step run table₀ p some =
-    let n = base-near numbers strides (p .admits) (run .first + 0) (p .begins 0 some) in
+    let n = base-near numbers strides (p .admits) (run .first .0 + 0) (p .begins 0 some) in
     (rw (no-step (start .level) (step .level)) (n .0), rw (no-step (start .m) (step .m)) (n .1))

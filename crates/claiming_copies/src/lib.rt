@@ -1,5 +1,6 @@
 // A packed card's elements claimed run by run, and each run copy by copy, a line of cells at a time. Where a cell has an owner
 // already it fails: which element meets it is for the crate above to find.
+use answers::Flat;
 use claiming_runs::Run;
 use runs::Place;
 use swizzle::Swizzle;
@@ -29,7 +30,7 @@ fn claim_copies(
 ) -> u64
     requires { ⌜ Running (now numbers) (now strides) start step run (now table) × (0 < run .length) × (by ≡ swizzleOf (now numbers)) ⌝ }
     requires { ⌜ Copying (cardOf (now numbers) (now strides)) (now levels) (now ms) ⌝ }
-    ensures { λ r. ⌜ (0 < r → OwnedTable (placed (cardOf (now (numbers .entry)) (now (strides .entry)))) (run .first + run .length) (cells (cardOf (now (numbers .entry)) (now (strides .entry)))) (now (table .exit)) (occupied (now (table .entry)) + r)) ⌝ }
+    ensures { λ r. ⌜ (0 < r → OwnedTable (placed (cardOf (now (numbers .entry)) (now (strides .entry)))) (run .first .0 + run .length) (cells (cardOf (now (numbers .entry)) (now (strides .entry)))) (now (table .exit)) (occupied (now (table .entry)) + r)) ⌝ }
 {
     let first = run.first;
     let length = run.length;
@@ -72,11 +73,14 @@ fn claim_turns(
     ensures { λ r. ⌜ (0 < r → OwnedTable (placed (cardOf (now (numbers .entry)) (now (strides .entry)))) elements (cells (cardOf (now (numbers .entry)) (now (strides .entry)))) (now (table .exit)) r) ⌝ }
 {
     let mut digits = [0u64; 8];
-    let mut start = runs::begin(numbers, strides, 0);
+    let mut start = runs::begin(numbers, strides, Flat(0));
     let mut occupied: u64 = 0;
     let mut first: u64 = 0;
     while first < elements {
-        let run = Run { first, length };
+        let run = Run {
+            first: Flat(first),
+            length,
+        };
         let claimed = claim_copies(numbers, strides, by, start, step, run, levels, ms, table);
         if claimed == 0 {
             return 0;

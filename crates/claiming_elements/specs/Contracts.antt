@@ -26,5 +26,5 @@ pub record Begun (numbers : List ℕ) (strides : List ℤ) (place : Place) (flat
 -- what claiming it comes to: the table of the elements claimed too, and if one was not, it meets an owner
 pub record RunClaim (card : Card) (run : Run) (claimed : Claimed) (before after : List ℕ) : Type 0 where
   pub most : claimed .elements ≤ run .length
-  pub owned : OwnedTable (placed card) (run .first + claimed .elements) (cells card) after (occupied before + claimed .cells)
-  pub met : claimed .elements < run .length → 0 < entryMet after (copyCells card (run .first + claimed .elements))
+  pub owned : OwnedTable (placed card) (run .first .0 + claimed .elements) (cells card) after (occupied before + claimed .cells)
+  pub met : claimed .elements < run .length → 0 < entryMet after (copyCells card (run .first .0 + claimed .elements))

@@ -30,7 +30,7 @@ fn claim_single(
     requires { ⌜ Begun (now numbers) (now strides) place (flat .0) (now table) × (copies (cardOf (now numbers) (now strides)) ≡ 1) × (by ≡ swizzleOf (now numbers)) ⌝ }
     ensures { λ r. ⌜ RowClaim (copyCells (cardOf (now (numbers .entry)) (now (strides .entry))) (flat .0)) (flat .0) r (now (table .entry)) (now (table .exit)) ⌝ }
 {
-    let cell = runs::cell_at(by, place.level, place.m) as usize;
+    let cell = runs::cell_at(by, place.level, place.m).0 as usize;
     if table[cell] != 0 {
         return 0;
     }
@@ -78,7 +78,7 @@ pub fn claim_run(
     requires { ⌜ Rows (cardOf (now numbers) (now strides)) (now levels) (now ms) (now row) ⌝ }
     ensures { λ r. ⌜ RunClaim (cardOf (now (numbers .entry)) (now (strides .entry))) run r (now (table .entry)) (now (table .exit)) ⌝ }
 {
-    let first = run.first;
+    let first = run.first.0;
     let length = run.length;
     let by = runs::swizzle_of(numbers);
     let level_step = step.level;

@@ -63,9 +63,9 @@ pub fn claim_runs(
     let mut occupied: u64 = 0;
     let mut flat: u64 = 0;
     while flat < elements {
-        let first = flat;
+        let first = Flat(flat);
         flat += length;
-        if reuse::leads(numbers, marked, Flat(first)) {
+        if reuse::leads(numbers, marked, first) {
             let start = runs::begin(numbers, strides, first);
             let run = Run { first, length };
             let claimed = claiming_elements::claim_run(
@@ -80,7 +80,7 @@ pub fn claim_runs(
                 table,
             );
             if claimed.elements < length {
-                let met = Flat(first + claimed.elements);
+                let met = Flat(first.0 + claimed.elements);
                 return Verdict::Refused(refuse_clash(numbers, strides, met, row, table));
             }
             occupied += claimed.cells;

@@ -1,5 +1,6 @@
 // Lines of cells in an owner table, one copy of each of some elements that follow each other, claimed where every cell is nobody's.
 // Else a line is left, with some of its cells written.
+use answers::Flat;
 use runs::Place;
 use swizzle::Swizzle;
 ghost use mathlib.Core.Path.{_≡_};
@@ -68,7 +69,7 @@ fn claim_cells(
     let mut m = start.m;
     let mut done: u64 = 0;
     while done < many {
-        let cell = runs::cell_at(by, level, m) as usize;
+        let cell = runs::cell_at(by, level, m).0 as usize;
         if table[cell] != 0 {
             return false;
         }
@@ -86,20 +87,20 @@ pub fn claim_line(
     by: Swizzle,
     start: Place,
     step: Place,
-    first: u64,
+    first: Flat,
     many: u64,
     table: &mut [u32],
 ) -> bool
-    requires { ⌜ LineThere by start step first many (now table) ⌝ }
-    ensures { λ r. ⌜ (r ≡ true → Lined (lineCell by start step) (λ j. first + j) many (now (table .entry)) (now (table .exit))) ⌝ }
+    requires { ⌜ LineThere by start step (first .0) many (now table) ⌝ }
+    ensures { λ r. ⌜ (r ≡ true → Lined (lineCell by start step) (λ j. first .0 + j) many (now (table .entry)) (now (table .exit))) ⌝ }
 {
     if (FEW < many) & (by.b == 0) & (step.level + step.m == 1) {
         return claim_stretch(
             table,
             (start.level + start.m) as usize,
             many as usize,
-            first,
+            first.0,
         );
     }
-    claim_cells(by, start, step, first, many, table)
+    claim_cells(by, start, step, first.0, many, table)
 }

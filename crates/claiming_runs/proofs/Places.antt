@@ -227,11 +227,11 @@ module _ (numbers : List ℕ) (strides : List ℤ) (a : Admits numbers strides) 
     (by : RunsBy (cardOf numbers strides) length) {start step : Place} {table : List ℕ}
     (steps : Adds (slice 32 40 numbers) (part (itersOf numbers strides 0) 1) step) where
   pub running : (first : ℕ) → first ≡ q * length → first < elements (cardOf numbers strides) → leader (cardOf numbers strides) first ≡ first → Adds (slice 32 40 numbers) (base (cardOf numbers strides) first) start
-      → OwnedTable (placed (cardOf numbers strides)) first (cells (cardOf numbers strides)) table (occupied table) → Running numbers strides start step (record { first = first; length = length }) table
+      → OwnedTable (placed (cardOf numbers strides)) first (cells (cardOf numbers strides)) table (occupied table) → Running numbers strides start step (record { first = record { 0 = first }; length = length }) table
   running first e =
       subst
       (λ (f : ℕ). f < elements (cardOf numbers strides) → leader (cardOf numbers strides) f ≡ f → Adds (slice 32 40 numbers) (base (cardOf numbers strides) f) start → OwnedTable (placed (cardOf numbers strides)) f (cells (cardOf numbers strides)) table (occupied table)
-      → Running numbers strides start step (record { first = f; length = length }) table)
+      → Running numbers strides start step (record { first = record { 0 = f }; length = length }) table)
       (sym e)
       (λ h leads begins owned.
       let end = run-end numbers strides length q by refl h in

@@ -37,13 +37,13 @@ pub record Rows (card : Card) (levels ms : List ℤ) (row : List ℕ) : Type 0 w
 pub record Running (numbers : List ℕ) (strides : List ℤ) (start step : Place) (run : Run) (table : List ℕ) : Type 0 where
   pub admits : Admits numbers strides
   pub inside : AllInside (cardOf numbers strides)
-  pub element : (c : ℕ) → c < run .length → run .first + c < elements (cardOf numbers strides)
-  pub leads : (c : ℕ) → c < run .length → leader (cardOf numbers strides) (run .first + c) ≡ run .first + c
+  pub element : (c : ℕ) → c < run .length → run .first .0 + c < elements (cardOf numbers strides)
+  pub leads : (c : ℕ) → c < run .length → leader (cardOf numbers strides) (run .first .0 + c) ≡ run .first .0 + c
   pub begins : (c : ℕ) → c < run .length
-      → Adds (slice 32 40 numbers) (base (cardOf numbers strides) (run .first + c))
+      → Adds (slice 32 40 numbers) (base (cardOf numbers strides) (run .first .0 + c))
       (record { level = start .level +ℤ pos c *ℤ step .level; m = start .m +ℤ pos c *ℤ step .m })
   pub near : (natAbs (step .level) ≤ roomy) × (natAbs (step .m) ≤ roomy)
-  pub owned : OwnedTable (placed (cardOf numbers strides)) (run .first) (cells (cardOf numbers strides)) table (occupied table)
+  pub owned : OwnedTable (placed (cardOf numbers strides)) (run .first .0) (cells (cardOf numbers strides)) table (occupied table)
 
 -- the elements are runs of this length, in each of which every sum grows by one step, and all elements of a run lead if the first does
 pub record RunsBy (card : Card) (long : ℕ) : Type 0 where

@@ -1,5 +1,7 @@
 // The cells of a packed card's copies in runs, by level and m: what a step and each copy add, and a row filled by it.
 // An element begins at a level, the number of its sums without m, and at an m; in a run both grow by one step, and each copy adds its own.
+use answers::Cell;
+use answers::Flat;
 use swizzle::Swizzle;
 ghost use mathlib.Core.Path.{_≡_};
 ghost use mathlib.Core.Bool.{true};
@@ -72,12 +74,12 @@ pub fn swizzle_of(numbers: &[u64; 56]) -> Swizzle
 }
 
 // The cell of a copy inside the space by its level and its m. Public, with a requires, for the crate above.
-pub fn cell_at(by: Swizzle, level: i64, m: i64) -> u64
+pub fn cell_at(by: Swizzle, level: i64, m: i64) -> Cell
     requires { ⌜ CellThere by level m ⌝ }
-    ensures { λ r. ⌜ pos r ≡ level +ℤ swizzledZ by m ⌝ }
+    ensures { λ r. ⌜ pos (r .0) ≡ level +ℤ swizzledZ by m ⌝ }
 {
     let on_m = swizzle::swizzle_permitted(by.m, by.b, by.s, m as u64);
-    (level + on_m as i64) as u64
+    Cell((level + on_m as i64) as u64)
 }
 
 // What a list of iters adds to level and m at an index. Public, with a requires, for the crate above.
@@ -93,12 +95,12 @@ pub fn added(numbers: &[u64; 56], strides: &[i64; 24], list: usize, index: u64) 
 
 // Where an element begins: level and m of its base, shard and offset. Public, with a requires, for the
 // crate above.
-pub fn begin(numbers: &[u64; 56], strides: &[i64; 24], flat: u64) -> Place
+pub fn begin(numbers: &[u64; 56], strides: &[i64; 24], flat: Flat) -> Place
     requires { ⌜ Admits (now numbers) (now strides) ⌝ }
-    ensures { λ r. ⌜ Adds (slice 32 40 (now (numbers .entry))) (base (cardOf (now (numbers .entry)) (now (strides .entry))) flat) r ⌝ }
+    ensures { λ r. ⌜ Adds (slice 32 40 (now (numbers .entry))) (base (cardOf (now (numbers .entry)) (now (strides .entry))) (flat .0)) r ⌝ }
 {
     let mut sums = copies::offset(strides);
-    sums::walk(numbers, strides, card::SHARD, flat, &mut sums);
+    sums::walk(numbers, strides, card::SHARD, flat.0, &mut sums);
     let level = weigh(numbers, &sums);
     Place { level, m: sums[M] }
 }
@@ -129,7 +131,7 @@ pub fn fill(numbers: &[u64; 56], level: i64, m: i64, levels: &[i64], ms: &[i64],
     let mut combination: usize = 0;
     while combination < row.len() {
         let cell = cell_at(by, level + levels[combination], m + ms[combination]);
-        row[combination] = cell as u32;
+        row[combination] = cell.0 as u32;
         combination += 1;
     }
 }

@@ -31,7 +31,7 @@ abbrev Inv-loop : tie.InvT-loop
 Inv-loop numbers strides by step levels ms table₀ first many level m newly₀ copy₀ table newly copy =
     (copy ≤ length levels)
     × (length table ≡ length table₀)
-    × Partly (placed (cardOf numbers strides)) first (λ j. first + j) many copy table
+    × Partly (placed (cardOf numbers strides)) (first .0) (λ j. first .0 + j) many copy table
     × (newly ≡ copy * many)
     × (occupied table ≡ occupied table₀ + newly)
 
@@ -39,7 +39,7 @@ abbrev μ-loop : tie.MeasureT-loop
 μ-loop numbers strides by step levels ms table₀ first many level m newly₀ copy₀ table newly copy = length levels - copy
 
 abbrev start : tie.After-struct-told2 Inv-loop μ-loop → tie.Start Inv-loop μ-loop
-start c = c .before .before .before
+start c = c .before .before .before .before
 
 abbrev card : tie.Start Inv-loop μ-loop → Card
 card s = cardOf (s .args .numbers .now) (s .args .strides .now)
@@ -118,7 +118,7 @@ claim-line-requires c κs =
     let t = u d in
     let q = s t in
     rw (level-back (d .before), m-back d)
-    (subst (λ (w : Swizzle). LineThere w (here t) (q .args .step) (q .args .run .first) (q .args .run .length) (t .before .loop .table)) (sym (q .pre .0 .2))
+    (subst (λ (w : Swizzle). LineThere w (here t) (q .args .step) (q .args .run .first .0) (q .args .run .length) (t .before .loop .table)) (sym (q .pre .0 .2))
     (line-there (q .args .numbers .now) (q .args .strides .now) (q .args .start) (q .args .step) (q .args .run) (q .args .table .now) (q .pre .0 .0) (q .args .levels .now) (q .args .ms .now)
     (q .pre .1) (copy t) (few t) (q .pre .0 .1) (t .before .loop .table) (size t)))
 
@@ -137,10 +137,10 @@ module _ (r : tie.After-claim-line Inv-loop μ-loop) where
   kept = r .claim-line .kept .1 .1 .1 .1 .1 .0 ∙ turn .before .loop .inv .1
 
   lined : r .claim-line .result ≡ true
-      → Lined (lineCell (swizzleOf (s turn .args .numbers .now)) (here turn) (s turn .args .step)) (λ j. s turn .args .run .first + j) (s turn .args .run .length) (turn .before .loop .table) after
+      → Lined (lineCell (swizzleOf (s turn .args .numbers .now)) (here turn) (s turn .args .step)) (λ j. s turn .args .run .first .0 + j) (s turn .args .run .length) (turn .before .loop .table) after
   lined yes-it-is =
       let q = s turn in
-      subst (λ (w : Swizzle). Lined (lineCell w (here turn) (q .args .step)) (λ j. q .args .run .first + j) (q .args .run .length) (turn .before .loop .table) after) (q .pre .0 .2)
+      subst (λ (w : Swizzle). Lined (lineCell w (here turn) (q .args .step)) (λ j. q .args .run .first .0 + j) (q .args .run .length) (turn .before .loop .table) after) (q .pre .0 .2)
       (rw (level-back (e .before), m-back e) at (r .claim-line .ensures) yes-it-is)
 
 abbrev claimed : tie.Else1 Inv-loop μ-loop → tie.After-claim-line Inv-loop μ-loop

@@ -74,7 +74,7 @@ module _ (t : tie.In-loop Inv-loop μ-loop) where
       subst (λ (f : ℕ). Adds (slice 32 40 (s .args .numbers .now)) (base (card s) f) (l .start)) (l .inv .6 (t .loop-test .taken))
       (place-of (s .args .numbers .now) (s .args .strides .now) (s .pre .0 .0 .admits) (l .digits) (l .start) (l .inv .4))
 
-  runs : Running (s .args .numbers .now) (s .args .strides .now) (t .before .loop .start) (s .args .step) (record { first = t .before .loop .first; length = many }) (t .before .loop .table)
+  runs : Running (s .args .numbers .now) (s .args .strides .now) (t .before .loop .start) (s .args .step) (record { first = record { 0 = t .before .loop .first }; length = many }) (t .before .loop .table)
   runs =
       let l = t .before .loop in
       running (s .args .numbers .now) (s .args .strides .now) (s .pre .0 .0 .admits) (s .pre .0 .0 .inside) many (l .inv .0) by (s .pre .1 .steps)

@@ -78,7 +78,7 @@ module _ (t : tie.In-loop Inv-loop μ-loop) where
   s = start k
 
   abbrev flat : ℕ
-  flat = s .args .run .first + t .before .loop .done
+  flat = s .args .run .first .0 + t .before .loop .done
 
   below : t .before .loop .done < s .args .run .length
   below = t .loop-test .taken

@@ -46,17 +46,17 @@ cell-at-requires c κs =
     (single-there (a .numbers .now) (a .strides .now) (b .admits) (b .claimable .inside) (a .flat .0) 0 (b .claimable .element) (one s) refl (b .begins .level-is) (b .begins .m-is)))
 
 -- the cell that was found
-cell-found : (c : tie.After-cell-at) → let s = c .before .before .before .before in c .cell-at .result ≡ cellOf (spot (card s) (s .args .flat .0) 0)
+cell-found : (c : tie.After-cell-at) → let s = c .before .before .before .before in c .cell-at .result .0 ≡ cellOf (spot (card s) (s .args .flat .0) 0)
 cell-found c =
     let d = c .before .before in
     let s = d .before .before in
     let a = s .args in
     let b = s .pre .0 in
-    single-is (a .numbers .now) (a .strides .now) (b .admits) (b .claimable .inside) (a .flat .0) 0 (b .claimable .element) (one s) refl (c .cell-at .result)
+    single-is (a .numbers .now) (a .strides .now) (b .admits) (b .claimable .inside) (a .flat .0) 0 (b .claimable .element) (one s) refl (c .cell-at .result .0)
     (b .begins .level-is) (b .begins .m-is)
     (rw (level-back d, m-back d) at (c .cell-at .ensures) ∙ ap (λ (w : Swizzle). a .place .level +ℤ swizzledZ w (a .place .m)) (s .pre .2))
 
-cell-here : (c : tie.After-cell-at) → let s = c .before .before .before .before in c .cell-at .result < length (s .args .table .now)
+cell-here : (c : tie.After-cell-at) → let s = c .before .before .before .before in c .cell-at .result .0 < length (s .args .table .now)
 cell-here c =
     let s = c .before .before .before .before in
     let a = s .args in
@@ -68,7 +68,7 @@ cell-here c =
       cell-short (a .numbers .now) (a .strides .now) (b .admits) (b .claimable .inside) (a .flat .0) 0 (b .claimable .element) (one s),
     )
 
-row-is : (c : tie.After-cell-at) → let s = c .before .before .before .before in copyCells (card s) (s .args .flat .0) ≡ c .cell-at .result ∷ []
+row-is : (c : tie.After-cell-at) → let s = c .before .before .before .before in copyCells (card s) (s .args .flat .0) ≡ c .cell-at .result .0 ∷ []
 row-is c =
     let s = c .before .before .before .before in
     single-row (card s) (s .args .flat .0) (s .pre .1) ∙ ap (λ (n : ℕ). n ∷ []) (sym (cell-found c))
@@ -80,7 +80,7 @@ returns : tie.Need-returns
 returns c =
     let d = c .before .before in
     let s = d .before .before .before .before in
-    single-met (copyCells (card s) (s .args .flat .0)) (s .args .table .now) (s .args .flat .0) (d .cell-at .result) (row-is d) (c .if1 .taken)
+    single-met (copyCells (card s) (s .args .flat .0)) (s .args .table .now) (s .args .flat .0) (d .cell-at .result .0) (row-is d) (c .if1 .taken)
 
 abbrev found : tie.After-struct-known → tie.After-cell-at
 found c = c .before .before .before
@@ -97,7 +97,7 @@ returns-2 : tie.Need-returns-2
 returns-2 c =
     let d = found c in
     let s = d .before .before .before .before in
-    single-claimed (copyCells (card s) (s .args .flat .0)) (s .args .table .now) (s .args .flat .0) (d .cell-at .result) (row-is d) (cell-here d) (c .before .if1 .left)
+    single-claimed (copyCells (card s) (s .args .flat .0)) (s .args .table .now) (s .args .flat .0) (d .cell-at .result .0) (row-is d) (cell-here d) (c .before .if1 .left)
 
 pub claim-single-spec : {M : Type 1} → statement M
 claim-single-spec =

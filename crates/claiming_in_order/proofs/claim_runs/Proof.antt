@@ -71,7 +71,7 @@ led i =
 
 runs : (b : tie.After-begin Inv-loop μ-loop) → let t = b .before .before .before in
     Running (s t .args .numbers .now) (s t .args .strides .now) (b .begin .result) (t .before .before .added .result)
-    (record { first = t .before .loop .flat; length = many t }) (t .before .loop .table)
+    (record { first = record { 0 = t .before .loop .flat }; length = many t }) (t .before .loop .table)
 runs b =
     let t = b .before .before .before in
     let l = t .before .loop in
@@ -110,11 +110,11 @@ module _ (r : tie.After-claim-run Inv-loop μ-loop) where
   counted : turn .before .loop .occupied + r .claim-run .result .cells ≤ cells (card (s turn))
   counted = omega (arith, turn .before .loop .inv .4 .counted, r .claim-run .ensures .owned .counted, occupied-most after, size)
 
-abbrev claimed-run : tie.After-struct-known3 Inv-loop μ-loop → tie.After-claim-run Inv-loop μ-loop
+abbrev claimed-run : tie.After-struct-known4 Inv-loop μ-loop → tie.After-claim-run Inv-loop μ-loop
 claimed-run c = c .before .before .before .before .before .before .before
 
-abbrev met-run : tie.After-struct-known2 Inv-loop μ-loop → tie.After-claim-run Inv-loop μ-loop
-met-run c = c .before .before .before .before .before .before .before
+abbrev met-run : tie.After-struct-known3 Inv-loop μ-loop → tie.After-claim-run Inv-loop μ-loop
+met-run c = c .before .before .before .before .before .before .before .before
 
 loop-holds : tie.Need-loop-holds Inv-loop μ-loop
 loop-holds c =
@@ -145,8 +145,8 @@ refuse-clash-requires c κs =
     record {
       admits = admits (p .0 .0);
       one-each = kept r ∙ p .0 .0 .one-each;
-      claimable = claimable r (m .before .if2 .taken);
-      meets = r .claim-run .ensures .met (m .before .if2 .taken);
+      claimable = claimable r (m .before .before .if2 .taken);
+      meets = r .claim-run .ensures .met (m .before .before .if2 .taken);
     }
 
 returns : tie.Need-returns Inv-loop μ-loop
@@ -154,7 +154,7 @@ returns c =
     let f = c .before .before .before .before in
     let m = f .before .before .before in
     let r = met-run m in
-    let short = m .before .if2 .taken in
+    let short = m .before .before .if2 .taken in
     let q = s (turn r) in
     let flat = turn r .before .loop .flat + claimed r in
     let k = claimable r short in
@@ -207,7 +207,7 @@ claim-runs-spec =
     tie.close
     (tie.spec Inv-loop μ-loop (λ c κs. listed (c .before .before .pre .0 .0)) run-length-requires added-requires loop-holds (λ c. omega (arith, end c, small c)) leads-requires
     (λ c κs. admits (s (c .before .before) .pre .0 .0)) claim-run-requires
-    (λ c. omega (arith, end (turn (met-run c)), small (turn (met-run c)), c .before .if2 .taken)) refuse-clash-requires
+    (λ c. omega (arith, end (turn (met-run c)), small (turn (met-run c)), c .before .before .if2 .taken)) refuse-clash-requires
     (λ c. let f = c .before .before .before .before in f .refuse-clash .kept .1 .1 .1 .0 ∙ kept (met-run (f .before .before .before)))
     (λ c. let f = c .before .before .before .before in let r = met-run (f .before .before .before) in f .refuse-clash .kept .1 .1 .1 .1 .0 ∙ size r ∙ sym (exact (s (turn r))))
     returns

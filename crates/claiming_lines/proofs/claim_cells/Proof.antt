@@ -95,12 +95,12 @@ module _ (f : tie.After-cell-at Inv-loop μ-loop) where
   abbrev q : tie.After-struct-told4 Inv-loop μ-loop
   q = k turn
 
-  found : f .cell-at .result ≡ lineCell (s q .args .by) (start q) (step q) (done turn)
+  found : f .cell-at .result .0 ≡ lineCell (s q .args .by) (start q) (step q) (done turn)
   found =
       let l = turn .before .loop in
       cell-found (s q .args .by) (start q) (step q) (s q .args .first) (done turn) (s q .args .table .now) (l .table) (l .inv .1) (l .inv .2) (l .inv .3) (f .cell-at .ensures)
 
-  here : f .cell-at .result < length (turn .before .loop .table)
+  here : f .cell-at .result .0 < length (turn .before .loop .table)
   here = omega (arith, found, turn .before .loop .inv .1 .size, there q .inside (done turn) (turn .loop-test .taken))
 
   few : s q .args .first + done turn + 2 < 2 ^ 32 + 1

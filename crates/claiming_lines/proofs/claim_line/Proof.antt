@@ -62,7 +62,7 @@ module _ (c : tie.After-struct-told2) where
   tested = c .before .before .before .if1 .taken
 
   abbrev begin : ℕ
-  begin = from (q .args .by) (q .args .start) (q .args .step) (q .args .first) (q .args .many) (q .args .table .now) (q .pre) (straight told tested) (one told tested)
+  begin = from (q .args .by) (q .args .start) (q .args .step) (q .args .first .0) (q .args .many) (q .args .table .now) (q .pre) (straight told tested) (one told tested)
 
   abbrev adds : ℤ
   adds = toZ w64 (ofZ w64 (q .args .start .level)) +ℤ toZ w64 (ofZ w64 (q .args .start .m))
@@ -71,7 +71,7 @@ module _ (c : tie.After-struct-told2) where
   adds-is =
       ap₂ (λ (x y : ℤ). x +ℤ y) (toZ-ofZ {w = w64} {z = q .args .start .level} (record { sfits = c .struct-told2 .given .0 .1 }))
       (toZ-ofZ {w = w64} {z = q .args .start .m} (record { sfits = c .struct-told2 .given .1 .0 .1 }))
-      ∙ from-is (q .args .by) (q .args .start) (q .args .step) (q .args .first) (q .args .many) (q .args .table .now) (q .pre) (straight told tested) (one told tested)
+      ∙ from-is (q .args .by) (q .args .start) (q .args .step) (q .args .first .0) (q .args .many) (q .args .table .now) (q .pre) (straight told tested) (one told tested)
 
   few : begin < 2 ^ 32
   few = q .pre .cells 0 (q .pre .some) .few
@@ -82,8 +82,8 @@ module _ (c : tie.After-struct-told2) where
   back : toZ w64 (ofZ w64 adds) ≡ pos begin
   back = toZ-ofZ adds-fits ∙ adds-is
 
-  there : StretchThere (q .args .first) begin (q .args .many) (q .args .table .now)
-  there = stretch-there (q .args .by) (q .args .start) (q .args .step) (q .args .first) (q .args .many) (q .args .table .now) (q .pre) (straight told tested) (one told tested)
+  there : StretchThere (q .args .first .0) begin (q .args .many) (q .args .table .now)
+  there = stretch-there (q .args .by) (q .args .start) (q .args .step) (q .args .first .0) (q .args .many) (q .args .table .now) (q .pre) (straight told tested) (one told tested)
 
 cast-claim-stretch : tie.Need-cast-claim-stretch
 cast-claim-stretch c = rw (back c) (tt, record { fits = omega (arith, few c) })
@@ -96,8 +96,8 @@ returns c e =
     let r = c .before .before in
     let d = r .before in
     let a = q d .args in
-    lined-as (λ j. begin d + j) (lineCell (a .by) (a .start) (a .step)) (λ j. a .first + j) (a .many)
-    (λ j h. stretch-cell (a .by) (a .start) (a .step) (a .first) (a .many) (a .table .now) (q d .pre) (straight (told d) (tested d)) (one (told d) (tested d)) j)
+    lined-as (λ j. begin d + j) (lineCell (a .by) (a .start) (a .step)) (λ j. a .first .0 + j) (a .many)
+    (λ j h. stretch-cell (a .by) (a .start) (a .step) (a .first .0) (a .many) (a .table .now) (q d .pre) (straight (told d) (tested d)) (one (told d) (tested d)) j)
     (rw (back d) at (r .claim-stretch .ensures) e)
 
 pub claim-line-spec : {M : Type 1} → statement M

@@ -28,25 +28,25 @@ walk-requires c κs =
     (walkable-shard (a .numbers .now) (a .strides .now) (s .pre), subst Sums (sym (o .offset .ensures)) (offset-sums (a .numbers .now) (a .strides .now) (s .pre)))
 
 -- what the walk leaves
-based : (k : tie.After-walk) → let s = k .before .before .before in k .walk .last .1 .1 .1 .1 .0 ≡ walked (card s .shard) (s .args .flat) (card s .offset)
+based : (k : tie.After-walk) → let s = k .before .before .before in k .walk .last .1 .1 .1 .1 .0 ≡ walked (card s .shard) (s .args .flat .0) (card s .offset)
 based k =
     let o = k .before .before in
     let s = o .before in
-    k .walk .ensures ∙ ap (walked (card s .shard) (s .args .flat)) (o .offset .ensures)
+    k .walk .ensures ∙ ap (walked (card s .shard) (s .args .flat .0)) (o .offset .ensures)
 
 weigh-requires : tie.Need-weigh-requires
 weigh-requires c κs =
     let k = c .before in
     let s = k .before .before .before in
     let a = s .args in
-    (s .pre .whole .all-numbers, checked (card s) (s .pre .admitted) .space, rw (based k) (base-sums (a .numbers .now) (a .strides .now) (s .pre) (a .flat)))
+    (s .pre .whole .all-numbers, checked (card s) (s .pre .admitted) .space, rw (based k) (base-sums (a .numbers .now) (a .strides .now) (s .pre) (a .flat .0)))
 
 returns : tie.Need-returns
 returns c =
     let w = c .before in
     let k = w .before .before in
     let s = k .before .before .before in
-    adds (card s .lengths) (base (card s) (s .args .flat)) (based k ∙ walked-base (card s) (s .args .flat))
+    adds (card s .lengths) (base (card s) (s .args .flat .0)) (based k ∙ walked-base (card s) (s .args .flat .0))
     (toZ-ofZ {w = w64} {z = w .weigh .result} (record { sfits = w .weigh .ok }) ∙ w .weigh .ensures)
     (toZ-ofZ {w = w64} {z = getD (k .walk .last .1 .1 .1 .1 .0) 7 (pos 0)} (record { sfits = c .t12 .given }))
 

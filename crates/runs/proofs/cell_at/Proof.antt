@@ -34,15 +34,6 @@ cast-swizzle-permitted c =
     rw (toZ-ofZ (s .fits .m))
     (natural-m (s .args .by) (s .args .m) (s .pre .on-m) (s .pre .m-there), fits-natAbs {w = w64} tt (s .fits .m))
 
-cast-result : tie.Need-cast-result
-cast-result c = far-fits (omega (arith, on-m c, start c .pre .short))
-
-add-result : tie.Need-add-result
-add-result c = rw (adds-up c) (far-fits {x = pos (start c .pre .cell)} (omega (arith, start c .pre .few)))
-
-cast-result-2 : tie.Need-cast-result-2
-cast-result-2 c = rw (cell-back c) (tt, record { fits = omega (arith, start c .pre .few) })
-
 returns : tie.Need-returns
 returns c =
     let s = start c in
@@ -51,4 +42,6 @@ returns c =
 pub cell-at-spec : {M : Type 1} → statement M
 cell-at-spec =
     tie.close
-    (tie.spec cast-swizzle-permitted (λ c κs. c .pre .permits) cast-result add-result cast-result-2 returns)
+    (tie.spec cast-swizzle-permitted (λ c κs. c .pre .permits) (λ c. far-fits (omega (arith, on-m c, start c .pre .short)))
+    (λ c. rw (adds-up c) (far-fits {x = pos (start c .pre .cell)} (omega (arith, start c .pre .few))))
+    (λ c. rw (cell-back c) (tt, record { fits = omega (arith, start c .pre .few) })) returns)

@@ -91,18 +91,19 @@ module _ (f : tie.After-cell-at Inv-loop μ-loop) where
   abbrev m : ℤ
   m = s d .args .m +ℤ getD (s d .args .ms .now) (k d) (pos 0)
 
-  found : pos (f .cell-at .result) ≡ level +ℤ swizzledZ (swizzleOf (s d .args .numbers .now)) m
+  found : pos (f .cell-at .result .0) ≡ level +ℤ swizzledZ (swizzleOf (s d .args .numbers .now)) m
   found = rw (level-back d, m-back d) at (f .cell-at .ensures) ∙ ap (λ (w : Swizzle). level +ℤ swizzledZ w m) (turn d .before .before .swizzle-of .ensures)
 
-  small : f .cell-at .result < 2 ^ 32
+  small : f .cell-at .result .0 < 2 ^ 32
   small =
       let c = s d .pre .cells (k d) (below (turn d)) in
-      let same : f .cell-at .result ≡ c .cell = ap natAbs (found ∙ ap (λ (z : ℤ). level +ℤ z) (c .m-there) ∙ sym (c .there)) in
+      let same : f .cell-at .result .0 ≡ c .cell = ap natAbs (found ∙ ap (λ (z : ℤ). level +ℤ z) (c .m-there) ∙ sym (c .there)) in
       omega (arith, same, c .few)
 
 loop-again : tie.Need-loop-again Inv-loop μ-loop
 loop-again c =
-    let d = c .before in
+    let f = c .before in
+    let d = f .before in
     let t = d .before .before in
     let s = start t in
     let l = t .before .loop in
@@ -110,8 +111,8 @@ loop-again c =
     let level-is = toZ-ofZ (s .fits .level) in
     let m-is = toZ-ofZ (s .fits .m) in (
       omega (arith, below t),
-      filled-more (a .numbers .now) (toZ w64 (ofZ w64 (a .level))) (toZ w64 (ofZ w64 (a .m))) (a .levels .now) (a .ms .now) (a .row .now) (l .row) (l .combination) (c .cell-at .result)
-          (below t) (l .inv .1) (rw (level-is, m-is) (found c)),
+      filled-more (a .numbers .now) (toZ w64 (ofZ w64 (a .level))) (toZ w64 (ofZ w64 (a .m))) (a .levels .now) (a .ms .now) (a .row .now) (l .row) (l .combination) (f .cell-at .result .0)
+          (below t) (l .inv .1) (rw (level-is, m-is) (found f)),
     )
 
 returns : tie.Need-returns Inv-loop μ-loop
@@ -125,5 +126,5 @@ pub fill-spec : {M : Type 1} → statement M
 fill-spec =
     tie.close
     (tie.spec Inv-loop μ-loop (λ c κs. c .before .pre .whole) loop-holds (λ c. omega arith) (λ c. omega (arith, below c, start c .pre .levels-size)) add-cell-at
-    (λ c. omega arith) (λ c. omega (arith, below (c .before), start (c .before) .pre .ms-size)) add-cell-at-2 cell-at-requires (λ c. omega (arith, small c)) (λ c. omega arith)
+    (λ c. omega arith) (λ c. omega (arith, below (c .before), start (c .before) .pre .ms-size)) add-cell-at-2 cell-at-requires (λ c. omega (arith, small (c .before))) (λ c. omega arith)
     (λ c. omega arith) (λ c. omega arith) (λ c. omega arith) loop-again (λ c. c .before .loop .inv .1 .size) returns)
