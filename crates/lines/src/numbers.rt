@@ -1,4 +1,5 @@
-// The numbers of a line, several at once, and small values as numbers.
+// The numbers of a line, several at once, and small values as numbers. Public, with a requires, only for desk, whose lines
+// have these places.
 use crate::places;
 use crate::places::Kept;
 ghost use mathlib.Core.Path.{_≡_};

@@ -52,6 +52,7 @@ fn double_source(registers: u64, computation: u64, i: u64, place: u64) -> u64
 }
 
 // Of the kinds with values, 5 to 8, by rule; no other kind above 4 has registers, and none of .f64 more than two.
+// Public, with a requires, for the crates above, which have judged the kind.
 pub fn matrix_source(kind: u64, computation: u64, lane: u64, i: u64) -> u64
     requires { ⌜ (4 < kind) × (lane < 32) × (i < 8) ⌝ }
     ensures { λ r. ⌜ r ≡ sourceOf kind computation lane i ⌝ }
@@ -74,7 +75,8 @@ pub fn matrix_source(kind: u64, computation: u64, lane: u64, i: u64) -> u64
     64
 }
 
-// The place of the tile that is dealt to a register; 64 for a register that is not the computation's.
+// The place of the tile that is dealt to a register; 64 for a register that is not the computation's. Public, with
+// a requires, for the crates above, which ask of the registers that a warp has.
 pub fn source(kind: u64, computation: u64, lane: u64, i: u64) -> u64
     requires { ⌜ (lane < 32) × (i < 8) ⌝ }
     ensures { λ r. ⌜ r ≡ sourceOf kind computation lane i ⌝ }

@@ -11,7 +11,8 @@ ghost use Rattle.plans.specs.Plans.{Matched};
 ghost use Rattle.plans_judged.specs.Endings.{planChecked, planWritten, memoryIn};
 ghost use Rattle.plans_cells.specs.Contracts.{Ends};
 
-// A plan checked between two tables of owners, each of exactly the cells.
+// A plan checked between two tables of owners, each of exactly the cells. Public, with a requires, for the
+// crate above, which opens both cards.
 pub fn check_cells(plan: &[u64], first: &mut [u32], second: &mut [u32]) -> Checked
     requires { ⌜ length (now first) ≡ length (now second) ⌝ }
     ensures { λ r. ⌜ Ends (planChecked (length (now (first .entry))) (now (plan .entry)) (now (first .entry)) (now (second .entry))) r (now (first .exit)) (now (second .exit)) ⌝ }
@@ -36,7 +37,8 @@ pub fn check_cells(plan: &[u64], first: &mut [u32], second: &mut [u32]) -> Check
     Checked::Accepted
 }
 
-// A plain plan written between two tables of owners, each of exactly the cells, of which the second occupies so many.
+// A plain plan written between two tables of owners, each of exactly the cells, of which the second occupies so many. Public,
+// with a requires, for the crate above, which opens both cards.
 pub fn write_cells(
     targets: u64,
     plan: &mut [u64],

@@ -89,7 +89,7 @@ pub fn expected(owed: usize) -> u8
     }
 }
 
-// A number with one more digit. With a requires: a digit that may follow.
+// A number with one more digit. Public, with a requires, a digit that may follow, for the crate above.
 pub fn longer(value: u64, d: u64) -> u64
     requires { ⌜ continues value d ≡ true ⌝ }
     ensures { λ r. ⌜ r ≡ value * 10 + d ⌝ }

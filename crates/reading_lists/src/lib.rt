@@ -189,7 +189,7 @@ pub struct List {
     pub marks: [bool; 8],
 }
 
-// A list in parentheses. With a requires: room for the most iters.
+// A list in parentheses. Public, with a requires, room for the most iters, for the crate above.
 pub fn read_list(text: &[u8], from: usize, least: usize, most: usize, shard: bool) -> List
     requires { ⌜ (1 ≤ most) × (most ≤ 8) ⌝ }
     ensures { λ r. ⌜ Listed (now (text .entry)) from least most shard r ⌝ }
