@@ -163,7 +163,8 @@ pub fn check_fields(numbers: &[u64; 56], strides: &[i64; 24]) -> Admission
 pub fn space_fits(lengths: [u64; 8]) -> bool
     ensures { λ r. ⌜ r ≡ spaceFits lengths ⌝ }
 {
-    all_within(&lengths, 0, 8, 1, card::MOST_LENGTH) & (products::product(lengths, 8) <= MOST_CELLS)
+    all_within(&lengths, 0, 8, 1, card::MOST_LENGTH)
+        & (card_products::product(lengths, 8) <= MOST_CELLS)
 }
 
 // Check 4 of a packed card.
@@ -213,7 +214,7 @@ pub fn admit_packed(numbers: &[u64; 56], strides: &[i64; 24]) -> Admission
 pub fn admit(card: Card) -> Admission
     ensures { λ r. ⌜ r ≡ admission card ⌝ }
 {
-    let packed = packed::pack(card);
+    let packed = card_packed::pack(card);
     let numbers = packed.numbers;
     let strides = packed.strides;
     admit_packed(&numbers, &strides)

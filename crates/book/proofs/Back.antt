@@ -17,7 +17,7 @@ use Rattle.card.specs.declared.Iters.{Iters}
 use Rattle.card.specs.declared.Card.{Card}
 use Rattle.card.proofs.Listed.{Counted}
 use Rattle.card.proofs.ReadBack.{OfEight, eight-at, eight-slots, padded-slots}
-use Rattle.book.specs.Bytes.{bytes, number, part, field, twos, signed}
+use Rattle.book.specs.Bytes.{bytes, number, bytesFrom, field, twos, signed32}
 use Rattle.book.specs.Block.{iterBytes, slotBytes, firstBytes, headBytes}
 use Rattle.book.specs.Book.{iterIn, slotIn, itersIn, markIn, slotMarkIn, offsetIn, lengthIn, cardIn, notedIn}
 use Rattle.book.proofs.Bytes.{one-back, two-back, four-back, twos-small, signed-back}
@@ -49,8 +49,8 @@ used true x y z e = e refl
 used false x y z e = refl
 
 -- a field at the front of a row
-first-part : (row : List ℕ) (at : ℕ) (block : List ℕ) → Lies row at block → (w : ℕ) → w ≤ length row → part w at block ≡ part w 0 row
-first-part row at block l w h = ap (λ (x : ℕ). part w x block) (sym (add-zero at)) ∙ lies-part row at block l w 0 (omega arith)
+first-part : (row : List ℕ) (at : ℕ) (block : List ℕ) → Lies row at block → (w : ℕ) → w ≤ length row → bytesFrom w at block ≡ bytesFrom w 0 row
+first-part row at block l w h = ap (λ (x : ℕ). bytesFrom w x block) (sym (add-zero at)) ∙ lies-part row at block l w 0 (omega arith)
 
 pub iter-back : (block : List ℕ) (at : ℕ) (mark : Bool) (iter : Iter) → Lies (iterBytes mark iter) at block → SmallIter iter → iterIn block at ≡ iter
 iter-back block at mark iter l s =
@@ -134,8 +134,8 @@ module _ (card : Card) (h : Holdable card) (noted : ℕ) (long : noted < 2 ^ 16)
   offset-back =
       sym (eight-slots (offsetIn block) (pos 0) (card .offset) (h .eight .offset)
       (λ k small. sym
-      (ap (λ (x : List ℕ). signed (number x)) (first-part (bytes 4 (twos (getD (card .offset) k (pos 0)))) (152 + 4 * k) block (lies-offset card (h .eight) noted block l k small) 4 (omega arith))
-      ∙ ap signed (four-back (twos (getD (card .offset) k (pos 0))) (twos-small (getD (card .offset) k (pos 0))))
+      (ap (λ (x : List ℕ). signed32 (number x)) (first-part (bytes 4 (twos (getD (card .offset) k (pos 0)))) (152 + 4 * k) block (lies-offset card (h .eight) noted block l k small) 4 (omega arith))
+      ∙ ap signed32 (four-back (twos (getD (card .offset) k (pos 0))) (twos-small (getD (card .offset) k (pos 0))))
       ∙ signed-back (getD (card .offset) k (pos 0)) (h .offset k small))))
 
   lengths-back : map (lengthIn block) slots ≡ card .lengths

@@ -9,7 +9,7 @@ use borrow.Author.Tests.{lt-ltb, le-ltb}
 use lib.Dec.{ltb}
 use lib.IntN.{ℤ, pos, negsuc, natAbs}
 use lib.ListN.{length, getD, take, drop, length-append}
-use Rattle.book.specs.Bytes.{bytes, number, part, twos, signed, gather}
+use Rattle.book.specs.Bytes.{bytes, number, bytesFrom, twos, signed32, gather}
 
 pub length-bytes : (w n : ℕ) → length (bytes w n) ≡ w
 length-bytes zero n = refl
@@ -31,7 +31,7 @@ twos-small (pos n) = omega arith
 twos-small (negsuc n) = omega arith
 
 -- two's complement is read back
-pub signed-back : (z : ℤ) → natAbs z ≤ 2 ^ 30 → signed (twos z) ≡ z
+pub signed-back : (z : ℤ) → natAbs z ≤ 2 ^ 30 → signed32 (twos z) ≡ z
 signed-back (pos n) h =
     let same : n % 2 ^ 32 ≡ n = mod-eq-of-lt (omega arith) in
     rw (same, lt-ltb n (2 ^ 31) (omega arith))

@@ -6,7 +6,7 @@ use native.Mathlib.Omega.{arith}
 use native.Mathlib.Nat.{not-suc-le-zero, mul-suc, mul-zero}
 use lib.ListN.{length, getD, take, drop, length-append, length-drop}
 use lib.Seq.{drop-append-add, take-append-le, drop-append-le}
-use Rattle.book.specs.Bytes.{part, gather}
+use Rattle.book.specs.Bytes.{bytesFrom, gather}
 
 -- a row lies in a block from a byte on
 pub record Lies (row : List ℕ) (at : ℕ) (block : List ℕ) : Type 0 where
@@ -20,7 +20,7 @@ pub lies-whole : (l : List ℕ) → Lies l 0 l
 lies-whole l = record { before = []; after = []; starts = refl; there = sym (append-nil l) }
 
 -- a part of the row is the part of the block
-pub lies-part : (row : List ℕ) (at : ℕ) (block : List ℕ) → Lies row at block → (w j : ℕ) → j + w ≤ length row → part w (at + j) block ≡ part w j row
+pub lies-part : (row : List ℕ) (at : ℕ) (block : List ℕ) → Lies row at block → (w j : ℕ) → j + w ≤ length row → bytesFrom w (at + j) block ≡ bytesFrom w j row
 lies-part row at block l w j h =
     rw (l .there, sym (l .starts))
     (ap (take w) (drop-append-add (l .before) (row ++ l .after) j)

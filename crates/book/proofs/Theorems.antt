@@ -26,7 +26,7 @@ use Rattle.card.proofs.Lists.{all-at, within-numbers, stride-far, same-true, sa
 use Rattle.card.proofs.Listed.{Counted, counted}
 use Rattle.card.proofs.Admitted.{Checked, checked, fitting, numbered}
 use Rattle.card.proofs.ReadBack.{OfEight, padded-at}
-use Rattle.book.specs.Bytes.{bytes, number, part, field, gather}
+use Rattle.book.specs.Bytes.{bytes, number, bytesFrom, field, gather}
 use Rattle.book.specs.Block.{iterBytes, slotBytes, firstBytes, shardBytes, replicaBytes, offsetBytes, lengthBytes, headBytes, noteBytes, mostNote, checkOf, bodyOf, blockOf, blockLength}
 use Rattle.book.specs.Book.{cardIn, notedIn, noteIn, checkRight, allUsed, readAnswer}
 use Rattle.book.specs.declared.Answer.{Answer}
@@ -169,8 +169,8 @@ held-back card note rest h short =
     let noted : notedIn (blockOf card note ++ rest) ≡ length note = noted-back card h (length note) (omega arith) (blockOf card note ++ rest) head in
     let back : cardIn (blockOf card note ++ rest) ≡ kept card = card-back card h (length note) (omega arith) (blockOf card note ++ rest) head in
     let note-back : noteIn (blockOf card note ++ rest) ≡ note =
-    ap (λ (n : ℕ). part n 216 (blockOf card note ++ rest)) noted
-    ∙ ap (λ (x : ℕ). part (length note) x (blockOf card note ++ rest)) (sym (add-zero 216))
+    ap (λ (n : ℕ). bytesFrom n 216 (blockOf card note ++ rest)) noted
+    ∙ ap (λ (x : ℕ). bytesFrom (length note) x (blockOf card note ++ rest)) (sym (add-zero 216))
     ∙ lies-part note 216 (blockOf card note ++ rest) (lies-longer note 216 (blockOf card note) rest (lies-note card (h .eight) note short)) (length note) 0 (omega arith)
     ∙ take-all (length note) note (omega arith) in
     let first-512 : take 512 (blockOf card note ++ rest) ≡ blockOf card note = take-at (blockOf card note) rest 512 long in

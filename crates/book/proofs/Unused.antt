@@ -18,7 +18,7 @@ use Rattle.card.specs.Lists.{slots}
 use Rattle.card.specs.Card.{none, markNumber}
 use Rattle.card.specs.declared.Iter.{Iter}
 use Rattle.card.proofs.ReadBack.{OfEight, eight-at}
-use Rattle.book.specs.Bytes.{bytes, number, part, field, twos, signed, gather}
+use Rattle.book.specs.Bytes.{bytes, number, bytesFrom, field, twos, signed32, gather}
 use Rattle.book.specs.Block.{iterBytes, slotBytes, firstBytes, shardBytes, replicaBytes, offsetBytes, lengthBytes, headBytes, noteBytes, mostNote, checkOf, bodyOf, blockOf}
 use Rattle.book.specs.Book.{iterIn, markIn, slotIn, slotMarkIn, offsetIn, lengthIn, cardIn, notedIn, noteIn, checkRight}
 use Rattle.book.proofs.Parts.{Lies, lies-part, lies-next, lies-longer}
@@ -36,21 +36,21 @@ bytes-number (b ∷ bs) small =
     let high : (b + 256 * number bs) / 256 ≡ number bs = let h : b < 256 = small 0 in omega arith in
     rw (low, high) (ap (λ (l : List ℕ). b ∷ l) (bytes-number bs (λ i. small (suc i))))
 
-part-bytes : (w at : ℕ) (b : List ℕ) → Bytes b → Bytes (part w at b)
+part-bytes : (w at : ℕ) (b : List ℕ) → Bytes b → Bytes (bytesFrom w at b)
 part-bytes w at b small i = split (le-or-lt w i)
   where
-    split : (w ≤ i) ⊎ (i < w) → getD (part w at b) i 0 < 256
-    split (inl past) = rw (List·getD-eq-default (part w at b) 0 {n = i} (omega (arith, length-take w (drop at b)))) (omega arith)
+    split : (w ≤ i) ⊎ (i < w) → getD (bytesFrom w at b) i 0 < 256
+    split (inl past) = rw (List·getD-eq-default (bytesFrom w at b) 0 {n = i} (omega (arith, length-take w (drop at b)))) (omega arith)
     split (inr within) = rw (getD-take w (drop at b) i 0 within, getD-drop at b i 0) (small (at + i))
 
 -- a field's bytes
-field-bytes : (w at : ℕ) (b : List ℕ) → Bytes b → at + w ≤ length b → bytes w (field w at b) ≡ part w at b
+field-bytes : (w at : ℕ) (b : List ℕ) → Bytes b → at + w ≤ length b → bytes w (field w at b) ≡ bytesFrom w at b
 field-bytes w at b small room =
-    let long : length (part w at b) ≡ w = length-take-le w (drop at b) (omega (arith, length-drop at b)) in
-    ap (λ (x : ℕ). bytes x (field w at b)) (sym long) ∙ bytes-number (part w at b) (part-bytes w at b small)
+    let long : length (bytesFrom w at b) ≡ w = length-take-le w (drop at b) (omega (arith, length-drop at b)) in
+    ap (λ (x : ℕ). bytes x (field w at b)) (sym long) ∙ bytes-number (bytesFrom w at b) (part-bytes w at b small)
 
 field-small : (at : ℕ) (b : List ℕ) → Bytes b → field 4 at b < 2 ^ 32
-field-small at b small = split (part 4 at b) (length-take 4 (drop at b)) (part-bytes 4 at b small)
+field-small at b small = split (bytesFrom 4 at b) (length-take 4 (drop at b)) (part-bytes 4 at b small)
   where
     split : (l : List ℕ) → length l ≡ min 4 (length (drop at b)) → Bytes l → number l < 2 ^ 32
     split [] e s = omega arith
@@ -60,27 +60,27 @@ field-small at b small = split (part 4 at b) (length-take 4 (drop at b)) (part-b
     split (w ∷ x ∷ y ∷ z ∷ []) e s = let a = s 0 in let b = s 1 in let c = s 2 in let d = s 3 in omega arith
     split (w ∷ x ∷ y ∷ z ∷ v ∷ l) e s = absurd (omega arith)
 
-twos-signed : (n : ℕ) → n < 2 ^ 32 → twos (signed n) ≡ n
+twos-signed : (n : ℕ) → n < 2 ^ 32 → twos (signed32 n) ≡ n
 twos-signed n h = split (ltb n (2 ^ 31))
   where
     split : (b : Bool) → twos (cond b (pos n) (negsuc (2 ^ 32 - 1 - n))) ≡ n
     split true = mod-eq-of-lt h
     split false = omega arith
 
-part-parts : (v w at : ℕ) (b : List ℕ) → part (v + w) at b ≡ part v at b ++ part w (at + v) b
-part-parts v w at b = take-add v w (drop at b) ∙ ap (λ (x : List ℕ). part v at b ++ take w x) (drop-drop v at b)
+part-parts : (v w at : ℕ) (b : List ℕ) → bytesFrom (v + w) at b ≡ bytesFrom v at b ++ bytesFrom w (at + v) b
+part-parts v w at b = take-add v w (drop at b) ∙ ap (λ (x : List ℕ). bytesFrom v at b ++ take w x) (drop-drop v at b)
 
 -- rows of one width one after the other
 abbrev range : ℕ → ℕ → List ℕ
 range k zero = []
 range k (suc n) = k ∷ range (k + 1) n
 
-rows-parts : (w at n k : ℕ) (b : List ℕ) → gather (λ (j : ℕ). part w (at + w * j) b) (range k n) ≡ part (w * n) (at + w * k) b
+rows-parts : (w at n k : ℕ) (b : List ℕ) → gather (λ (j : ℕ). bytesFrom w (at + w * j) b) (range k n) ≡ bytesFrom (w * n) (at + w * k) b
 rows-parts w at zero k b = rw (mul-zero w)
 rows-parts w at (suc n) k b =
     let place : at + w * k + w ≡ at + w * (k + 1) = omega (arith, mul-add w k 1, mul-one w) in
     let wide : w * suc n ≡ w + w * n = omega (arith, mul-suc w n) in
-    rw (wide, part-parts w (w * n) (at + w * k) b, place) (ap (λ (l : List ℕ). part w (at + w * k) b ++ l) (rows-parts w at n (k + 1) b))
+    rw (wide, part-parts w (w * n) (at + w * k) b, place) (ap (λ (l : List ℕ). bytesFrom w (at + w * k) b ++ l) (rows-parts w at n (k + 1) b))
 
 -- every unused byte is zero, and every mark is 0 or 1, place by place
 pub record UnusedZero (b : List ℕ) : Type 0 where
@@ -96,11 +96,11 @@ pub record UnusedZero (b : List ℕ) : Type 0 where
 record ZeroParts (b : List ℕ) : Type 0 where
   fifth : field 1 5 b ≡ 0
   mark : (k : ℕ) → k < field 1 0 b → field 1 (17 + 12 * k) b ≤ 1
-  shard : (k : ℕ) → k < field 1 0 b → part 2 (18 + 12 * k) b ≡ replicate 2 0
-  replica : (k : ℕ) → k < field 1 1 b → part 3 (113 + 12 * k) b ≡ replicate 3 0
-  shard-past : (k : ℕ) → field 1 0 b ≤ k → k < 8 → part 12 (8 + 12 * k) b ≡ replicate 12 0
-  replica-past : (k : ℕ) → field 1 1 b ≤ k → k < 4 → part 12 (104 + 12 * k) b ≡ replicate 12 0
-  past-note : part (mostNote - notedIn b) (216 + notedIn b) b ≡ replicate (mostNote - notedIn b) 0
+  shard : (k : ℕ) → k < field 1 0 b → bytesFrom 2 (18 + 12 * k) b ≡ replicate 2 0
+  replica : (k : ℕ) → k < field 1 1 b → bytesFrom 3 (113 + 12 * k) b ≡ replicate 3 0
+  shard-past : (k : ℕ) → field 1 0 b ≤ k → k < 8 → bytesFrom 12 (8 + 12 * k) b ≡ replicate 12 0
+  replica-past : (k : ℕ) → field 1 1 b ≤ k → k < 4 → bytesFrom 12 (104 + 12 * k) b ≡ replicate 12 0
+  past-note : bytesFrom (mostNote - notedIn b) (216 + notedIn b) b ≡ replicate (mostNote - notedIn b) 0
 
 field-one : (at : ℕ) (b : List ℕ) → field 1 at b ≡ getD b at 0
 field-one at b = first (drop at b) ∙ getD-drop at b 0 0 ∙ ap (λ (x : ℕ). getD b x 0) (add-zero at)
@@ -110,7 +110,7 @@ field-one at b = first (drop at b) ∙ getD-drop at b 0 0 ∙ ap (λ (x : ℕ). 
     first (x ∷ l) = omega arith
 
 -- a part of zeros has a zero at each of its places, and the other way round
-zeros-at : (w at : ℕ) (b : List ℕ) → part w at b ≡ replicate w 0 → (i : ℕ) → at ≤ i → i < at + w → getD b i 0 ≡ 0
+zeros-at : (w at : ℕ) (b : List ℕ) → bytesFrom w at b ≡ replicate w 0 → (i : ℕ) → at ≤ i → i < at + w → getD b i 0 ≡ 0
 zeros-at w at b e i from to =
     let place : i ≡ at + (i - at) = omega arith in
     ap (λ (x : ℕ). getD b x 0) place
@@ -118,10 +118,10 @@ zeros-at w at b e i from to =
     ∙ ap (λ (l : List ℕ). getD l (i - at) 0) e
     ∙ getD-replicate {A = ℕ} w (i - at) 0 0 (omega arith)
 
-at-zeros : (w at : ℕ) (b : List ℕ) → at + w ≤ length b → ((i : ℕ) → at ≤ i → i < at + w → getD b i 0 ≡ 0) → part w at b ≡ replicate w 0
+at-zeros : (w at : ℕ) (b : List ℕ) → at + w ≤ length b → ((i : ℕ) → at ≤ i → i < at + w → getD b i 0 ≡ 0) → bytesFrom w at b ≡ replicate w 0
 at-zeros w at b room zero-at =
-    let long : length (part w at b) ≡ w = length-take-le w (drop at b) (omega (arith, length-drop at b)) in
-    ext-getD 0 (part w at b) (replicate w 0) (long ∙ sym (length-replicate {A = ℕ} w 0))
+    let long : length (bytesFrom w at b) ≡ w = length-take-le w (drop at b) (omega (arith, length-drop at b)) in
+    ext-getD 0 (bytesFrom w at b) (replicate w 0) (long ∙ sym (length-replicate {A = ℕ} w 0))
     (λ j h.
     getD-take w (drop at b) j 0 (omega (arith, long))
     ∙ getD-drop at b j 0
@@ -160,12 +160,12 @@ module _ (b : List ℕ) (room : 512 ≤ length b) (noted : notedIn b ≤ mostNot
       }
 
 -- twelve bytes as the fields of an iter
-twelve : (at : ℕ) (b : List ℕ) → part 12 at b ≡ part 4 at b ++ part 4 (at + 4) b ++ part 1 (at + 8) b ++ part 1 (at + 9) b ++ part 2 (at + 10) b
+twelve : (at : ℕ) (b : List ℕ) → bytesFrom 12 at b ≡ bytesFrom 4 at b ++ bytesFrom 4 (at + 4) b ++ bytesFrom 1 (at + 8) b ++ bytesFrom 1 (at + 9) b ++ bytesFrom 2 (at + 10) b
 twelve at b =
     part-parts 10 2 at b
-    ∙ ap (λ (l : List ℕ). l ++ part 2 (at + 10) b)
+    ∙ ap (λ (l : List ℕ). l ++ bytesFrom 2 (at + 10) b)
     (part-parts 9 1 at b
-    ∙ ap (λ (l : List ℕ). l ++ part 1 (at + 9) b) (part-parts 8 1 at b ∙ ap (λ (l : List ℕ). l ++ part 1 (at + 8) b) (part-parts 4 4 at b)))
+    ∙ ap (λ (l : List ℕ). l ++ bytesFrom 1 (at + 9) b) (part-parts 8 1 at b ∙ ap (λ (l : List ℕ). l ++ bytesFrom 1 (at + 8) b) (part-parts 4 4 at b)))
 
 mark-is : (n : ℕ) → n ≤ 1 → markNumber (eqb n 1) ≡ n
 mark-is zero h = refl
@@ -173,8 +173,8 @@ mark-is (suc zero) h = refl
 mark-is (suc (suc n)) h = absurd (omega arith)
 
 -- an iter's twelve bytes, by its mark
-iter-is : (at : ℕ) (b : List ℕ) (mark : Bool) → Bytes b → at + 12 ≤ length b → markNumber mark ≡ field 1 (at + 9) b → part 2 (at + 10) b ≡ replicate 2 0
-    → iterBytes mark (iterIn b at) ≡ part 12 at b
+iter-is : (at : ℕ) (b : List ℕ) (mark : Bool) → Bytes b → at + 12 ≤ length b → markNumber mark ≡ field 1 (at + 9) b → bytesFrom 2 (at + 10) b ≡ replicate 2 0
+    → iterBytes mark (iterIn b at) ≡ bytesFrom 12 at b
 iter-is at b mark small room marked rest =
     ap₂ _++_
     (ap₂ _++_
@@ -191,15 +191,15 @@ gather-range f g from (suc n) e = ap₂ _++_ (e from (omega arith)) (gather-rang
 
 -- a slot, used or past the count
 slot-is : (count at k : ℕ) (marks : List Bool) (iters : List Iter) (b : List ℕ)
-    → (ltb k count ≡ true → iterBytes (getD marks k false) (getD iters k none) ≡ part 12 at b)
-    → (ltb k count ≡ false → part 12 at b ≡ replicate 12 0) → slotBytes count marks iters k ≡ part 12 at b
+    → (ltb k count ≡ true → iterBytes (getD marks k false) (getD iters k none) ≡ bytesFrom 12 at b)
+    → (ltb k count ≡ false → bytesFrom 12 at b ≡ replicate 12 0) → slotBytes count marks iters k ≡ bytesFrom 12 at b
 slot-is count at k marks iters b used past = split (ltb k count) refl
   where
-    split : (t : Bool) → ltb k count ≡ t → cond t (iterBytes (getD marks k false) (getD iters k none)) (replicate 12 0) ≡ part 12 at b
+    split : (t : Bool) → ltb k count ≡ t → cond t (iterBytes (getD marks k false) (getD iters k none)) (replicate 12 0) ≡ bytesFrom 12 at b
     split true e = used e
     split false e = sym (past e)
 
-three-zeros : (at : ℕ) (b : List ℕ) → part 3 at b ≡ replicate 3 0 → (field 1 at b ≡ 0) × (part 2 (at + 1) b ≡ replicate 2 0)
+three-zeros : (at : ℕ) (b : List ℕ) → bytesFrom 3 at b ≡ replicate 3 0 → (field 1 at b ≡ 0) × (bytesFrom 2 (at + 1) b ≡ replicate 2 0)
 three-zeros at b e = (
   ap number (sym (take-take 1 3 (drop at b) (omega arith)) ∙ ap (take 1) e),
   ap (take 2) (sym (drop-drop 1 at b)) ∙ sym (drop-take-one (drop at b)) ∙ ap (drop 1) e,
@@ -211,7 +211,7 @@ three-zeros at b e = (
 
 module _ (b : List ℕ) (small : Bytes b) (room : 512 ≤ length b) (noted : notedIn b ≤ mostNote) where
   module _ (z : ZeroParts b) where
-    first-is : firstBytes (cardIn b) (notedIn b) ≡ part 8 0 b
+    first-is : firstBytes (cardIn b) (notedIn b) ≡ bytesFrom 8 0 b
     unfolding cardIn
     first-is =
         ap₂ _++_
@@ -227,10 +227,10 @@ module _ (b : List ℕ) (small : Bytes b) (room : 512 ≤ length b) (noted : not
         (field-bytes 2 6 b small (omega arith))
         ∙ sym (part-parts 6 2 0 b)
 
-    shard-is : shardBytes (cardIn b) ≡ part 96 8 b
+    shard-is : shardBytes (cardIn b) ≡ bytesFrom 96 8 b
     unfolding cardIn
     shard-is =
-        gather-range (slotBytes (field 1 0 b) (cardIn b .marks) (cardIn b .shard .at)) (λ (k : ℕ). part 12 (8 + 12 * k) b) 0 8
+        gather-range (slotBytes (field 1 0 b) (cardIn b .marks) (cardIn b .shard .at)) (λ (k : ℕ). bytesFrom 12 (8 + 12 * k) b) 0 8
         (λ k h.
         slot-is (field 1 0 b) (8 + 12 * k) k (cardIn b .marks) (cardIn b .shard .at) b
         (λ e.
@@ -244,14 +244,14 @@ module _ (b : List ℕ) (small : Bytes b) (room : 512 ≤ length b) (noted : not
         ap₂ iterBytes mark iter
         ∙ iter-is (8 + 12 * k) b (markIn b (8 + 12 * k)) small (omega arith)
         (mark-is (field 1 (8 + 12 * k + 9) b) (rw mark-at at (z .mark k below)))
-        (ap (λ (x : ℕ). part 2 x b) (sym rest-at) ∙ z .shard k below))
+        (ap (λ (x : ℕ). bytesFrom 2 x b) (sym rest-at) ∙ z .shard k below))
         (λ e. z .shard-past k (ltb-false k (field 1 0 b) e) (omega arith)))
         ∙ rows-parts 12 8 8 0 b
 
-    replica-is : replicaBytes (cardIn b) ≡ part 48 104 b
+    replica-is : replicaBytes (cardIn b) ≡ bytesFrom 48 104 b
     unfolding cardIn
     replica-is =
-        gather-range (slotBytes (field 1 1 b) [] (cardIn b .replica .at)) (λ (k : ℕ). part 12 (104 + 12 * k) b) 0 4
+        gather-range (slotBytes (field 1 1 b) [] (cardIn b .replica .at)) (λ (k : ℕ). bytesFrom 12 (104 + 12 * k) b) 0 4
         (λ k h.
         slot-is (field 1 1 b) (104 + 12 * k) k [] (cardIn b .replica .at) b
         (λ e.
@@ -264,25 +264,25 @@ module _ (b : List ℕ) (small : Bytes b) (room : 512 ≤ length b) (noted : not
         ap (iterBytes false) iter
         ∙ iter-is (104 + 12 * k) b false small (omega arith)
         (sym (zeros .0) ∙ ap (λ (x : ℕ). field 1 x b) mark-at)
-        (ap (λ (x : ℕ). part 2 x b) (sym rest-at) ∙ zeros .1))
+        (ap (λ (x : ℕ). bytesFrom 2 x b) (sym rest-at) ∙ zeros .1))
         (λ e. z .replica-past k (ltb-false k (field 1 1 b) e) (omega arith)))
         ∙ rows-parts 12 104 4 0 b
 
-    offset-is : offsetBytes (cardIn b .offset) ≡ part 32 152 b
+    offset-is : offsetBytes (cardIn b .offset) ≡ bytesFrom 32 152 b
     unfolding cardIn
     offset-is =
-        gather-range (λ (k : ℕ). bytes 4 (twos (offsetIn b k))) (λ (k : ℕ). part 4 (152 + 4 * k) b) 0 8
+        gather-range (λ (k : ℕ). bytes 4 (twos (offsetIn b k))) (λ (k : ℕ). bytesFrom 4 (152 + 4 * k) b) 0 8
         (λ k h. ap (bytes 4) (twos-signed (field 4 (152 + 4 * k) b) (field-small (152 + 4 * k) b small)) ∙ field-bytes 4 (152 + 4 * k) b small (omega arith))
         ∙ rows-parts 4 152 8 0 b
 
-    lengths-is : lengthBytes (cardIn b .lengths) ≡ part 32 184 b
+    lengths-is : lengthBytes (cardIn b .lengths) ≡ bytesFrom 32 184 b
     unfolding cardIn
     lengths-is =
-        gather-range (λ (k : ℕ). bytes 4 (lengthIn b k)) (λ (k : ℕ). part 4 (184 + 4 * k) b) 0 8
+        gather-range (λ (k : ℕ). bytes 4 (lengthIn b k)) (λ (k : ℕ). bytesFrom 4 (184 + 4 * k) b) 0 8
         (λ k h. field-bytes 4 (184 + 4 * k) b small (omega arith))
         ∙ rows-parts 4 184 8 0 b
 
-    head-is : headBytes (cardIn b) (notedIn b) ≡ part 216 0 b
+    head-is : headBytes (cardIn b) (notedIn b) ≡ bytesFrom 216 0 b
     unfolding headBytes
     head-is =
         ap₂ _++_
@@ -299,13 +299,13 @@ module _ (b : List ℕ) (small : Bytes b) (room : 512 ≤ length b) (noted : not
     block-then right =
         let long : length (noteIn b) ≡ notedIn b = length-take-le (notedIn b) (drop 216 b) (omega (arith, length-drop 216 b)) in
         let whole-note : notedIn b + (mostNote - notedIn b) ≡ 292 = omega arith in
-        let noted-part : part 292 216 b ≡ noteBytes (noteIn b) =
-        ap (λ (x : ℕ). part x 216 b) (sym whole-note)
+        let noted-part : bytesFrom 292 216 b ≡ noteBytes (noteIn b) =
+        ap (λ (x : ℕ). bytesFrom x 216 b) (sym whole-note)
         ∙ part-parts (notedIn b) (mostNote - notedIn b) 216 b
         ∙ ap (λ (l : List ℕ). noteIn b ++ l) (z .past-note ∙ ap (λ (x : ℕ). replicate (mostNote - x) 0) (sym long)) in
         let body : take 508 b ≡ bodyOf (cardIn b) (noteIn b) =
         part-parts 216 292 0 b ∙ ap₂ _++_ (sym head-is ∙ ap (headBytes (cardIn b)) (sym long)) noted-part in
-        let check : part 4 508 b ≡ bytes 4 (checkOf (take 508 b)) =
+        let check : bytesFrom 4 508 b ≡ bytes 4 (checkOf (take 508 b)) =
         sym (field-bytes 4 508 b small (omega arith)) ∙ ap (bytes 4) (eqb-true (field 4 508 b) (checkOf (take 508 b)) right) in
         part-parts 508 4 0 b ∙ ap₂ _++_ body (check ∙ ap (λ (l : List ℕ). bytes 4 (checkOf l)) body)
 
@@ -318,10 +318,10 @@ used-lies : (count : ℕ) (marks : List Bool) (iters : List Iter) (k at : ℕ) (
     → Lies (iterBytes (getD marks k false) (getD iters k none)) at b
 used-lies count marks iters k at b l h = rw (lt-ltb k count h) at l
 
-past-lies : (count : ℕ) (marks : List Bool) (iters : List Iter) (k at : ℕ) (b : List ℕ) → Lies (slotBytes count marks iters k) at b → count ≤ k → part 12 at b ≡ replicate 12 0
+past-lies : (count : ℕ) (marks : List Bool) (iters : List Iter) (k at : ℕ) (b : List ℕ) → Lies (slotBytes count marks iters k) at b → count ≤ k → bytesFrom 12 at b ≡ replicate 12 0
 past-lies count marks iters k at b l h =
     let zeros : Lies (replicate 12 0) at b = rw (le-ltb k count h) at l in
-    ap (λ (x : ℕ). part 12 x b) (sym (add-zero at)) ∙ lies-part (replicate 12 0) at b zeros 12 0 (omega arith)
+    ap (λ (x : ℕ). bytesFrom 12 x b) (sym (add-zero at)) ∙ lies-part (replicate 12 0) at b zeros 12 0 (omega arith)
 
 mark-most : (mark : Bool) → number (bytes 1 (markNumber mark)) ≤ 1
 mark-most true = omega arith
@@ -350,16 +350,16 @@ then-parts b room noted few copies e =
       shard = λ k h.
           let place : 18 + 12 * k ≡ 8 + 12 * k + 10 = omega arith in
           let l = used-lies (field 1 0 b) (cardIn b .marks) (cardIn b .shard .at) k (8 + 12 * k) b (shard-lies k (omega arith)) h in
-          ap (λ (x : ℕ). part 2 x b) place ∙ lies-part _ (8 + 12 * k) b l 2 10 (omega arith);
+          ap (λ (x : ℕ). bytesFrom 2 x b) place ∙ lies-part _ (8 + 12 * k) b l 2 10 (omega arith);
       replica = λ k h.
           let place : 113 + 12 * k ≡ 104 + 12 * k + 9 = omega arith in
           let l = used-lies (field 1 1 b) [] (cardIn b .replica .at) k (104 + 12 * k) b (replica-lies k (omega arith)) h in
-          ap (λ (x : ℕ). part 3 x b) place ∙ lies-part _ (104 + 12 * k) b l 3 9 (omega arith);
+          ap (λ (x : ℕ). bytesFrom 3 x b) place ∙ lies-part _ (104 + 12 * k) b l 3 9 (omega arith);
       shard-past = λ k past h. past-lies (field 1 0 b) (cardIn b .marks) (cardIn b .shard .at) k (8 + 12 * k) b (shard-lies k h) past;
       replica-past = λ k past h. past-lies (field 1 1 b) [] (cardIn b .replica .at) k (104 + 12 * k) b (replica-lies k h) past;
       past-note =
           let zeros = lies-next (noteIn b) (replicate (mostNote - length (noteIn b)) 0) 216 b (notedIn b) long rest in
-          ap (λ (x : ℕ). part (mostNote - notedIn b) x b) (sym (add-zero (216 + notedIn b)))
+          ap (λ (x : ℕ). bytesFrom (mostNote - notedIn b) x b) (sym (add-zero (216 + notedIn b)))
           ∙ lies-part (replicate (mostNote - length (noteIn b)) 0) (216 + notedIn b) b zeros (mostNote - notedIn b) 0 (omega (arith, length-replicate {A = ℕ} (mostNote - length (noteIn b)) 0))
           ∙ ap (λ (x : ℕ). take (mostNote - notedIn b) (replicate (mostNote - x) 0)) long
           ∙ take-all (mostNote - notedIn b) (replicate (mostNote - notedIn b) 0) (omega (arith, length-replicate {A = ℕ} (mostNote - notedIn b) 0));

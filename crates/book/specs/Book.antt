@@ -17,7 +17,7 @@ use Rattle.card.specs.declared.Iters.{Iters}
 use Rattle.card.specs.declared.Card.{Card}
 use Rattle.card.specs.declared.Admission.{Admission}
 use Rattle.card.specs.declared.Admission.the-variants.{Admitted, Refused as NotAdmitted}
-use Rattle.book.specs.Bytes.{field, part, signed}
+use Rattle.book.specs.Bytes.{field, bytesFrom, signed32}
 use Rattle.book.specs.Block.{mostNote, checkOf, blockOf, blockLength}
 use Rattle.book.specs.declared.Page.{Page}
 use Rattle.book.specs.declared.Answer.{Answer}
@@ -25,7 +25,7 @@ use Rattle.book.specs.declared.Answer.the-variants.{Done, Refused}
 
 -- the iter from this byte on
 abbrev pub iterIn : List ℕ → ℕ → Iter
-iterIn block at = record { extent = field 4 at block; stride = signed (field 4 (at + 4) block); axis = field 1 (at + 8) block }
+iterIn block at = record { extent = field 4 at block; stride = signed32 (field 4 (at + 4) block); axis = field 1 (at + 8) block }
 
 -- and its mark, in the byte after its axis
 abbrev pub markIn : List ℕ → ℕ → Bool
@@ -43,7 +43,7 @@ abbrev pub slotMarkIn : List ℕ → ℕ → ℕ → Bool
 slotMarkIn block count k = cond (ltb k count) (markIn block (8 + 12 * k)) false
 
 abbrev pub offsetIn : List ℕ → ℕ → ℤ
-offsetIn block k = signed (field 4 (152 + 4 * k) block)
+offsetIn block k = signed32 (field 4 (152 + 4 * k) block)
 
 abbrev pub lengthIn : List ℕ → ℕ → ℕ
 lengthIn block k = field 4 (184 + 4 * k) block
@@ -67,7 +67,7 @@ abbrev pub noteFrom : ℕ
 noteFrom = 216
 
 abbrev pub noteIn : List ℕ → List ℕ
-noteIn block = part (notedIn block) noteFrom block
+noteIn block = bytesFrom (notedIn block) noteFrom block
 
 -- a block's own check
 abbrev pub checkRight : List ℕ → Bool

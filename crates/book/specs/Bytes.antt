@@ -17,11 +17,11 @@ number [] = 0
 number (b ∷ bs) = b + 256 * number bs
 
 -- so many bytes of a block, from this one on, and the number that they hold
-abbrev pub part : {A : Type 0} → ℕ → ℕ → List A → List A
-part width at block = take width (drop at block)
+abbrev pub bytesFrom : {A : Type 0} → ℕ → ℕ → List A → List A
+bytesFrom width at block = take width (drop at block)
 
 abbrev pub field : ℕ → ℕ → List ℕ → ℕ
-field width at block = number (part width at block)
+field width at block = number (bytesFrom width at block)
 
 -- two's complement in four bytes: an integer modulo 2 ^ 32, where `negsuc n` is the integer - (n + 1)
 abbrev pub twos : ℤ → ℕ
@@ -29,8 +29,8 @@ twos (pos n) = n % 2 ^ 32
 twos (negsuc n) = 2 ^ 32 - 1 - n % 2 ^ 32
 
 -- and back: from 2 ^ 31 on it is 2 ^ 32 less
-abbrev pub signed : ℕ → ℤ
-signed n = cond (ltb n (2 ^ 31)) (pos n) (negsuc (2 ^ 32 - 1 - n))
+abbrev pub signed32 : ℕ → ℤ
+signed32 n = cond (ltb n (2 ^ 31)) (pos n) (negsuc (2 ^ 32 - 1 - n))
 
 -- what is made of each of a list, one after the other
 abbrev pub gather : {A : Type 0} → (A → List ℕ) → List A → List ℕ

@@ -13,7 +13,7 @@ use mir.Facts.{toZ-ofZ}
 use Rattle.laws.proofs.Signed.{far-fits}
 use lib.ListN.{length, getD, take, drop}
 use lib.Seq.{drop-cons}
-use Rattle.book.specs.Bytes.{number, field, signed}
+use Rattle.book.specs.Bytes.{number, field, signed32}
 
 pub drop-next : (l : List ℕ) (i : ℕ) → i < length l → drop i l ≡ getD l i 0 ∷ drop (i + 1) l
 drop-next l i h = drop-cons l i 0 h ∙ ap (λ (n : ℕ). getD l i 0 ∷ drop n l) (sym (add-one i))
@@ -43,12 +43,12 @@ field-four at l h =
     ∙ ap (λ (x : ℕ). getD l at 0 + 256 * x) (field-next 2 (at + 1) l (omega arith) ∙ ap (λ (x : ℕ). getD l (at + 1) 0 + 256 * x) two)
 
 -- two's complement of four bytes fits in 64 bits
-pub signed-fits : (n : ℕ) → n < 2 ^ 32 → SFits w64 (signed n)
+pub signed-fits : (n : ℕ) → n < 2 ^ 32 → SFits w64 (signed32 n)
 signed-fits n h = split (ltb n (2 ^ 31))
   where
     split : (b : Bool) → SFits w64 (cond b (pos n) (negsuc (2 ^ 32 - 1 - n)))
     split true = far-fits (omega arith)
     split false = far-fits (omega arith)
 
-pub stored-signed : {r : ℤ} {n : ℕ} → (r ≡ signed n) × (n < 2 ^ 32) → toZ w64 (ofZ w64 r) ≡ signed n
+pub stored-signed : {r : ℤ} {n : ℕ} → (r ≡ signed32 n) × (n < 2 ^ 32) → toZ w64 (ofZ w64 r) ≡ signed32 n
 stored-signed {r} {n} e = rw (e .0) (toZ-ofZ (signed-fits n (e .1)))

@@ -11,7 +11,7 @@ ghost use lib.Dec.{ltb, eqb};
 ghost use lib.ListN.{length};
 ghost use Rattle.card.specs.Lists.{slots};
 ghost use Rattle.card.specs.Card.{none, noCard};
-ghost use Rattle.book.specs.Bytes.{field, signed};
+ghost use Rattle.book.specs.Bytes.{field, signed32};
 ghost use Rattle.book.specs.Book.{iterIn, slotIn, itersIn, slotMarkIn, offsetIn, lengthIn, cardIn};
 
 // A byte as a number. Public for the crate above.
@@ -41,7 +41,7 @@ pub fn four(block: &[u8], at: usize) -> u64
 // The number that two's complement stands for.
 fn signed(n: u64) -> i64
     requires { ⌜ n < 2 ^ 32 ⌝ }
-    ensures { λ r. ⌜ r ≡ signed n ⌝ }
+    ensures { λ r. ⌜ r ≡ signed32 n ⌝ }
 {
     if n < 2147483648 {
         return n as i64;
@@ -52,7 +52,7 @@ fn signed(n: u64) -> i64
 // The number that the four bytes from this one on stand for.
 fn signed_in(block: &[u8], at: usize) -> i64
     requires { ⌜ at + 4 ≤ length (now block) ⌝ }
-    ensures { λ r. ⌜ (r ≡ signed (field 4 at (now (block .entry)))) × (field 4 at (now (block .entry)) < 2 ^ 32) ⌝ }
+    ensures { λ r. ⌜ (r ≡ signed32 (field 4 at (now (block .entry)))) × (field 4 at (now (block .entry)) < 2 ^ 32) ⌝ }
 {
     signed(four(block, at))
 }

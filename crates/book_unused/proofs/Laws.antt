@@ -16,7 +16,7 @@ use Rattle.book.specs.Block.{mostNote, blockOf}
 use Rattle.book.specs.Book.{cardIn, notedIn, noteIn, checkRight, allUsed}
 use Rattle.book.proofs.Unused.{Bytes, UnusedZero, unused-then, then-unused}
 use Rattle.book_card.proofs.Laws.{field-one}
-use Rattle.book_unused.specs.Unused.{Zeros, End, Ends}
+use Rattle.book_unused.specs.Unused.{Zeros, End, SlotsEnd}
 
 -- a test and another
 pub both : {a b : Bool} {P Q : Type 0} → ((a ≡ true) ↔ P) → ((b ≡ true) ↔ Q) → ((a && b) ≡ true) ↔ (P × Q)
@@ -48,11 +48,11 @@ zeros-more b from i z h so-far =
     split s j low high (inr early) = s .0 j low early
 
 -- one slot more ends as it may
-pub ends-none : (b : List ℕ) (from most : ℕ) → (true ≡ true) ↔ Ends b from most 0
+pub ends-none : (b : List ℕ) (from most : ℕ) → (true ≡ true) ↔ SlotsEnd b from most 0
 ends-none b from most = (λ t k h. absurd (omega arith), λ h. refl)
 
-pub ends-more : (b : List ℕ) (from most k at : ℕ) (z : Bool) → at ≡ from + 12 * k + 9 → ((z ≡ true) ↔ Ends b from most k)
-    → ((z && (leb (getD b at 0) most && eqb (getD b (at + 1) 0) 0 && eqb (getD b (at + 2) 0) 0)) ≡ true) ↔ Ends b from most (k + 1)
+pub ends-more : (b : List ℕ) (from most k at : ℕ) (z : Bool) → at ≡ from + 12 * k + 9 → ((z ≡ true) ↔ SlotsEnd b from most k)
+    → ((z && (leb (getD b at 0) most && eqb (getD b (at + 1) 0) 0 && eqb (getD b (at + 2) 0) 0)) ≡ true) ↔ SlotsEnd b from most (k + 1)
 ends-more b from most k at z place so-far =
     let here = both so-far (both (both (is-most (getD b at 0) most) (is-zero (getD b (at + 1) 0))) (is-zero (getD b (at + 2) 0))) in (
       λ t j h. let s = here .0 t in split (s .0) (s .1 .0 .0, s .1 .0 .1, s .1 .1) j h (le-or-lt k j),
@@ -61,14 +61,14 @@ ends-more b from most k at z place so-far =
           here .1 (λ j h. all j (omega arith), ((e .0, e .1), e .2)),
     )
   where
-    split : Ends b from most k → End b most at → (j : ℕ) → j < k + 1 → (k ≤ j) ⊎ (j < k) → End b most (from + 12 * j + 9)
+    split : SlotsEnd b from most k → End b most at → (j : ℕ) → j < k + 1 → (k ≤ j) ⊎ (j < k) → End b most (from + 12 * j + 9)
     split s e j h (inl late) = let same : at ≡ from + 12 * j + 9 = omega arith in subst (End b most) same e
     split s e j h (inr early) = s j early
 
 -- all tests, as they are joined
 abbrev pub Tested : List ℕ → ℕ → ℕ → ℕ → Type 0
 Tested b s r n =
-    (((((getD b 5 0 ≡ 0) × Ends b 8 1 s) × Ends b 104 0 r) × Zeros b (8 + 12 * s) 104) × Zeros b (104 + 12 * r) 152) × Zeros b (216 + n) 508
+    (((((getD b 5 0 ≡ 0) × SlotsEnd b 8 1 s) × SlotsEnd b 104 0 r) × Zeros b (8 + 12 * s) 104) × Zeros b (104 + 12 * r) 152) × Zeros b (216 + n) 508
 
 tested-unused : (b : List ℕ) → Tested b (getD b 0 0) (getD b 1 0) (notedIn b) → UnusedZero b
 tested-unused b t = record {

@@ -13,5 +13,5 @@ abbrev pub End : List ℕ → ℕ → ℕ → Type 0
 End block most at = (getD block at 0 ≤ most) × (getD block (at + 1) 0 ≡ 0) × (getD block (at + 2) 0 ≡ 0)
 
 -- so many slots from one place on
-abbrev pub Ends : List ℕ → ℕ → ℕ → ℕ → Type 0
-Ends block from most count = (k : ℕ) → k < count → End block most (from + 12 * k + 9)
+abbrev pub SlotsEnd : List ℕ → ℕ → ℕ → ℕ → Type 0
+SlotsEnd block from most count = (k : ℕ) → k < count → End block most (from + 12 * k + 9)

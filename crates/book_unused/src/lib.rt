@@ -6,7 +6,7 @@ ghost use Prim.Native.Nat.{_+_, _*_, _≤_};
 ghost use lib.ListN.{length};
 ghost use Rattle.book.specs.Bytes.{field};
 ghost use Rattle.book.specs.Book.{checkRight, allUsed};
-ghost use Rattle.book_unused.specs.Unused.{Zeros, Ends};
+ghost use Rattle.book_unused.specs.Unused.{Zeros, SlotsEnd};
 
 // Whether the bytes from one to before another are zero.
 fn are_zeros(block: &[u8], from: usize, to: usize) -> bool
@@ -25,7 +25,7 @@ fn are_zeros(block: &[u8], from: usize, to: usize) -> bool
 // Whether so many slots end as they may: after the axis a byte of at most so much, the mark, and two zeros.
 fn are_ends(block: &[u8], from: usize, most: u8, count: usize) -> bool
     requires { ⌜ (from + 12 * count ≤ length (now block)) × (count ≤ 8) × (from ≤ 104) ⌝ }
-    ensures { λ r. ⌜ (r ≡ true) ↔ Ends (now (block .entry)) from most count ⌝ }
+    ensures { λ r. ⌜ (r ≡ true) ↔ SlotsEnd (now (block .entry)) from most count ⌝ }
 {
     let mut fine = true;
     let mut k: usize = 0;

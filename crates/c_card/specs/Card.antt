@@ -13,12 +13,12 @@ use Rattle.card.specs.declared.Iters.{Iters}
 use Rattle.card.specs.declared.Card.{Card}
 
 -- the number that 64 bits are in two's complement
-abbrev pub signed : ℕ → ℤ
-signed n = cond (ltb n (2 ^ 63)) (pos n) (negsuc (2 ^ 64 - (n + 1)))
+abbrev pub signed64 : ℕ → ℤ
+signed64 n = cond (ltb n (2 ^ 63)) (pos n) (negsuc (2 ^ 64 - (n + 1)))
 
 -- an iter: extent, stride, axis
 abbrev pub iterFrom : List ℕ → ℕ → Iter
-iterFrom numbers from = record { extent = getD numbers from 0; stride = signed (getD numbers (from + 1) 0); axis = getD numbers (from + 2) 0 }
+iterFrom numbers from = record { extent = getD numbers from 0; stride = signed64 (getD numbers (from + 1) 0); axis = getD numbers (from + 2) 0 }
 
 abbrev pub itersFrom : List ℕ → ℕ → List ℕ → List Iter
 itersFrom numbers from slots = map (λ k. iterFrom numbers (from + 1 + 3 * k)) slots
@@ -38,7 +38,7 @@ replicaFrom numbers = record {
 
 -- the eight offsets and the eight lengths, pid to m; M, B, S
 abbrev pub offsetFrom : List ℕ → List ℤ
-offsetFrom numbers = map (λ k. signed (getD numbers (38 + k) 0)) eight
+offsetFrom numbers = map (λ k. signed64 (getD numbers (38 + k) 0)) eight
 
 abbrev pub lengthsFrom : List ℕ → List ℕ
 lengthsFrom numbers = map (λ k. getD numbers (46 + k) 0) eight

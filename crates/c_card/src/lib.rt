@@ -6,7 +6,7 @@ use card::Iters;
 use swizzle::Swizzle;
 ghost use mathlib.Core.Path.{_≡_};
 ghost use Prim.Native.Nat.{_+_, _≤_};
-ghost use Rattle.c_card.specs.Card.{signed, iterFrom, shardFrom, replicaFrom, offsetFrom, lengthsFrom, marksFrom, cardFrom, four};
+ghost use Rattle.c_card.specs.Card.{signed64, iterFrom, shardFrom, replicaFrom, offsetFrom, lengthsFrom, marksFrom, cardFrom, four};
 
 // Where the numbers of a card stand, in the order of docs/PROTOCOL.md.
 const REPLICA: usize = 25;
@@ -22,7 +22,7 @@ const HALF: u64 = 9223372036854775808;
 
 // The signed number that 64 bits are in two's complement. Public for the crate above.
 pub fn signed(n: u64) -> i64
-    ensures { λ r. ⌜ r ≡ signed n ⌝ }
+    ensures { λ r. ⌜ r ≡ signed64 n ⌝ }
 {
     if n < HALF {
         n as i64

@@ -16,8 +16,8 @@ use Rattle.card.specs.Card.{none}
 use Rattle.card.specs.declared.Iter.{Iter}
 use Rattle.card.specs.declared.Card.{Card}
 use Rattle.card.proofs.ReadBack.{eight-slots}
-use Rattle.notation.specs.Text.{axisOf, Notation, Each, Sound, Plain, Within}
-use Rattle.notation.specs.Meaning.{valueOf, itersOf, markOf, laid, noOffset, layoutOf}
+use Rattle.notation.specs.Text.{axisMeant, Notation, Each, Sound, Plain, Within}
+use Rattle.notation.specs.Meaning.{valueOf, itersSaid, markOf, laid, noOffset, layoutOf}
 use Rattle.notation.specs.Promise.{noLayout, Comes, Answered}
 use Rattle.notation.specs.declared.Step.{Step}
 use Rattle.notation.specs.declared.Layout.{Layout}
@@ -25,7 +25,7 @@ use Rattle.notation.specs.declared.Read.{Read}
 use Rattle.notation.specs.declared.Read.the-variants.{Done, Refused as NotRead}
 use Rattle.notation.specs.declared.Reading.{Reading}
 use Rattle.notation.proofs.Lists.{each-append}
-use Rattle.c_card.specs.Card.{signed, eight, lengthsFrom, marksFrom, cardFrom}
+use Rattle.c_card.specs.Card.{signed64, eight, lengthsFrom, marksFrom, cardFrom}
 use Rattle.c_layout.specs.Layout.{bitsOf, markBits, cardWith}
 
 -- a number that 64 bits hold
@@ -33,7 +33,7 @@ abbrev pub Held : ℤ → Type 0
 Held (pos n) = n < 2 ^ 63
 Held (negsuc n) = n < 2 ^ 63
 
-pub signed-back : (z : ℤ) → Held z → signed (bitsOf z) ≡ z
+pub signed-back : (z : ℤ) → Held z → signed64 (bitsOf z) ≡ z
 signed-back (pos n) h = rw (lt-ltb n (2 ^ 63) h)
 signed-back (negsuc n) h =
     let high : 2 ^ 63 ≤ 2 ^ 64 - (n + 1) = omega arith in
@@ -122,7 +122,7 @@ cardIn l numbers = record {
 }
 
 abbrev again : Iter → Iter
-again i = record { extent = i .extent; stride = signed (bitsOf (i .stride)); axis = i .axis }
+again i = record { extent = i .extent; stride = signed64 (bitsOf (i .stride)); axis = i .axis }
 
 again-same : (i : Iter) → Held (i .stride) → i ≡ again i
 again-same i h = λ j. record { extent = i .extent; stride = sym (signed-back (i .stride) h) j; axis = i .axis }
@@ -133,8 +133,8 @@ layout-back l numbers fits =
     = eight-slots (λ k. again (getD (l .shard .at) k none)) none (l .shard .at) (fits .shard) (λ k h. again-same (getD (l .shard .at) k none) (fits .strides k)) in
     let replica : l .replica .at ≡ map (λ k. cond (ltb k 4) (again (getD (l .replica .at) k none)) none) eight
     = eight-slots (λ k. cond (ltb k 4) (again (getD (l .replica .at) k none)) none) none (l .replica .at) (fits .replica) (λ k h. slot k (le-or-lt 4 k)) in
-    let offset : l .offset ≡ map (λ k. signed (bitsOf (getD (l .offset) k (pos 0)))) eight
-    = eight-slots (λ k. signed (bitsOf (getD (l .offset) k (pos 0)))) (pos 0) (l .offset) (fits .offset) (λ k h. sym (signed-back (getD (l .offset) k (pos 0)) (fits .offsets k))) in
+    let offset : l .offset ≡ map (λ k. signed64 (bitsOf (getD (l .offset) k (pos 0)))) eight
+    = eight-slots (λ k. signed64 (bitsOf (getD (l .offset) k (pos 0)))) (pos 0) (l .offset) (fits .offset) (λ k h. sym (signed-back (getD (l .offset) k (pos 0)) (fits .offsets k))) in
     λ j. record {
       shard = record { at = sym shard j; count = l .shard .count };
       marks = marks-back (l .marks) (fits .marks) j;
@@ -179,7 +179,7 @@ abbrev HeldIter : Iter → Type 0
 HeldIter i = Held (i .stride)
 
 iters-held : (P : Step → Type 0) → ((s : Step) → P s → s .size < 100000) → (es : List ℕ) (ss : List Step) → Each P ss
-    → (length (itersOf es ss) ≡ length es) × Each HeldIter (itersOf es ss)
+    → (length (itersSaid es ss) ≡ length es) × Each HeldIter (itersSaid es ss)
 iters-held P f [] ss e = (refl, tt)
 iters-held P f (x ∷ es) [] e = let rest = iters-held P f es [] tt in (ap suc (rest .0), (omega arith, rest .1))
 iters-held P f (x ∷ es) (s ∷ ss) e = let rest = iters-held P f es ss (e .1) in (ap suc (rest .0), (value-held (s .negative) (s .size) (f s (e .0)), rest .1))
@@ -193,14 +193,14 @@ padded-held l e = each-at HeldIter (padded none l) none (each-append HeldIter l 
 laid-fits : (offset : List ℤ) (ss : List Step) → Each Plain ss → Each Held offset → (length (laid offset ss) ≡ length offset) × Each Held (laid offset ss)
 laid-fits offset [] e h = (refl, h)
 laid-fits offset (s ∷ ss) e h =
-    let axis = axisOf (s .place) in
+    let axis = axisMeant (s .place) in
     let next = laid-fits (set offset axis (valueOf s)) ss (e .1) (each-set Held offset axis (valueOf s) h (value-held (s .negative) (s .size) (e .0 .0 .0))) in
     (next .0 ∙ length-set offset axis (valueOf s), next .1)
 
 said-fits : (n : Notation) → Within n → Fits (layoutOf n)
 said-fits n w =
-    let shard = itersOf (n .shard .extents) (n .shard .steps) in
-    let replica = itersOf (n .replica .extents) (n .replica .steps) in
+    let shard = itersSaid (n .shard .extents) (n .shard .steps) in
+    let replica = itersSaid (n .replica .extents) (n .replica .steps) in
     let one = iters-held Sound (λ s p. p .0) (n .shard .extents) (n .shard .steps) (w .shard .sound) in
     let two = iters-held Plain (λ s p. p .0 .0) (n .replica .extents) (n .replica .steps) (w .replica .sound) in
     let few : length replica ≤ 4 = omega (arith, two .0, w .replica .few) in

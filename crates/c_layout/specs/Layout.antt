@@ -28,8 +28,8 @@ cardWith l numbers =
     ++ (offsetsOf (l .offset) ++ (lengthsFrom numbers ++ (getD numbers 54 0 ∷ getD numbers 55 0 ∷ getD numbers 56 0 ∷ []))))
 
 -- and its marks as one number, bit k for shard iter k
-abbrev pub markAt : List Bool → ℕ → ℕ
-markAt marks k = cond (getD marks k false) (2 ^ k) 0
+abbrev pub markBit : List Bool → ℕ → ℕ
+markBit marks k = cond (getD marks k false) (2 ^ k) 0
 
 abbrev pub markBits : List Bool → ℕ
-markBits marks = markAt marks 0 + markAt marks 1 + markAt marks 2 + markAt marks 3 + markAt marks 4 + markAt marks 5 + markAt marks 6 + markAt marks 7
+markBits marks = markBit marks 0 + markBit marks 1 + markBit marks 2 + markBit marks 3 + markBit marks 4 + markBit marks 5 + markBit marks 6 + markBit marks 7

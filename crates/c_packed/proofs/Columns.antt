@@ -14,7 +14,7 @@ use Rattle.card.specs.Packed.{lastColumn, Packs}
 use Rattle.card.specs.declared.Iter.{Iter}
 use Rattle.card.specs.declared.Card.{Card}
 use Rattle.card.proofs.ReadBack.{eight-at, numberAt, strideAt, OfEight, packs}
-use Rattle.c_card.specs.Card.{signed, iterFrom, replicaFrom, marksFrom, cardFrom}
+use Rattle.c_card.specs.Card.{signed64, iterFrom, replicaFrom, marksFrom, cardFrom}
 
 module _ (v : List ℕ) (bits : ℕ) where
   abbrev card : Card
@@ -34,16 +34,16 @@ module _ (v : List ℕ) (bits : ℕ) where
   numberFrom last (suc (suc (suc (suc (suc (suc c)))))) j = markNumber (yes j bits)
 
   abbrev pub strideFrom : ℕ → ℕ → ℤ
-  strideFrom zero j = signed (getD v (1 + 3 * j + 1) 0)
-  strideFrom (suc zero) j = signed (slot (26 + 3 * j + 1) j)
-  strideFrom (suc (suc c)) j = signed (getD v (38 + j) 0)
+  strideFrom zero j = signed64 (getD v (1 + 3 * j + 1) 0)
+  strideFrom (suc zero) j = signed64 (slot (26 + 3 * j + 1) j)
+  strideFrom (suc (suc c)) j = signed64 (getD v (38 + j) 0)
 
   -- is what the card has
   shard-at : (j : ℕ) → j < 8 → getD (card .shard .at) j none ≡ iterFrom v (1 + 3 * j)
   shard-at j h = eight-at (λ k. iterFrom v (1 + 3 * k)) none j h
 
   abbrev there : ℕ → Iter
-  there j = record { extent = slot (26 + 3 * j) j; stride = signed (slot (26 + 3 * j + 1) j); axis = slot (26 + 3 * j + 2) j }
+  there j = record { extent = slot (26 + 3 * j) j; stride = signed64 (slot (26 + 3 * j + 1) j); axis = slot (26 + 3 * j + 2) j }
 
   replica-at : (j : ℕ) → j < 8 → getD (card .replica .at) j none ≡ there j
   replica-at zero h = refl
@@ -68,7 +68,7 @@ module _ (v : List ℕ) (bits : ℕ) where
   stride-same : (c j : ℕ) → j < 8 → strideFrom c j ≡ strideAt (card .shard .at) (card .replica .at) (card .offset) c j
   stride-same zero j h = sym (ap strideOf (shard-at j h))
   stride-same (suc zero) j h = sym (ap strideOf (replica-at j h))
-  stride-same (suc (suc c)) j h = sym (eight-at (λ k. signed (getD v (38 + k) 0)) (pos 0) j h)
+  stride-same (suc (suc c)) j h = sym (eight-at (λ k. signed64 (getD v (38 + k) 0)) (pos 0) j h)
 
   eights : OfEight card
   eights = record { shard = refl; marks = refl; replica = refl; offset = refl; lengths = refl }

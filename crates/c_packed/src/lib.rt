@@ -40,7 +40,7 @@ fn elements(card: &[u64; 57]) -> u64
         card[19],
         card[22],
     ];
-    products::product(extents, named(card[0]))
+    card_products::product(extents, named(card[0]))
 }
 
 // The copies: the other four slots of the replica are empty.
@@ -48,7 +48,7 @@ fn copies(card: &[u64; 57]) -> u64
     ensures { λ r. ⌜ r ≡ min (size (replicaFrom (now (card .entry)))) beyond ⌝ }
 {
     let extents = [card[26], card[29], card[32], card[35], 0, 0, 0, 0];
-    products::product(extents, named(card[25]))
+    card_products::product(extents, named(card[25]))
 }
 
 // The cells.
@@ -65,7 +65,7 @@ fn cells(card: &[u64; 57]) -> u64
         card[52],
         card[53],
     ];
-    products::product(lengths, 8)
+    card_products::product(lengths, 8)
 }
 
 // The counts, M, B, S and the sizes.

@@ -12,7 +12,7 @@ use Rattle.card.specs.declared.Iter.{Iter}
 use Rattle.card.specs.declared.Card.{Card}
 use Rattle.judgement.specs.declared.Verdict.the-variants.{Approved}
 use Rattle.canonical.specs.Rule.{layout, rule}
-use Rattle.canonical.specs.Printed.{Row, row, MN, K, table, figure}
+use Rattle.canonical.specs.Printed.{Row, row, MN, K, printedTable, figure}
 use Rattle.canonical.specs.Canonical.{onM, canonicalCard, reported}
 use Rattle.canonical.specs.declared.Canonical.{Canonical}
 
@@ -21,7 +21,7 @@ abbrev pub ruled : ℕ → ℕ → ℕ → ℕ → ℕ → Row → Row
 ruled T m k LBO SBO r = row (r .major) (r .mode) (rule (r .major) (r .mode) T m k LBO SBO) (r .mode ∷ 4 ∷ 3 ∷ [])
 
 -- every row of the table is the rule's, for every T, m, k, LBO and SBO
-pub table-by-rule : (T m k LBO SBO : ℕ) → map (ruled T m k LBO SBO) (table T m k LBO SBO) ≡ table T m k LBO SBO
+pub table-by-rule : (T m k LBO SBO : ℕ) → map (ruled T m k LBO SBO) (printedTable T m k LBO SBO) ≡ printedTable T m k LBO SBO
 table-by-rule T m k LBO SBO = refl
 
 -- the exact layouts of Figures 188 to 192, from the parameters printed beside them: T 4 or 8, m 2, k 2, LBO and SBO in elements

@@ -22,8 +22,8 @@ abbrev pub K : ℕ
 K = 0
 
 -- the eight rows, from top to bottom
-abbrev pub table : ℕ → ℕ → ℕ → ℕ → ℕ → List Row
-table T m k LBO SBO =
+abbrev pub printedTable : ℕ → ℕ → ℕ → ℕ → ℕ → List Row
+printedTable T m k LBO SBO =
     -- MN-major: ((T,1,m),(8,k)):((1,T,SBO),(1T,LBO)), then ((T,2,m),(8,k)):((1,T,LBO),(2T,SBO)) and with 4 and 8
     row MN 0 (layout (T ∷ 1 ∷ m ∷ []) (8 ∷ k ∷ []) (1 ∷ T ∷ SBO ∷ []) (1 * T ∷ LBO ∷ [])) (0 ∷ 4 ∷ 3 ∷ [])
     ∷ row MN 1 (layout (T ∷ 2 ∷ m ∷ []) (8 ∷ k ∷ []) (1 ∷ T ∷ LBO ∷ []) (2 * T ∷ SBO ∷ [])) (1 ∷ 4 ∷ 3 ∷ [])

@@ -11,9 +11,9 @@ use borrow.Author.Tests.{lt-ltb}
 use Rattle.laws.proofs.Products.{factors}
 use Rattle.rules.specs.RowMajor.{inside}
 use Rattle.claims.specs.Claims.{taken, occupied}
-use Rattle.canonical_approval.specs.Nested.{Digit, value, sizes, top, Nested, Packed}
+use Rattle.canonical_approval.specs.Nested.{Digit, value, sizes, top, Nested, StridesPacked}
 
-pub packed-nested : (ds : List Digit) → Packed ds → Nested ds
+pub packed-nested : (ds : List Digit) → StridesPacked ds → Nested ds
 packed-nested [] p = tt
 packed-nested (d ∷ ds) p = (le-of-eq (p .0), packed-nested ds (p .1))
 
@@ -22,7 +22,7 @@ abbrev pub decoded : List Digit → ℕ → List ℕ
 decoded [] x = []
 decoded (d ∷ ds) x = x / d .stride ∷ decoded ds (x % d .stride)
 
-pub onto : (ds : List Digit) → Packed ds → (x : ℕ) → x < top ds → (inside (sizes ds) (decoded ds x) ≡ true) × (value ds (decoded ds x) ≡ x)
+pub onto : (ds : List Digit) → StridesPacked ds → (x : ℕ) → x < top ds → (inside (sizes ds) (decoded ds x) ≡ true) × (value ds (decoded ds x) ≡ x)
 onto [] p x h = (refl, omega arith)
 onto (d ∷ ds) p x h =
     let s = d .stride in

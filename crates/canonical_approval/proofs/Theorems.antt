@@ -42,7 +42,7 @@ use Rattle.canonical.specs.Canonical.{strideFits, checked, inElements, canonica
 use Rattle.canonical.specs.declared.Canonical.{Canonical}
 use Rattle.canonical.specs.declared.Reported.{Reported}
 use Rattle.canonical.proofs.Theorems.{checks-passed}
-use Rattle.canonical_approval.specs.Nested.{Digit, _by_, value, sizes, top, Nested, Packed}
+use Rattle.canonical_approval.specs.Nested.{Digit, _by_, value, sizes, top, Nested, StridesPacked}
 use Rattle.canonical_approval.proofs.OnM.{space, atM, position-at, Lies, address, moved, spot-on}
 use Rattle.canonical_approval.proofs.Approved.{stays-below, its-elements, its-inside, all-inside, one-a-cell, nested-under, nested-once}
 use Rattle.canonical_approval.proofs.Turned.{four-inside, thirdFirst, thirdBack, third-inside, fourthFirst, fourthBack, fourth-inside, fourth-back-inside, four-sum, five-sum, swap-inside, thirdSecond, fourthSecond, four-swapped, five-swapped}
@@ -151,7 +151,7 @@ module _ (a : Canonical) where
         (all-inside (canonicalCard a) ds (a .length) lies fit blocks under, one-a-cell (canonicalCard a) ds (a .length) lies fit blocks under once)
 
     -- and where it is packed up to the length, every cell has an owner
-    by-packing : (es : List Digit) (turn back : List ℕ → List ℕ) → Packed es → top es ≡ a .length
+    by-packing : (es : List Digit) (turn back : List ℕ → List ℕ) → StridesPacked es → top es ≡ a .length
         → ((x : ℕ) → x < elements (canonicalCard a) → inside (sizes es) (turn (components (sizes ds) x)) ≡ true)
         → ((x : ℕ) → address (canonicalCard a) ds (a .length) lies x ≡ value es (turn (components (sizes ds) x)))
         → ((x y : ℕ) → turn (components (sizes ds) x) ≡ turn (components (sizes ds) y) → components (sizes ds) x ≡ components (sizes ds) y)

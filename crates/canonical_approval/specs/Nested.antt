@@ -32,6 +32,6 @@ Nested [] = Unit
 Nested (d ∷ ds) = (top ds ≤ d .stride) × Nested ds
 
 -- each stride is exactly what is below it
-abbrev pub Packed : List Digit → Type 0
-Packed [] = Unit
-Packed (d ∷ ds) = (top ds ≡ d .stride) × Packed ds
+abbrev pub StridesPacked : List Digit → Type 0
+StridesPacked [] = Unit
+StridesPacked (d ∷ ds) = (top ds ≡ d .stride) × StridesPacked ds

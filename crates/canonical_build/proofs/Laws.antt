@@ -17,7 +17,7 @@ use Rattle.card.specs.Lists.{within}
 use Rattle.canonical.specs.Rule.{usesLBO}
 use Rattle.canonical.specs.Canonical.{strideFits, fits}
 use Rattle.canonical.specs.declared.Canonical.{Canonical}
-use Rattle.canonical_build.specs.Contracts.{Sound, longest}
+use Rattle.canonical_build.specs.Contracts.{PassedChecks, longest}
 
 stride-below : (bytes : ℕ) → strideFits bytes ≡ true → bytes < 262144
 stride-below bytes e = ltb-true bytes 262144 (and-eq-true-iff (eqb (bytes % 16) 0) (ltb bytes 262144) .0 e .1)
@@ -27,7 +27,7 @@ where-used : (used fit : Bool) → (not used || fit) ≡ true → used ≡ true 
 where-used true fit e h = e
 where-used false fit e h = absurd (false≢true h)
 
-pub sound : (a : Canonical) → known (a .bits) (a .mode) ≡ true → fits a ≡ true → Sound a
+pub sound : (a : Canonical) → known (a .bits) (a .mode) ≡ true → fits a ≡ true → PassedChecks a
 sound a k f =
     let parts = known-parts (a .bits) (a .mode) k in
     let used = usesLBO (a .major) (a .mode) in

@@ -7,7 +7,7 @@ use Rattle.canonical.specs.Rule.{usesLBO}
 use Rattle.canonical.specs.declared.Canonical.{Canonical}
 
 -- the numbers that the checks leave
-pub record Sound (a : Canonical) : Type 0 where
+pub record PassedChecks (a : Canonical) : Type 0 where
   pub its-bits : knownBits (a .bits) ≡ true
   pub its-mode : a .mode ≤ 3
   pub few-columns : a .k ≤ 8
@@ -19,7 +19,7 @@ abbrev pub longest : ℕ
 longest = 524288
 
 -- the strides of a layout, and how often its columns repeat
-pub record Short (k T wide rows columns : ℕ) : Type 0 where
+pub record StridesShort (k T wide rows columns : ℕ) : Type 0 where
   pub few : k ≤ 8
   pub short-T : T ≤ longest
   pub short-wide : wide ≤ longest

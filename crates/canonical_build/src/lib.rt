@@ -17,7 +17,7 @@ ghost use Rattle.swizzle.specs.declared.Chosen.the-variants.{Parameters};
 ghost use Rattle.card.specs.Card.{none, counted};
 ghost use Rattle.canonical.specs.Rule.{layout, usesLBO, acrossRows, acrossColumns};
 ghost use Rattle.canonical.specs.Canonical.{strideFits, fits, inElements, cuteOf, onM, shardOf, canonicalCard, refusedBy, built};
-ghost use Rattle.canonical_build.specs.Contracts.{Sound, longest, Short};
+ghost use Rattle.canonical_build.specs.Contracts.{PassedChecks, longest, StridesShort};
 
 // Byte strides are multiples of this, and below that.
 const PIECE: u64 = 16;
@@ -88,7 +88,7 @@ fn in_elements(bits: u64, bytes: u64) -> u64
 
 // From one repeating pattern to the next across rows.
 fn across_rows(a: Canonical) -> u64
-    requires { ⌜ Sound a ⌝ }
+    requires { ⌜ PassedChecks a ⌝ }
     ensures { λ r. ⌜ (r ≡ acrossRows (a .major) (a .mode) (inElements (a .bits) (a .lbo)) (inElements (a .bits) (a .sbo))) × (r ≤ longest) ⌝ }
 {
     if (a.mode == 0) | (a.major == 0) {
@@ -100,7 +100,7 @@ fn across_rows(a: Canonical) -> u64
 
 // And across columns.
 fn across_columns(a: Canonical) -> u64
-    requires { ⌜ Sound a ⌝ }
+    requires { ⌜ PassedChecks a ⌝ }
     ensures { λ r. ⌜ (r ≡ acrossColumns (a .major) (a .mode) (128 / a .bits) (inElements (a .bits) (a .lbo)) (inElements (a .bits) (a .sbo))) × (r ≤ longest) ⌝ }
 {
     if a.mode == 0 {
@@ -114,7 +114,7 @@ fn across_columns(a: Canonical) -> u64
 
 // The iters where K-major: rows first, then columns, each CuTe mode turned round.
 fn k_shard(m: u64, k: u64, t: u64, wide: u64, rows: u64, columns: u64) -> Iters
-    requires { ⌜ Short k t wide rows columns ⌝ }
+    requires { ⌜ StridesShort k t wide rows columns ⌝ }
     ensures { λ r. ⌜ r ≡ counted (shardOf (layout (8 ∷ m ∷ []) (t ∷ 2 * k ∷ []) (wide ∷ rows ∷ []) (1 ∷ columns ∷ []))) ⌝ }
 {
     let at = [
@@ -132,7 +132,7 @@ fn k_shard(m: u64, k: u64, t: u64, wide: u64, rows: u64, columns: u64) -> Iters
 
 // And where MN-major.
 fn mn_shard(m: u64, k: u64, t: u64, pieces: u64, wide: u64, rows: u64, columns: u64) -> Iters
-    requires { ⌜ Short k t wide rows columns ⌝ }
+    requires { ⌜ StridesShort k t wide rows columns ⌝ }
     ensures { λ r. ⌜ r ≡ counted (shardOf (layout (t ∷ pieces ∷ m ∷ []) (8 ∷ k ∷ []) (1 ∷ t ∷ rows ∷ []) (wide ∷ columns ∷ []))) ⌝ }
 {
     let at = [
@@ -150,7 +150,7 @@ fn mn_shard(m: u64, k: u64, t: u64, pieces: u64, wide: u64, rows: u64, columns: 
 
 // The shard of the layout.
 fn shard(a: Canonical) -> Iters
-    requires { ⌜ Sound a ⌝ }
+    requires { ⌜ PassedChecks a ⌝ }
     ensures { λ r. ⌜ r ≡ counted (shardOf (cuteOf a)) ⌝ }
 {
     let t = TOGETHER / a.bits;
@@ -167,7 +167,7 @@ fn shard(a: Canonical) -> Iters
 
 // The card, under the mode's swizzle.
 fn card_of(a: Canonical, swizzle: Swizzle) -> Card
-    requires { ⌜ Sound a × (modeAnswer (a .bits) (a .mode) ≡ Parameters swizzle) ⌝ }
+    requires { ⌜ PassedChecks a × (modeAnswer (a .bits) (a .mode) ≡ Parameters swizzle) ⌝ }
     ensures { λ r. ⌜ r ≡ canonicalCard a ⌝ }
 {
     let none = empty();

@@ -22,7 +22,7 @@ use Rattle.canonical.specs.Canonical.{CanonicalPromise, reportedNumbers}
 use Rattle.canonical.specs.Run.{reportRun}
 use Rattle.canonical.specs.declared.Reported.{Reported}
 use Rattle.canonical.proofs.Theorems.{canonical-is-run}
-use Rattle.canonical_figures.specs.Loads.{Lent, Reply, Load, figures, checks}
+use Rattle.canonical_figures.specs.Loads.{Lent, FigureReply, FigureLoad, figures, checks}
 
 abbrev same-numbers : Numbers → Numbers → Bool
 same-numbers m n = eqb (m .number) (n .number) && (eqb (m .a) (n .a) && (eqb (m .b) (n .b) && eqb (m .c) (n .c)))
@@ -42,23 +42,23 @@ numbers-same m n e =
       c = eqb-true (m .c) (n .c) (b .1) i;
     }
 
-abbrev same : Reported → Reply → Bool
+abbrev same : Reported → FigureReply → Bool
 same r s = same-numbers (reportedNumbers r) (s .numbers) && (eqb (r .lbo) (s .lbo) && eqb (r .sbo) (s .sbo))
 
 -- what a load is put to: the entries lent are not looked at
 abbrev before : Lent → List ℕ
 before l = replicate (l .entries) 1000000
 
-meets : ℕ → Load → Bool
+meets : ℕ → FigureLoad → Bool
 meets k load = same (reportRun (load .put .question) (before (load .put))) (load .stated)
 
 -- what a load states of an outcome
-pub record Stated (load : Load) (r : Reported) : Type 0 where
+pub record Stated (load : FigureLoad) (r : Reported) : Type 0 where
   pub numbers : reportedNumbers r ≡ load .stated .numbers
   pub its-lbo : r .lbo ≡ load .stated .lbo
   pub its-sbo : r .sbo ≡ load .stated .sbo
 
-stated : (load : Load) (r : Reported) → same r (load .stated) ≡ true → Stated load r
+stated : (load : FigureLoad) (r : Reported) → same r (load .stated) ≡ true → Stated load r
 stated load r e =
     let s = load .stated in
     let t = both (same-numbers (reportedNumbers r) (s .numbers)) (eqb (r .lbo) (s .lbo) && eqb (r .sbo) (s .sbo)) e in
@@ -70,12 +70,12 @@ stated load r e =
     }
 
 -- whatever the promise allows to each load of a list is as stated
-abbrev pub AsStated : List Load → Type 0
-AsStated loads = (other : Load) (k : ℕ) → k < length loads → (after : List ℕ) (r : Reported)
+abbrev pub AsStated : List FigureLoad → Type 0
+AsStated loads = (other : FigureLoad) (k : ℕ) → k < length loads → (after : List ℕ) (r : Reported)
     → CanonicalPromise (getD loads k other .put .question) (before (getD loads k other .put)) after r → Stated (getD loads k other) r
 
 -- it is, where a list passes the test that the checker computes
-passed : (loads : List Load) → every meets 0 loads ≡ true → AsStated loads
+passed : (loads : List FigureLoad) → every meets 0 loads ≡ true → AsStated loads
 unfolding meets
 passed loads test other k h after r allowed =
     let load = getD loads k other in

@@ -13,11 +13,11 @@ use Rattle.card.specs.Packed.{swizzleOf, cardOf}
 use Rattle.card.specs.declared.Card.{Card}
 use Rattle.card.proofs.Admitted.{sized}
 use Rattle.rules.specs.Rules.{part}
-use Rattle.linear.specs.Levels.{levelAt, base}
-use Rattle.linear.proofs.Cells.{between}
-use Rattle.linear.proofs.Times.{no-step}
-use Rattle.runs.specs.Contracts.{roomy, CellThere}
-use Rattle.runs.specs.declared.Place.{Place}
+use Rattle.rules_linear.specs.Levels.{levelAt, base}
+use Rattle.rules_linear.proofs.Cells.{between}
+use Rattle.rules_linear.proofs.Times.{no-step}
+use Rattle.copies_runs.specs.Contracts.{roomyLevel, CellThere}
+use Rattle.copies_runs.specs.declared.LevelAndM.{LevelAndM}
 use Rattle.claims.specs.Claims.{OwnedTable, occupied}
 use Rattle.claiming_lines.specs.Lines.{Lined, Partly, levelAfter, mAfter, lineCell, LineThere}
 use Rattle.claiming_lines.proofs.Lines.{lined-as, partly-none, partly-more, partly-all}
@@ -27,14 +27,14 @@ use Rattle.claiming_runs.specs.Contracts.{Copying, Running}
 use Rattle.claiming_runs.specs.declared.Run.{Run}
 use Rattle.claiming_runs.proofs.Places.{copy-there, cell-is, cell-short, base-near, copy-near}
 
-module _ (numbers : List ℕ) (strides : List ℤ) (start step : Place) (run : Run) (table₀ : List ℕ) (p : Running numbers strides start step run table₀)
+module _ (numbers : List ℕ) (strides : List ℤ) (start step : LevelAndM) (run : Run) (table₀ : List ℕ) (p : Running numbers strides start step run table₀)
     (levels ms : List ℤ) (adds : Copying (cardOf numbers strides) levels ms) where
   abbrev card : Card
   card = cardOf numbers strides
 
   -- copy r
   module _ (r : ℕ) (hr : r < copies card) where
-    abbrev pub place : Place
+    abbrev pub place : LevelAndM
     place = record { level = start .level +ℤ getD levels r (pos 0); m = start .m +ℤ getD ms r (pos 0) }
 
     level-of : (j : ℕ) → j < run .length
@@ -106,8 +106,8 @@ module _ (numbers : List ℕ) (strides : List ℤ) (start step : Place) (run : R
   }
 
 -- a run of some elements begins near
-pub start-near : (numbers : List ℕ) (strides : List ℤ) (start step : Place) (run : Run) (table₀ : List ℕ) → Running numbers strides start step run table₀ → 0 < run .length
-    → (natAbs (start .level) ≤ roomy) × (natAbs (start .m) ≤ roomy)
+pub start-near : (numbers : List ℕ) (strides : List ℤ) (start step : LevelAndM) (run : Run) (table₀ : List ℕ) → Running numbers strides start step run table₀ → 0 < run .length
+    → (natAbs (start .level) ≤ roomyLevel) × (natAbs (start .m) ≤ roomyLevel)
 start-near numbers strides start step run table₀ p some =
     let n = base-near numbers strides (p .admits) (run .first .0 + 0) (p .begins 0 some) in
     (rw (no-step (start .level) (step .level)) (n .0), rw (no-step (start .m) (step .m)) (n .1))

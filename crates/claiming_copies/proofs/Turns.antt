@@ -16,17 +16,17 @@ use Rattle.card.proofs.Admitted.{checked, fitting, numbered}
 use Rattle.card.proofs.Lists.{all-at, within-numbers}
 use Rattle.rules.specs.RowMajor.{rowMajor, components}
 use Rattle.rules.specs.Rules.{added}
-use Rattle.linear.specs.Levels.{base}
+use Rattle.rules_linear.specs.Levels.{base}
 use Rattle.copies.proofs.Cards.{walkable-shard}
-use Rattle.runs.specs.Contracts.{Adds}
-use Rattle.runs.specs.declared.Place.{Place}
-use Rattle.claiming_turns.specs.Turns.{Fits, extents, indexOf, sumsAt, iters, DigitsAt, WaysTo, Turnable}
+use Rattle.copies_runs.specs.Contracts.{Adds}
+use Rattle.copies_runs.specs.declared.LevelAndM.{LevelAndM}
+use Rattle.claiming_turns.specs.Turns.{DigitsFit, iterExtents, indexOf, sumsAt, shardIters, DigitsAt, WaysTo, Turnable}
 use Rattle.claiming_turns.proofs.Digits.{digits-back}
 use Rattle.claiming_turns.proofs.Ways.{iters-count}
 use Rattle.claiming_runs.proofs.Places.{base-near}
 
 -- no digits
-zeros-fit : (ns : List ℕ) (n : ℕ) → length ns ≤ n → all (within 1 mostExtent) ns ≡ true → Fits ns (replicate n 0)
+zeros-fit : (ns : List ℕ) (n : ℕ) → length ns ≤ n → all (within 1 mostExtent) ns ≡ true → DigitsFit ns (replicate n 0)
 zeros-fit [] n h a = tt
 zeros-fit (m ∷ ns) zero h a = absurd (omega arith)
 zeros-fit (m ∷ ns) (suc n) h a =
@@ -43,36 +43,36 @@ module _ (numbers : List ℕ) (strides : List ℤ) (a : Admits numbers strides) 
   card = cardOf numbers strides
 
   abbrev l : List Iter
-  l = iters numbers strides
+  l = shardIters numbers strides
 
   few : getD numbers 40 0 ≤ 8
   few = walkable-shard numbers strides a .of .few
 
   -- what the digits add is the base of their element
-  base-digits : (cs : List ℕ) → Fits (extents l) cs → base card (indexOf l cs) ≡ sumsAt l (card .offset) cs
+  base-digits : (cs : List ℕ) → DigitsFit (iterExtents l) cs → base card (indexOf l cs) ≡ sumsAt l (card .offset) cs
   base-digits cs f =
       fun-ext (λ axis.
       ap (λ (z : ℤ). z +ℤ getD (card .offset) axis (pos 0))
-      (ap (λ (i : ℕ). added axis l (components (extents l) i)) (sym (ap (λ (n : ℕ). n + indexOf l cs) (zero-mul (product (extents l))) ∙ zero-add (indexOf l cs)))
+      (ap (λ (i : ℕ). added axis l (components (iterExtents l) i)) (sym (ap (λ (n : ℕ). n + indexOf l cs) (zero-mul (product (iterExtents l))) ∙ zero-add (indexOf l cs)))
       ∙ digits-back axis l cs 0 f))
 
-  pub place-of : (cs : List ℕ) (place : Place) → DigitsAt numbers strides cs place → Adds (card .lengths) (base card (indexOf l cs)) place
+  pub place-of : (cs : List ℕ) (place : LevelAndM) → DigitsAt numbers strides cs place → Adds (card .lengths) (base card (indexOf l cs)) place
   place-of cs place d = rw (base-digits cs (d .fits)) (d .at)
 
-  pub digits-none : {place : Place} → Adds (card .lengths) (base card 0) place → DigitsAt numbers strides (replicate 8 0) place
+  pub digits-none : {place : LevelAndM} → Adds (card .lengths) (base card 0) place → DigitsAt numbers strides (replicate 8 0) place
   digits-none {place} b =
-      let f : Fits (extents l) (replicate 8 0) =
-      zeros-fit (extents l) 8 (simp length-map (omega (arith, iters-count numbers strides few, few))) (fitting (card .shard) (numbered card (checked card (a .admitted) .numbers) .shard) .extents) in
-      record { fits = f; at = subst (λ (g : ℕ → ℤ). Adds (card .lengths) g place) (ap (base card) (sym (zeros-index (extents l) 8)) ∙ base-digits (replicate 8 0) f) b }
+      let f : DigitsFit (iterExtents l) (replicate 8 0) =
+      zeros-fit (iterExtents l) 8 (simp length-map (omega (arith, iters-count numbers strides few, few))) (fitting (card .shard) (numbered card (checked card (a .admitted) .numbers) .shard) .extents) in
+      record { fits = f; at = subst (λ (g : ℕ → ℤ). Adds (card .lengths) g place) (ap (base card) (sym (zeros-index (iterExtents l) 8)) ∙ base-digits (replicate 8 0) f) b }
 
-  pub turnable : (from : ℕ) (levels ms : List ℤ) (digits : List ℕ) (start : Place) → from ≤ length l → length digits ≡ 8 → WaysTo numbers strides from levels ms
+  pub turnable : (from : ℕ) (levels ms : List ℤ) (digits : List ℕ) (start : LevelAndM) → from ≤ length l → length digits ≡ 8 → WaysTo numbers strides from levels ms
       → DigitsAt numbers strides digits start → Turnable numbers strides from levels ms digits start
   turnable from levels ms digits start slower eight ways here = record {
     whole = (a .whole .all-numbers, eight, few);
     slower = slower;
     small = λ k h.
-        let e = all-at (within 1 mostExtent) (extents l) k 0 (fitting (card .shard) (numbered card (checked card (a .admitted) .numbers) .shard) .extents) (simp length-map h) in
-        omega (arith, within-numbers 1 mostExtent (getD (extents l) k 0) e .1);
+        let e = all-at (within 1 mostExtent) (iterExtents l) k 0 (fitting (card .shard) (numbered card (checked card (a .admitted) .numbers) .shard) .extents) (simp length-map h) in
+        omega (arith, within-numbers 1 mostExtent (getD (iterExtents l) k 0) e .1);
     near = λ cs place d. base-near numbers strides a (indexOf l cs) (place-of cs place d);
     ways = ways;
     here = here;

@@ -2,7 +2,7 @@
 // already it fails: which element meets it is for the crate above to find.
 use answers::Flat;
 use claiming_runs::Run;
-use runs::Place;
+use copies_runs::LevelAndM;
 use swizzle::Swizzle;
 ghost use mathlib.Core.Path.{_≡_};
 ghost use Prim.Native.Nat.{_+_, _<_};
@@ -21,8 +21,8 @@ fn claim_copies(
     numbers: &[u64; 56],
     strides: &[i64; 24],
     by: Swizzle,
-    start: Place,
-    step: Place,
+    start: LevelAndM,
+    step: LevelAndM,
     run: Run,
     levels: &[i64],
     ms: &[i64],
@@ -39,7 +39,7 @@ fn claim_copies(
     let mut newly: u64 = 0;
     let mut copy: usize = 0;
     while copy < levels.len() {
-        let place = Place {
+        let place = LevelAndM {
             level: level + levels[copy],
             m: m + ms[copy],
         };
@@ -60,7 +60,7 @@ fn claim_turns(
     elements: u64,
     by: Swizzle,
     length: u64,
-    step: Place,
+    step: LevelAndM,
     from: usize,
     lifts: &[i64; 8],
     moves: &[i64; 8],
@@ -73,7 +73,7 @@ fn claim_turns(
     ensures { λ r. ⌜ (0 < r → OwnedTable (placed (cardOf (now (numbers .entry)) (now (strides .entry)))) elements (cells (cardOf (now (numbers .entry)) (now (strides .entry)))) (now (table .exit)) r) ⌝ }
 {
     let mut digits = [0u64; 8];
-    let mut start = runs::begin(numbers, strides, Flat(0));
+    let mut start = copies_runs::begin(numbers, strides, Flat(0));
     let mut occupied: u64 = 0;
     let mut first: u64 = 0;
     while first < elements {
@@ -104,9 +104,9 @@ fn claim_lines(
     requires { ⌜ Cleared (now numbers) (now strides) elements (now table) × Copying (cardOf (now numbers) (now strides)) (now levels) (now ms) × Unmarked (cardOf (now numbers) (now strides)) ⌝ }
     ensures { λ r. ⌜ (0 < r → OwnedTable (placed (cardOf (now (numbers .entry)) (now (strides .entry)))) elements (cells (cardOf (now (numbers .entry)) (now (strides .entry)))) (now (table .exit)) r) ⌝ }
 {
-    let by = runs::swizzle_of(numbers);
-    let length = runs::run_length(numbers);
-    let step = runs::added(numbers, strides, card::SHARD, 1);
+    let by = copies_runs::swizzle_of(numbers);
+    let length = copies_runs::run_length(numbers);
+    let step = copies_runs::added(numbers, strides, card::SHARD, 1);
     let from = claiming_turns::run_from(numbers);
     let mut lifts = [0i64; 8];
     let mut moves = [0i64; 8];

@@ -10,7 +10,7 @@ use Rattle.rules.specs.Rules.{spot}
 use Rattle.rules.specs.Copies.{cellOf, cellsOf, copyCells}
 use Rattle.rules.specs.Reuse.{leader}
 use Rattle.claims.specs.Claims.{OwnedTable, taken}
-use Rattle.claims.specs.Rows.{RowClaim, Within, minSome, entryMet}
+use Rattle.claims.specs.Rows.{RowClaim, RowWithin, minSome, entryMet}
 use Rattle.claims.proofs.Steps.{claim-none, claim-all, claimed-owners}
 use Rattle.claims.proofs.Rows.{occupied-most, occupied-set, taken-owned}
 use Rattle.judgement.specs.Judgement.{placed}
@@ -23,7 +23,7 @@ module _ (card : Card) (y newly count : ℕ) {before after : List ℕ} (so-far :
   pub claims-count : length after ≡ cells card → count + newly ≤ cells card
   claims-count size = omega (arith, so-far .counted, claim .counted, occupied-most after)
 
-  pub claims-more : Within (copyCells card y) before → length after ≡ cells card → 0 < newly
+  pub claims-more : RowWithin (copyCells card y) before → length after ≡ cells card → 0 < newly
       → OwnedTable (placed card) (y + 1) (cells card) after (count + newly)
   claims-more within size some = record {
     size = size;
@@ -52,7 +52,7 @@ single-claimed row table f c e h none =
     (claim-all (c ∷ []) f 1 table (set table c (f + 1)) within (omega arith) (met-one table c ∙ none) refl
     (omega (arith, occupied-set table c (f + 1) h, ap taken none, taken-owned (f + 1) (omega arith))))
   where
-    within : Within (c ∷ []) table
+    within : RowWithin (c ∷ []) table
     within zero below = h
     within (suc r) below = absurd (omega arith)
 

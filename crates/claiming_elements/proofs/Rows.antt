@@ -13,15 +13,15 @@ use Rattle.card.specs.declared.Card.{Card}
 use Rattle.rules.specs.Rules.{part, spot}
 use Rattle.rules.specs.Copies.{cellsOf, copyCells}
 use Rattle.rules.proofs.Filling.{cells-length, cells-at}
-use Rattle.linear.specs.Levels.{levelAt, base}
-use Rattle.runs.specs.Contracts.{Adds, Fillable, FilledTo}
-use Rattle.runs.specs.declared.Place.{Place}
+use Rattle.rules_linear.specs.Levels.{levelAt, base}
+use Rattle.copies_runs.specs.Contracts.{Adds, Fillable, FilledTo}
+use Rattle.copies_runs.specs.declared.LevelAndM.{LevelAndM}
 use Rattle.judgement.specs.Judgement.{AllInside}
 use Rattle.claiming_runs.specs.Contracts.{Rows}
 use Rattle.claiming_runs.proofs.Places.{copy-there, cell-is, base-near, copy-near}
 
 -- an element whose copies can be written into a row, and the row then is that of its cells
-module _ (numbers : List ℕ) (strides : List ℤ) (place : Place) (flat : ℕ) (levels ms : List ℤ) (row : List ℕ)
+module _ (numbers : List ℕ) (strides : List ℤ) (place : LevelAndM) (flat : ℕ) (levels ms : List ℤ) (row : List ℕ)
     (a : Admits numbers strides) (inside : AllInside (cardOf numbers strides)) (element : flat < elements (cardOf numbers strides))
     (begins : Adds (slice 32 40 numbers) (base (cardOf numbers strides) flat) place) (rows : Rows (cardOf numbers strides) levels ms row) where
   abbrev its : Card

@@ -7,9 +7,9 @@ use Rattle.card.specs.Card.{cells}
 use Rattle.card.specs.Packed.{cardOf, Admits}
 use Rattle.card.specs.declared.Card.{Card}
 use Rattle.rules.specs.Copies.{copyCells}
-use Rattle.linear.specs.Levels.{base}
-use Rattle.runs.specs.Contracts.{Adds}
-use Rattle.runs.specs.declared.Place.{Place}
+use Rattle.rules_linear.specs.Levels.{base}
+use Rattle.copies_runs.specs.Contracts.{Adds}
+use Rattle.copies_runs.specs.declared.LevelAndM.{LevelAndM}
 use Rattle.claims.specs.Claims.{OwnedTable, occupied}
 use Rattle.claims.specs.Rows.{entryMet}
 use Rattle.judgement.specs.Judgement.{placed}
@@ -18,7 +18,7 @@ use Rattle.claiming_runs.specs.declared.Run.{Run}
 use Rattle.claiming_elements.specs.declared.Claimed.{Claimed}
 
 -- a packed card whose element begins at a place and can be claimed
-pub record Begun (numbers : List ℕ) (strides : List ℤ) (place : Place) (flat : ℕ) (table : List ℕ) : Type 0 where
+pub record Begun (numbers : List ℕ) (strides : List ℤ) (place : LevelAndM) (flat : ℕ) (table : List ℕ) : Type 0 where
   pub admits : Admits numbers strides
   pub claimable : Claimable (cardOf numbers strides) flat table
   pub begins : Adds (slice 32 40 numbers) (base (cardOf numbers strides) flat) place

@@ -1,7 +1,7 @@
 // A run of a packed card's elements claimed element by element: the one that meets an owner is told.
 use answers::Flat;
 use claiming_runs::Run;
-use runs::Place;
+use copies_runs::LevelAndM;
 use swizzle::Swizzle;
 ghost use mathlib.Core.Path.{_≡_};
 ghost use Rattle.card.specs.Card.{copies};
@@ -23,14 +23,14 @@ fn claim_single(
     numbers: &[u64; 56],
     strides: &[i64; 24],
     by: Swizzle,
-    place: Place,
+    place: LevelAndM,
     flat: Flat,
     table: &mut [u32],
 ) -> u64
     requires { ⌜ Begun (now numbers) (now strides) place (flat .0) (now table) × (copies (cardOf (now numbers) (now strides)) ≡ 1) × (by ≡ swizzleOf (now numbers)) ⌝ }
     ensures { λ r. ⌜ RowClaim (copyCells (cardOf (now (numbers .entry)) (now (strides .entry))) (flat .0)) (flat .0) r (now (table .entry)) (now (table .exit)) ⌝ }
 {
-    let cell = runs::cell_at(by, place.level, place.m).0 as usize;
+    let cell = copies_runs::cell_at(by, place.level, place.m).0 as usize;
     if table[cell] != 0 {
         return 0;
     }
@@ -43,7 +43,7 @@ fn claim_element(
     numbers: &[u64; 56],
     strides: &[i64; 24],
     by: Swizzle,
-    place: Place,
+    place: LevelAndM,
     flat: Flat,
     levels: &[i64],
     ms: &[i64],
@@ -57,7 +57,7 @@ fn claim_element(
     if row.len() == 1 {
         return claim_single(numbers, strides, by, place, flat, table);
     }
-    runs::fill(numbers, place.level, place.m, levels, ms, row);
+    copies_runs::fill(numbers, place.level, place.m, levels, ms, row);
     owners::claim_row(table, row, flat)
 }
 
@@ -66,8 +66,8 @@ fn claim_element(
 pub fn claim_run(
     numbers: &[u64; 56],
     strides: &[i64; 24],
-    start: Place,
-    step: Place,
+    start: LevelAndM,
+    step: LevelAndM,
     run: Run,
     levels: &[i64],
     ms: &[i64],
@@ -80,7 +80,7 @@ pub fn claim_run(
 {
     let first = run.first.0;
     let length = run.length;
-    let by = runs::swizzle_of(numbers);
+    let by = copies_runs::swizzle_of(numbers);
     let level_step = step.level;
     let m_step = step.m;
     let mut level = start.level;
@@ -88,7 +88,7 @@ pub fn claim_run(
     let mut cells: u64 = 0;
     let mut done: u64 = 0;
     while done < length {
-        let place = Place { level, m };
+        let place = LevelAndM { level, m };
         let newly = claim_element(
             numbers,
             strides,

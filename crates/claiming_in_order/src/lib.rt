@@ -39,7 +39,11 @@ fn run_length(numbers: &[u64; 56], strides: &[i64; 24], marked: bool) -> u64
     requires { ⌜ Admits (now numbers) (now strides) × (marked ≡ false → Unmarked (cardOf (now numbers) (now strides))) ⌝ }
     ensures { λ r. ⌜ RunsBy (cardOf (now (numbers .entry)) (now (strides .entry))) r ⌝ }
 {
-    if marked { 1 } else { runs::run_length(numbers) }
+    if marked {
+        1
+    } else {
+        copies_runs::run_length(numbers)
+    }
 }
 
 // Claims the cells of every run whose elements lead, in the cleared table, which has exactly the cells.
@@ -59,14 +63,14 @@ pub fn claim_runs(
 {
     let marked = reuse::has_marks(numbers);
     let length = run_length(numbers, strides, marked);
-    let step = runs::added(numbers, strides, card::SHARD, 1);
+    let step = copies_runs::added(numbers, strides, card::SHARD, 1);
     let mut occupied: u64 = 0;
     let mut flat: u64 = 0;
     while flat < elements {
         let first = Flat(flat);
         flat += length;
         if reuse::leads(numbers, marked, first) {
-            let start = runs::begin(numbers, strides, first);
+            let start = copies_runs::begin(numbers, strides, first);
             let run = Run { first, length };
             let claimed = claiming_elements::claim_run(
                 numbers,

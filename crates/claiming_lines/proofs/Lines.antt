@@ -10,9 +10,9 @@ use borrow.Author.Count.{below-more}
 use lib.ListN.{length, getD, set, length-set}
 use lib.Seq.{getD-set-same, getD-set-other}
 use Rattle.laws.proofs.Order.{le-or-lt}
-use Rattle.claims.specs.Claims.{Layout, Claims, Owners, taken}
+use Rattle.claims.specs.Claims.{CopiesAt, Claims, Owners, taken}
 use Rattle.claims.proofs.Rows.{occupied-set, taken-owned}
-use Rattle.claiming_lines.specs.Lines.{Numbered, Kept, Lined, Copied, Partly}
+use Rattle.claiming_lines.specs.Lines.{CellNumbered, CellKept, Lined, Copied, Partly}
 
 module _ (cell element : ℕ → ℕ) where
   -- of no steps nothing is written
@@ -24,12 +24,12 @@ module _ (cell element : ℕ → ℕ) where
     abbrev next : List ℕ
     next = set after (cell n) (element n + 1)
 
-    at-it : (c : ℕ) → cell n ≡ c → Numbered cell element n before after c ⊎ Kept cell n before after c → Numbered cell element (n + 1) before next c
+    at-it : (c : ℕ) → cell n ≡ c → CellNumbered cell element n before after c ⊎ CellKept cell n before after c → CellNumbered cell element (n + 1) before next c
     at-it c e was =
         let mine : getD next c 0 ≡ element n + 1 = subst (λ (d : ℕ). getD next d 0 ≡ element n + 1) e (getD-set-same after (cell n) (element n + 1) 0 h) in
         let none : getD after c 0 ≡ 0 = subst (λ (d : ℕ). getD after d 0 ≡ 0) e free in
-        ⊎-elim (λ (m : Numbered cell element n before after c). absurd (omega (arith, m .owner, none)))
-        (λ (k : Kept cell n before after c). record {
+        ⊎-elim (λ (m : CellNumbered cell element n before after c). absurd (omega (arith, m .owner, none)))
+        (λ (k : CellKept cell n before after c). record {
           step = n;
           below = omega arith;
           there = e;
@@ -39,12 +39,12 @@ module _ (cell element : ℕ → ℕ) where
         })
         was
 
-    elsewhere : (c : ℕ) → (cell n ≡ c → ⊥) → Numbered cell element n before after c ⊎ Kept cell n before after c
-        → Numbered cell element (n + 1) before next c ⊎ Kept cell (n + 1) before next c
+    elsewhere : (c : ℕ) → (cell n ≡ c → ⊥) → CellNumbered cell element n before after c ⊎ CellKept cell n before after c
+        → CellNumbered cell element (n + 1) before next c ⊎ CellKept cell (n + 1) before next c
     elsewhere c ne was =
         let same : getD next c 0 ≡ getD after c 0 = getD-set-other after (cell n) c (element n + 1) 0 (λ e. ne (sym e)) in
         ⊎-elim
-        (λ (m : Numbered cell element n before after c). inl (record {
+        (λ (m : CellNumbered cell element n before after c). inl (record {
           step = m .step;
           below = omega (arith, m .below);
           there = m .there;
@@ -52,13 +52,13 @@ module _ (cell element : ℕ → ℕ) where
           free = m .free;
           owner = same ∙ m .owner;
         }))
-        (λ (k : Kept cell n before after c). inr (record {
+        (λ (k : CellKept cell n before after c). inr (record {
           none = below-more (λ j. cell j ≡ c → ⊥) n (k .none) ne;
           same = same ∙ k .same;
         }))
         was
 
-    either : (c : ℕ) → Dec (cell n ≡ c) → Numbered cell element (n + 1) before next c ⊎ Kept cell (n + 1) before next c
+    either : (c : ℕ) → Dec (cell n ≡ c) → CellNumbered cell element (n + 1) before next c ⊎ CellKept cell (n + 1) before next c
     either c (yes e) = inl (at-it c e (l .each c))
     either c (no ne) = elsewhere c ne (l .each c)
 
@@ -77,7 +77,7 @@ lined-as cell other element n {before} {after} e l = record {
   size = l .size;
   each = λ c.
       ⊎-elim
-      (λ (m : Numbered cell element n before after c). inl (record {
+      (λ (m : CellNumbered cell element n before after c). inl (record {
         step = m .step;
         below = m .below;
         there = sym (e (m .step) (m .below)) ∙ m .there;
@@ -85,13 +85,13 @@ lined-as cell other element n {before} {after} e l = record {
         free = m .free;
         owner = m .owner;
       }))
-      (λ (k : Kept cell n before after c). inr (record { none = λ j h there. k .none j h (e j h ∙ there); same = k .same }))
+      (λ (k : CellKept cell n before after c). inr (record { none = λ j h there. k .none j h (e j h ∙ there); same = k .same }))
       (l .each c);
   counted = l .counted;
 }
 
 -- the copies of n elements, copy by copy
-module _ (p : Layout) (first : ℕ) (element : ℕ → ℕ) (n : ℕ) (later : (j : ℕ) → j < n → first ≤ element j) where
+module _ (p : CopiesAt) (first : ℕ) (element : ℕ → ℕ) (n : ℕ) (later : (j : ℕ) → j < n → first ≤ element j) where
   pub partly-none : (table : List ℕ) → Owners p first table → Partly p first element n 0 table
   partly-none table owners = record {
     smaller = λ f c h. (λ e. owners f c .0 e .1, λ k. owners f c .1 (h, k));
@@ -103,10 +103,10 @@ module _ (p : Layout) (first : ℕ) (element : ℕ → ℕ) (n : ℕ) (later : (
   module _ (apart : (i j : ℕ) → i < n → j < n → element i ≡ element j → i ≡ j) (k : ℕ) (before after : List ℕ) (was : Partly p first element n k before)
       (l : Lined (λ j. p .at (element j) k) element n before after) where
     abbrev Mine : ℕ → Type 0
-    Mine c = Numbered (λ j. p .at (element j) k) element n before after c
+    Mine c = CellNumbered (λ j. p .at (element j) k) element n before after c
 
     abbrev Others : ℕ → Type 0
-    Others c = Kept (λ j. p .at (element j) k) n before after c
+    Others c = CellKept (λ j. p .at (element j) k) n before after c
 
     new-smaller : (f c : ℕ) → f < first → (getD after c 0 ≡ f + 1) ↔ Claims p f c
     new-smaller f c h =

@@ -15,9 +15,9 @@ use Rattle.swizzle.specs.Swizzle.{swizzled}
 use Rattle.swizzle.proofs.Theorems.{no-swizzle}
 use Rattle.swizzle.specs.declared.Swizzle.{Swizzle}
 use Rattle.rules.specs.Rules.{swizzledZ}
-use Rattle.linear.proofs.Times.{times-sum, no-step}
-use Rattle.runs.specs.declared.Place.{Place}
-use Rattle.claiming_lines.specs.Lines.{Numbered, Kept, Lined, levelAfter, mAfter, lineCell, LineThere, StretchThere}
+use Rattle.rules_linear.proofs.Times.{times-sum, no-step}
+use Rattle.copies_runs.specs.declared.LevelAndM.{LevelAndM}
+use Rattle.claiming_lines.specs.Lines.{CellNumbered, CellKept, Lined, levelAfter, mAfter, lineCell, LineThere, StretchThere}
 use Rattle.claiming_lines.proofs.Lines.{lined-more}
 
 -- a stretch looked at, one cell more
@@ -32,15 +32,15 @@ module _ (from first many k : ℕ) (before after : List ℕ) (h : k < many) (ins
     (free : (j : ℕ) → j < many → getD before (from + j) 0 ≡ 0) (l : Lined (λ j. from + j) (λ j. first + j) k before after) where
   free-still : getD after (from + k) 0 ≡ 0
   free-still =
-      ⊎-elim (λ (m : Numbered (λ j. from + j) (λ j. first + j) k before after (from + k)). absurd (omega (arith, m .below, m .there)))
-      (λ (o : Kept (λ j. from + j) k before after (from + k)). o .same ∙ free k h)
+      ⊎-elim (λ (m : CellNumbered (λ j. from + j) (λ j. first + j) k before after (from + k)). absurd (omega (arith, m .below, m .there)))
+      (λ (o : CellKept (λ j. from + j) k before after (from + k)). o .same ∙ free k h)
       (l .each (from + k))
 
   pub number-more : {entry : ℕ} → entry ≡ first + k + 1 → Lined (λ j. from + j) (λ j. first + j) (k + 1) before (set after (from + k) entry)
   number-more e = rw e (lined-more (λ j. from + j) (λ j. first + j) k before after l (omega (arith, l .size)) free-still)
 
 -- a line, one cell more
-module _ (by : Swizzle) (start step : Place) (first done : ℕ) (before after : List ℕ) (l : Lined (lineCell by start step) (λ j. first + j) done before after) where
+module _ (by : Swizzle) (start step : LevelAndM) (first done : ℕ) (before after : List ℕ) (l : Lined (lineCell by start step) (λ j. first + j) done before after) where
   pub cell-found : {cell : ℕ} {level m : ℤ} → level ≡ levelAfter start step done → m ≡ mAfter start step done → pos cell ≡ level +ℤ swizzledZ by m
       → cell ≡ lineCell by start step done
   cell-found e d h = ap natAbs (h ∙ ap₂ (λ (x y : ℤ). x +ℤ swizzledZ by y) e d)
@@ -53,7 +53,7 @@ module _ (by : Swizzle) (start step : Place) (first done : ℕ) (before after : 
       (subst (λ (n : ℕ). n < length after) e h) (subst (λ (n : ℕ). getD after n 0 ≡ 0) e free)))
 
 -- a line without swizzle whose step is 1 is a stretch
-module _ (by : Swizzle) (start step : Place) (first many : ℕ) (table : List ℕ) (l : LineThere by start step first many table) (straight : by .b ≡ 0)
+module _ (by : Swizzle) (start step : LevelAndM) (first many : ℕ) (table : List ℕ) (l : LineThere by start step first many table) (straight : by .b ≡ 0)
     (one : step .level +ℤ step .m ≡ pos 1) where
   unbent : (z : ℤ) → swizzledZ by z ≡ z
   unbent (pos n) = ap pos (ap (λ (b : ℕ). swizzled (by .m) b (by .s) n) straight ∙ no-swizzle (by .m) (by .s) n)

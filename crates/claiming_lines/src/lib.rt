@@ -1,7 +1,7 @@
 // Lines of cells in an owner table, one copy of each of some elements that follow each other, claimed where every cell is nobody's.
 // Else a line is left, with some of its cells written.
 use answers::Flat;
-use runs::Place;
+use copies_runs::LevelAndM;
 use swizzle::Swizzle;
 ghost use mathlib.Core.Path.{_≡_};
 ghost use mathlib.Core.Bool.{true};
@@ -54,8 +54,8 @@ fn claim_stretch(table: &mut [u32], from: usize, many: usize, first: u64) -> boo
 // Claims a line cell by cell.
 fn claim_cells(
     by: Swizzle,
-    start: Place,
-    step: Place,
+    start: LevelAndM,
+    step: LevelAndM,
     first: u64,
     many: u64,
     table: &mut [u32],
@@ -69,7 +69,7 @@ fn claim_cells(
     let mut m = start.m;
     let mut done: u64 = 0;
     while done < many {
-        let cell = runs::cell_at(by, level, m).0 as usize;
+        let cell = copies_runs::cell_at(by, level, m).0 as usize;
         if table[cell] != 0 {
             return false;
         }
@@ -85,8 +85,8 @@ fn claim_cells(
 // quicker cell by cell. Public, with a requires, for the crate above.
 pub fn claim_line(
     by: Swizzle,
-    start: Place,
-    step: Place,
+    start: LevelAndM,
+    step: LevelAndM,
     first: Flat,
     many: u64,
     table: &mut [u32],

@@ -17,7 +17,7 @@ use Rattle.rules.specs.Copies.{copyCells}
 use Rattle.rules.specs.Reuse.{leader}
 use Rattle.rules.proofs.Filling.{cells-length, cells-at}
 use Rattle.claims.specs.Claims.{OwnedTable}
-use Rattle.claims.specs.Rows.{RowOf, Within}
+use Rattle.claims.specs.Rows.{RowOf, RowWithin}
 use Rattle.claims.proofs.Steps.{row-within, owners-none}
 use Rattle.claims.proofs.Rows.{occupied-none}
 use Rattle.owners.specs.Owners.{entryLimit}
@@ -40,7 +40,7 @@ copies-row card flat leads = record {
 
 -- a placed row can be claimed: it lies in the cells, has a copy, and its entry is a number of the table
 pub record RowReady (flat : ℕ) (row table : List ℕ) : Type 0 where
-  pub within : Within row table
+  pub within : RowWithin row table
   pub some : 0 < length row
   pub small : flat + 1 < entryLimit
 

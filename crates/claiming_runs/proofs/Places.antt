@@ -29,16 +29,16 @@ use Rattle.rules.specs.declared.Spot.the-variants.{Inside}
 use Rattle.rules.proofs.RowMajor.{inside-parts}
 use Rattle.rules.proofs.Reuse.{leads-itself}
 use Rattle.rules.proofs.Spots.{spot-numbered, cell-below}
-use Rattle.sums.specs.Walks.{Sums}
+use Rattle.copies_sums.specs.Walks.{Sums}
 use Rattle.copies.proofs.Cards.{base-sums}
-use Rattle.linear.specs.Levels.{seven, levelAt, base}
-use Rattle.linear.specs.Runs.{run}
-use Rattle.linear.proofs.Runs.{Fit, runs-of}
-use Rattle.linear.proofs.Levels.{cell-linear, weighed-far, weighed-sum, weighed-times, coordinate-is}
-use Rattle.linear.proofs.Cells.{walked-base, walked-part, part-none, level-none, base-run}
-use Rattle.runs.specs.Contracts.{roomy, Adds, CellThere}
-use Rattle.runs.specs.declared.Place.{Place}
-use Rattle.runs.proofs.Cards.{walkable, copy-sums}
+use Rattle.rules_linear.specs.Levels.{seven, levelAt, base}
+use Rattle.rules_linear.specs.Runs.{runLength}
+use Rattle.rules_linear.proofs.Runs.{Fit, runs-of}
+use Rattle.rules_linear.proofs.Levels.{cell-linear, weighed-far, weighed-sum, weighed-times, coordinate-is}
+use Rattle.rules_linear.proofs.Cells.{walked-base, walked-part, part-none, level-none, base-run}
+use Rattle.copies_runs.specs.Contracts.{roomyLevel, Adds, CellThere}
+use Rattle.copies_runs.specs.declared.LevelAndM.{LevelAndM}
+use Rattle.copies_runs.proofs.Cards.{walkable, copy-sums}
 use Rattle.claims.specs.Claims.{OwnedTable, occupied}
 use Rattle.judgement.specs.Judgement.{placed, AllInside}
 use Rattle.judgement.proofs.Run.{lies-inside}
@@ -135,11 +135,11 @@ module _ (numbers : List ℕ) (strides : List ℤ) (a : Admits numbers strides) 
           | no h ↦ rw (List·getD-eq-default (map g seven) (pos 0) {n = i} (omega arith)) (omega arith)
         ]
 
-    pub level-near : natAbs (levelAt (card .lengths) g) ≤ roomy
+    pub level-near : natAbs (levelAt (card .lengths) g) ≤ roomyLevel
     level-near =
         omega (arith, weighed-far (card .lengths) (map g seven) (2 ^ 40) short (sized card (a .admitted) .most-cells) seven-small)
 
-    pub m-near : natAbs (g lastAxis) ≤ roomy
+    pub m-near : natAbs (g lastAxis) ≤ roomyLevel
     m-near = omega (arith, sums .small lastAxis)
 
   base-small : (f : ℕ) → Sums (map (base card f) axes)
@@ -149,16 +149,16 @@ module _ (numbers : List ℕ) (strides : List ℤ) (a : Admits numbers strides) 
   part-small list h index = rw (walked-part (itersOf numbers strides list) index) at (copy-sums numbers strides list (walkable numbers strides a list h) index)
 
   -- where an element begins is near, and so is what a list adds
-  pub base-near : (f : ℕ) {place : Place} → Adds (card .lengths) (base card f) place → (natAbs (place .level) ≤ roomy) × (natAbs (place .m) ≤ roomy)
+  pub base-near : (f : ℕ) {place : LevelAndM} → Adds (card .lengths) (base card f) place → (natAbs (place .level) ≤ roomyLevel) × (natAbs (place .m) ≤ roomyLevel)
   base-near f e = (rw (e .level-is) (level-near (base card f) (base-small f)), rw (e .m-is) (m-near (base card f) (base-small f)))
 
-  pub part-near : (list : ℕ) → list ≤ 1 → (index : ℕ) {place : Place} → Adds (card .lengths) (part (itersOf numbers strides list) index) place
-      → (natAbs (place .level) ≤ roomy) × (natAbs (place .m) ≤ roomy)
+  pub part-near : (list : ℕ) → list ≤ 1 → (index : ℕ) {place : LevelAndM} → Adds (card .lengths) (part (itersOf numbers strides list) index) place
+      → (natAbs (place .level) ≤ roomyLevel) × (natAbs (place .m) ≤ roomyLevel)
   part-near list h index e =
       let g = part (itersOf numbers strides list) index in
       (rw (e .level-is) (level-near g (part-small list h index)), rw (e .m-is) (m-near g (part-small list h index)))
 
-  pub copy-near : {levels ms : List ℤ} → Copying card levels ms → (r : ℕ) → r < copies card → (natAbs (getD levels r (pos 0)) ≤ roomy) × (natAbs (getD ms r (pos 0)) ≤ roomy)
+  pub copy-near : {levels ms : List ℤ} → Copying card levels ms → (r : ℕ) → r < copies card → (natAbs (getD levels r (pos 0)) ≤ roomyLevel) × (natAbs (getD ms r (pos 0)) ≤ roomyLevel)
   copy-near {levels} {ms} adds r h =
       part-near 1 (omega arith) r {place = record { level = getD levels r (pos 0); m = getD ms r (pos 0) }} (record { level-is = adds .levels-at r h; m-is = adds .ms-at r h })
 
@@ -182,22 +182,22 @@ module _ (card : Card) (admitted : admission card ≡ Admitted) where
   fit : Fit (listed (card .shard))
   fit = fitting (card .shard) (numbered card (checked card admitted .numbers) .shard) .extents
 
-  pub runs-by-run : Unmarked card → RunsBy card (run (listed (card .shard)))
+  pub runs-by-run : Unmarked card → RunsBy card (runLength (listed (card .shard)))
   runs-by-run unmarked =
       let r = runs-of (listed (card .shard)) fit in
       record {
         some = r .some;
-        few = omega (arith, r .whole-runs, mul-le-mul-right (run (listed (card .shard))) (r .a-run));
+        few = omega (arith, r .whole-runs, mul-le-mul-right (runLength (listed (card .shard))) (r .a-run));
         runs = r .count;
         whole-runs = r .whole-runs;
         goes-on = λ q c axis h. base-run card fit q c h axis;
-        lead = λ q c h e leads. leads-itself card unmarked (q * run (listed (card .shard)) + c) e;
-        alone = λ q h follows. absurd (follows (leads-itself card unmarked (q * run (listed (card .shard))) h));
+        lead = λ q c h e leads. leads-itself card unmarked (q * runLength (listed (card .shard)) + c) e;
+        alone = λ q h follows. absurd (follows (leads-itself card unmarked (q * runLength (listed (card .shard))) h));
       }
 
 -- in a run each element begins by one step more
 module _ (numbers : List ℕ) (strides : List ℤ) (length q : ℕ) (by : RunsBy (cardOf numbers strides) length) where
-  pub begins-at : {start step : Place} → Adds (slice 32 40 numbers) (base (cardOf numbers strides) (q * length)) start
+  pub begins-at : {start step : LevelAndM} → Adds (slice 32 40 numbers) (base (cardOf numbers strides) (q * length)) start
       → Adds (slice 32 40 numbers) (part (itersOf numbers strides 0) 1) step → (c : ℕ) → c < length
       → Adds (slice 32 40 numbers) (base (cardOf numbers strides) (q * length + c))
       (record { level = start .level +ℤ pos c *ℤ step .level; m = start .m +ℤ pos c *ℤ step .m })
@@ -224,7 +224,7 @@ module _ (numbers : List ℕ) (strides : List ℤ) (length q : ℕ) (by : RunsBy
 
 -- a run of a card whose smaller elements are claimed
 module _ (numbers : List ℕ) (strides : List ℤ) (a : Admits numbers strides) (inside : AllInside (cardOf numbers strides)) (length q : ℕ)
-    (by : RunsBy (cardOf numbers strides) length) {start step : Place} {table : List ℕ}
+    (by : RunsBy (cardOf numbers strides) length) {start step : LevelAndM} {table : List ℕ}
     (steps : Adds (slice 32 40 numbers) (part (itersOf numbers strides 0) 1) step) where
   pub running : (first : ℕ) → first ≡ q * length → first < elements (cardOf numbers strides) → leader (cardOf numbers strides) first ≡ first → Adds (slice 32 40 numbers) (base (cardOf numbers strides) first) start
       → OwnedTable (placed (cardOf numbers strides)) first (cells (cardOf numbers strides)) table (occupied table) → Running numbers strides start step (record { first = record { 0 = first }; length = length }) table

@@ -10,9 +10,9 @@ use Rattle.card.specs.Packed.{cardOf, Admits}
 use Rattle.card.specs.declared.Card.{Card}
 use Rattle.rules.specs.Rules.{part}
 use Rattle.rules.specs.Reuse.{leader}
-use Rattle.linear.specs.Levels.{base}
-use Rattle.runs.specs.Contracts.{roomy, Adds, CopiesTo}
-use Rattle.runs.specs.declared.Place.{Place}
+use Rattle.rules_linear.specs.Levels.{base}
+use Rattle.copies_runs.specs.Contracts.{roomyLevel, Adds, CopiesTo}
+use Rattle.copies_runs.specs.declared.LevelAndM.{LevelAndM}
 use Rattle.claims.specs.Claims.{OwnedTable, occupied}
 use Rattle.judgement.specs.Judgement.{placed, AllInside}
 use Rattle.claiming_runs.specs.declared.Run.{Run}
@@ -34,7 +34,7 @@ pub record Rows (card : Card) (levels ms : List ℤ) (row : List ℕ) : Type 0 w
   pub one-each : length row ≡ copies card
 
 -- a run of elements that lead, each of which begins by so many steps after the first, and the table of the smaller elements
-pub record Running (numbers : List ℕ) (strides : List ℤ) (start step : Place) (run : Run) (table : List ℕ) : Type 0 where
+pub record Running (numbers : List ℕ) (strides : List ℤ) (start step : LevelAndM) (run : Run) (table : List ℕ) : Type 0 where
   pub admits : Admits numbers strides
   pub inside : AllInside (cardOf numbers strides)
   pub element : (c : ℕ) → c < run .length → run .first .0 + c < elements (cardOf numbers strides)
@@ -42,7 +42,7 @@ pub record Running (numbers : List ℕ) (strides : List ℤ) (start step : Place
   pub begins : (c : ℕ) → c < run .length
       → Adds (slice 32 40 numbers) (base (cardOf numbers strides) (run .first .0 + c))
       (record { level = start .level +ℤ pos c *ℤ step .level; m = start .m +ℤ pos c *ℤ step .m })
-  pub near : (natAbs (step .level) ≤ roomy) × (natAbs (step .m) ≤ roomy)
+  pub near : (natAbs (step .level) ≤ roomyLevel) × (natAbs (step .m) ≤ roomyLevel)
   pub owned : OwnedTable (placed (cardOf numbers strides)) (run .first .0) (cells (cardOf numbers strides)) table (occupied table)
 
 -- the elements are runs of this length, in each of which every sum grows by one step, and all elements of a run lead if the first does

@@ -14,13 +14,13 @@ use Rattle.card.specs.Card.{none}
 use Rattle.card.specs.declared.Iter.{Iter}
 use Rattle.rules.specs.RowMajor.{rowMajor, components}
 use Rattle.rules.specs.Rules.{added}
-use Rattle.linear.specs.Levels.{seven, levelAt}
-use Rattle.linear.proofs.Levels.{weighed-sum, weighed-times}
-use Rattle.linear.proofs.Cells.{between}
-use Rattle.claiming_turns.specs.Turns.{Fits, extents, indexOf, sumsAt, unit, sizeFrom}
+use Rattle.rules_linear.specs.Levels.{seven, levelAt}
+use Rattle.rules_linear.proofs.Levels.{weighed-sum, weighed-times}
+use Rattle.rules_linear.proofs.Cells.{between}
+use Rattle.claiming_turns.specs.Turns.{DigitsFit, iterExtents, indexOf, sumsAt, unit, sizeFrom}
 
 -- the index is one of the elements
-pub index-below : (ns cs : List ℕ) → Fits ns cs → rowMajor ns cs < product ns
+pub index-below : (ns cs : List ℕ) → DigitsFit ns cs → rowMajor ns cs < product ns
 index-below [] cs f = omega arith
 index-below (n ∷ ns) [] f = absurd f
 index-below (n ∷ ns) (c ∷ cs) f =
@@ -28,15 +28,15 @@ index-below (n ∷ ns) (c ∷ cs) f =
     omega (arith, index-below ns cs (f .1), more, add-mul c 1 (product ns))
 
 -- split into components it gives the digits back
-pub digits-back : (axis : ℕ) (l : List Iter) (cs : List ℕ) (above : ℕ) → Fits (extents l) cs
-    → added axis l (components (extents l) (above * product (extents l) + indexOf l cs)) ≡ added axis l cs
+pub digits-back : (axis : ℕ) (l : List Iter) (cs : List ℕ) (above : ℕ) → DigitsFit (iterExtents l) cs
+    → added axis l (components (iterExtents l) (above * product (iterExtents l) + indexOf l cs)) ≡ added axis l cs
 digits-back axis [] cs above f = refl
 digits-back axis (iter ∷ l) [] above f = absurd f
 digits-back axis (iter ∷ l) (c ∷ cs) above f =
     let n = iter .extent in
-    let p = product (extents l) in
+    let p = product (iterExtents l) in
     let r = indexOf l cs in
-    let below : r < p = index-below (extents l) cs (f .1) in
+    let below : r < p = index-below (iterExtents l) cs (f .1) in
     let same : above * (n * p) + (c * p + r) ≡ (above * n + c) * p + r =
     omega (arith, sym (mul-assoc above n p), add-mul (above * n) c p) in
     let digit : (above * (n * p) + (c * p + r)) / p % n ≡ c =
@@ -45,22 +45,22 @@ digits-back axis (iter ∷ l) (c ∷ cs) above f =
     ∙ mul-add-mod-self-right above n c
     ∙ mod-eq-of-lt (f .0) in
     ap₂ (λ (d : ℕ) (z : ℤ). cond (eqb (iter .axis) axis) (pos d *ℤ iter .stride) (pos 0) +ℤ z) digit
-    (ap (λ (i : ℕ). added axis l (components (extents l) i)) same ∙ digits-back axis l cs (above * n + c) (f .1))
+    (ap (λ (i : ℕ). added axis l (components (iterExtents l) i)) same ∙ digits-back axis l cs (above * n + c) (f .1))
 
 -- another digit
-pub set-fits : (ns cs : List ℕ) (k x : ℕ) → x < getD ns k 0 → Fits ns cs → Fits ns (set cs k x)
+pub set-fits : (ns cs : List ℕ) (k x : ℕ) → x < getD ns k 0 → DigitsFit ns cs → DigitsFit ns (set cs k x)
 set-fits [] cs k x h f = tt
 set-fits (n ∷ ns) [] k x h f = absurd f
 set-fits (n ∷ ns) (c ∷ cs) zero x h f = (h, f .1)
 set-fits (n ∷ ns) (c ∷ cs) (suc k) x h f = (f .0, set-fits ns cs k x h (f .1))
 
-pub digit-below : (ns cs : List ℕ) (k : ℕ) → k < length ns → Fits ns cs → getD cs k 0 < getD ns k 0
+pub digit-below : (ns cs : List ℕ) (k : ℕ) → k < length ns → DigitsFit ns cs → getD cs k 0 < getD ns k 0
 digit-below [] cs k h f = absurd (omega arith)
 digit-below (n ∷ ns) [] k h f = absurd f
 digit-below (n ∷ ns) (c ∷ cs) zero h f = f .0
 digit-below (n ∷ ns) (c ∷ cs) (suc k) h f = digit-below ns cs k (omega arith) (f .1)
 
-pub set-index : (l : List Iter) (cs : List ℕ) (k x : ℕ) → k < length l → Fits (extents l) cs
+pub set-index : (l : List Iter) (cs : List ℕ) (k x : ℕ) → k < length l → DigitsFit (iterExtents l) cs
     → indexOf l (set cs k x) + getD cs k 0 * sizeFrom (suc k) l ≡ indexOf l cs + x * sizeFrom (suc k) l
 set-index [] cs k x h f = absurd (omega arith)
 set-index (iter ∷ l) [] k x h f = absurd f
@@ -71,7 +71,7 @@ set-index (iter ∷ l) (c ∷ cs) (suc k) x h f = omega (arith, set-index l cs k
 abbrev moves : Iter → ℕ → ℕ → ℤ
 moves iter c axis = cond (eqb (iter .axis) axis) (pos c *ℤ iter .stride) (pos 0)
 
-set-moves : (axis : ℕ) (l : List Iter) (cs : List ℕ) (k x : ℕ) → k < length l → Fits (extents l) cs
+set-moves : (axis : ℕ) (l : List Iter) (cs : List ℕ) (k x : ℕ) → k < length l → DigitsFit (iterExtents l) cs
     → added axis l (set cs k x) +ℤ moves (getD l k none) (getD cs k 0) axis ≡ added axis l cs +ℤ moves (getD l k none) x axis
 set-moves axis [] cs k x h f = absurd (omega arith)
 set-moves axis (iter ∷ l) [] k x h f = absurd f
@@ -91,7 +91,7 @@ moves-units iter c axis = by (eqb (iter .axis) axis)
     by true = refl
     by false = sym (*ℤ-zero (pos c))
 
-module _ (l : List Iter) (offset : List ℤ) (cs : List ℕ) (k x : ℕ) (h : k < length l) (f : Fits (extents l) cs) where
+module _ (l : List Iter) (offset : List ℤ) (cs : List ℕ) (k x : ℕ) (h : k < length l) (f : DigitsFit (iterExtents l) cs) where
   abbrev c : ℕ
   c = getD cs k 0
 

@@ -20,13 +20,13 @@ use Rattle.card.specs.Packed.{iterAt}
 use Rattle.card.specs.declared.Iter.{Iter}
 use Rattle.card.proofs.ReadBack.{eight-at}
 use Rattle.rules.specs.Rules.{axes}
-use Rattle.linear.specs.Levels.{levelAt}
-use Rattle.linear.proofs.Cells.{zeros}
-use Rattle.linear.proofs.Times.{times-more}
-use Rattle.sums.specs.Walks.{Steps}
-use Rattle.runs.specs.Contracts.{roomy, Adds}
-use Rattle.runs.specs.declared.Place.{Place}
-use Rattle.claiming_turns.specs.Turns.{extents, indexOf, sumsAt, unit, sizeFrom, iters, WaysTo, DigitsAt}
+use Rattle.rules_linear.specs.Levels.{levelAt}
+use Rattle.rules_linear.proofs.Cells.{zeros}
+use Rattle.rules_linear.proofs.Times.{times-more}
+use Rattle.copies_sums.specs.Walks.{Steps}
+use Rattle.copies_runs.specs.Contracts.{roomyLevel, Adds}
+use Rattle.copies_runs.specs.declared.LevelAndM.{LevelAndM}
+use Rattle.claiming_turns.specs.Turns.{iterExtents, indexOf, sumsAt, unit, sizeFrom, shardIters, WaysTo, DigitsAt}
 use Rattle.claiming_turns.proofs.Digits.{set-fits, digit-below, set-index, set-sums, set-level}
 
 -- a list of zeros but one
@@ -42,20 +42,20 @@ unit-sums (suc (suc (suc (suc (suc (suc (suc zero))))))) z h = refl
 unit-sums (suc (suc (suc (suc (suc (suc (suc (suc a)))))))) z h = absurd (omega arith)
 
 -- the iter at k
-pub iter-at : (numbers : List ℕ) (strides : List ℤ) (k : ℕ) → getD numbers 40 0 ≤ 8 → k < getD numbers 40 0 → getD (iters numbers strides) k none ≡ iterAt numbers strides 0 k
+pub iter-at : (numbers : List ℕ) (strides : List ℤ) (k : ℕ) → getD numbers 40 0 ≤ 8 → k < getD numbers 40 0 → getD (shardIters numbers strides) k none ≡ iterAt numbers strides 0 k
 iter-at numbers strides k few h =
     getD-take (getD numbers 40 0) (map (iterAt numbers strides 0) slots) k none h ∙ eight-at (iterAt numbers strides 0) none k (omega arith)
 
-pub iters-count : (numbers : List ℕ) (strides : List ℤ) → getD numbers 40 0 ≤ 8 → length (iters numbers strides) ≡ getD numbers 40 0
+pub iters-count : (numbers : List ℕ) (strides : List ℤ) → getD numbers 40 0 ≤ 8 → length (shardIters numbers strides) ≡ getD numbers 40 0
 iters-count numbers strides few =
     let eight : length (map (iterAt numbers strides 0) slots) ≡ 8 = refl in
     omega (arith, length-take (getD numbers 40 0) (map (iterAt numbers strides 0) slots))
 
-pub extent-at : (numbers : List ℕ) (strides : List ℤ) (k : ℕ) → getD numbers 40 0 ≤ 8 → k < getD numbers 40 0 → getD (extents (iters numbers strides)) k 0 ≡ getD numbers k 0
-extent-at numbers strides k few h = List·getD-map extentOf (iters numbers strides) k none ∙ ap extentOf (iter-at numbers strides k few h) ∙ ap (λ (n : ℕ). getD numbers n 0) (omega arith)
+pub extent-at : (numbers : List ℕ) (strides : List ℤ) (k : ℕ) → getD numbers 40 0 ≤ 8 → k < getD numbers 40 0 → getD (iterExtents (shardIters numbers strides)) k 0 ≡ getD numbers k 0
+extent-at numbers strides k few h = List·getD-map extentOf (shardIters numbers strides) k none ∙ ap extentOf (iter-at numbers strides k few h) ∙ ap (λ (n : ℕ). getD numbers n 0) (omega arith)
 
 -- the later iters from k on
-pub size-next : (l : List Iter) (k : ℕ) → k < length l → sizeFrom k l ≡ getD (extents l) k 0 * sizeFrom (suc k) l
+pub size-next : (l : List Iter) (k : ℕ) → k < length l → sizeFrom k l ≡ getD (iterExtents l) k 0 * sizeFrom (suc k) l
 size-next [] k h = absurd (omega arith)
 size-next (iter ∷ l) zero h = refl
 size-next (iter ∷ l) (suc k) h = size-next l k (omega arith)
@@ -65,14 +65,14 @@ module _ (numbers : List ℕ) (strides : List ℤ) where
   pub ways-none : (levels ms : List ℤ) → length levels ≡ 8 → length ms ≡ 8 → WaysTo numbers strides 0 levels ms
   ways-none levels ms l m = record { level-size = l; m-size = m; ways = λ j h. absurd (omega arith) }
 
-  pub ways-more : (levels ms : List ℤ) (k : ℕ) (place : Place) → k < 8 → WaysTo numbers strides k levels ms
-      → Adds (slice 32 40 numbers) (unit (getD (iters numbers strides) k none)) place → WaysTo numbers strides (k + 1) (set levels k (place .level)) (set ms k (place .m))
+  pub ways-more : (levels ms : List ℤ) (k : ℕ) (place : LevelAndM) → k < 8 → WaysTo numbers strides k levels ms
+      → Adds (slice 32 40 numbers) (unit (getD (shardIters numbers strides) k none)) place → WaysTo numbers strides (k + 1) (set levels k (place .level)) (set ms k (place .m))
   ways-more levels ms k place h w new = record {
     level-size = length-set levels k (place .level) ∙ w .level-size;
     m-size = length-set ms k (place .m) ∙ w .m-size;
     ways =
         below-more
-        (λ j. Adds (slice 32 40 numbers) (unit (getD (iters numbers strides) j none)) (record { level = getD (set levels k (place .level)) j (pos 0); m = getD (set ms k (place .m)) j (pos 0) })) k
+        (λ j. Adds (slice 32 40 numbers) (unit (getD (shardIters numbers strides) j none)) (record { level = getD (set levels k (place .level)) j (pos 0); m = getD (set ms k (place .m)) j (pos 0) })) k
         (λ j less. record {
           level-is = getD-set-other levels k j (place .level) (pos 0) (ne-of-lt less) ∙ w .ways j less .level-is;
           m-is = getD-set-other ms k j (place .m) (pos 0) (ne-of-lt less) ∙ w .ways j less .m-is;
@@ -109,10 +109,10 @@ rest-far x w =
     )
 
 -- one turn of digit k
-module _ (numbers : List ℕ) (strides : List ℤ) (cs : List ℕ) (place : Place) (k : ℕ) (h : k < length (iters numbers strides)) (at : DigitsAt numbers strides cs place)
-    {way : Place} (w : Adds (slice 32 40 numbers) (unit (getD (iters numbers strides) k none)) way) where
+module _ (numbers : List ℕ) (strides : List ℤ) (cs : List ℕ) (place : LevelAndM) (k : ℕ) (h : k < length (shardIters numbers strides)) (at : DigitsAt numbers strides cs place)
+    {way : LevelAndM} (w : Adds (slice 32 40 numbers) (unit (getD (shardIters numbers strides) k none)) way) where
   abbrev l : List Iter
-  l = iters numbers strides
+  l = shardIters numbers strides
 
   abbrev offset : List ℤ
   offset = slice 16 24 strides
@@ -123,9 +123,9 @@ module _ (numbers : List ℕ) (strides : List ℤ) (cs : List ℕ) (place : Plac
   abbrev digit : ℕ
   digit = getD cs k 0
 
-  pub turn-forth : digit + 1 < getD (extents l) k 0 → DigitsAt numbers strides (set cs k (digit + 1)) (record { level = place .level +ℤ way .level; m = place .m +ℤ way .m })
+  pub turn-forth : digit + 1 < getD (iterExtents l) k 0 → DigitsAt numbers strides (set cs k (digit + 1)) (record { level = place .level +ℤ way .level; m = place .m +ℤ way .m })
   turn-forth below = record {
-    fits = set-fits (extents l) cs k (digit + 1) below (at .fits);
+    fits = set-fits (iterExtents l) cs k (digit + 1) below (at .fits);
     at = record {
       level-is =
           ap₂ (λ (x y : ℤ). x +ℤ y) (at .at .level-is) (w .level-is)
@@ -140,12 +140,12 @@ module _ (numbers : List ℕ) (strides : List ℤ) (cs : List ℕ) (place : Plac
   index-forth = omega (arith, set-index l cs k (digit + 1) h (at .fits), add-mul digit 1 (sizeFrom (suc k) l))
 
   -- back to 0
-  abbrev zeroed : Place
+  abbrev zeroed : LevelAndM
   zeroed = record { level = levelAt ns (sumsAt l offset (set cs k 0)); m = sumsAt l offset (set cs k 0) lastAxis }
 
   pub turned-back : DigitsAt numbers strides (set cs k 0) zeroed
   turned-back = record {
-    fits = set-fits (extents l) cs k 0 (omega (arith, digit-below (extents l) cs k (simp length-map h) (at .fits))) (at .fits);
+    fits = set-fits (iterExtents l) cs k 0 (omega (arith, digit-below (iterExtents l) cs k (simp length-map h) (at .fits))) (at .fits);
     at = record { level-is = refl; m-is = refl };
   }
 
@@ -175,20 +175,20 @@ module _ (numbers : List ℕ) (strides : List ℤ) (cs : List ℕ) (place : Plac
     };
   }
 
-  pub index-back : getD (extents l) k 0 ≤ digit + 1 → indexOf l (set cs k 0) + sizeFrom k l ≡ indexOf l cs + sizeFrom (suc k) l
+  pub index-back : getD (iterExtents l) k 0 ≤ digit + 1 → indexOf l (set cs k 0) + sizeFrom k l ≡ indexOf l cs + sizeFrom (suc k) l
   index-back full =
-      let last : getD (extents l) k 0 ≡ digit + 1 = omega (arith, digit-below (extents l) cs k (simp length-map h) (at .fits)) in
+      let last : getD (iterExtents l) k 0 ≡ digit + 1 = omega (arith, digit-below (iterExtents l) cs k (simp length-map h) (at .fits)) in
       let size : sizeFrom k l ≡ (digit + 1) * sizeFrom (suc k) l = size-next l k h ∙ ap (λ (n : ℕ). n * sizeFrom (suc k) l) last in
       omega (arith, set-index l cs k 0 h (at .fits), add-mul digit 1 (sizeFrom (suc k) l))
 
-  pub digit-small : getD (extents l) k 0 ≤ 2 ^ 32 → digit ≤ 2 ^ 32
-  digit-small small = omega (arith, digit-below (extents l) cs k (simp length-map h) (at .fits))
+  pub digit-small : getD (iterExtents l) k 0 ≤ 2 ^ 32 → digit ≤ 2 ^ 32
+  digit-small small = omega (arith, digit-below (iterExtents l) cs k (simp length-map h) (at .fits))
 
   -- the machine's numbers
-  steps-of : (x u z : ℤ) → x +ℤ pos digit *ℤ u ≡ z → natAbs x ≤ roomy → natAbs z ≤ roomy → digit ≤ 2 ^ 32 → Steps z digit u
+  steps-of : (x u z : ℤ) → x +ℤ pos digit *ℤ u ≡ z → natAbs x ≤ roomyLevel → natAbs z ≤ roomyLevel → digit ≤ 2 ^ 32 → Steps z digit u
   steps-of x u z e near far small = record { small-component = small; room = omega (arith, times-far digit u, rest-far x (pos digit *ℤ u), ap natAbs e) }
 
-  module _ (near : (cs : List ℕ) (place : Place) → DigitsAt numbers strides cs place → (natAbs (place .level) ≤ roomy) × (natAbs (place .m) ≤ roomy)) (small : digit ≤ 2 ^ 32) where
+  module _ (near : (cs : List ℕ) (place : LevelAndM) → DigitsAt numbers strides cs place → (natAbs (place .level) ≤ roomyLevel) × (natAbs (place .m) ≤ roomyLevel)) (small : digit ≤ 2 ^ 32) where
     pub level-steps : Steps (place .level) digit (way .level)
     level-steps = steps-of (zeroed .level) (way .level) (place .level) level-back (near (set cs k 0) zeroed turned-back .0) (near cs place at .0) small
 

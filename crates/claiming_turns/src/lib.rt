@@ -1,6 +1,6 @@
 // From one run of a packed card's elements to the next, by an odometer over the iters that are slower than the run's.
 // It has one digit for each, and how far one step of it moves level and m.
-use runs::Place;
+use copies_runs::LevelAndM;
 ghost use mathlib.Core.Path.{_≡_};
 ghost use mathlib.Core.List.{List};
 ghost use Prim.Native.Nat.{_<_};
@@ -9,9 +9,9 @@ ghost use lib.ListN.{length, getD};
 ghost use lib.Seq.{slice};
 ghost use Rattle.card.specs.Card.{none};
 ghost use Rattle.card.specs.Packed.{ListOf, Admits};
-ghost use Rattle.sums.specs.Walks.{Steps};
-ghost use Rattle.runs.specs.Contracts.{Adds};
-ghost use Rattle.claiming_turns.specs.Turns.{iters, unit, RunFrom, WaysTo, Turnable, Turned};
+ghost use Rattle.copies_sums.specs.Walks.{Steps};
+ghost use Rattle.copies_runs.specs.Contracts.{Adds};
+ghost use Rattle.claiming_turns.specs.Turns.{shardIters, unit, RunFrom, WaysTo, Turnable, Turned};
 
 // The axis m, the last.
 const M: usize = card::LAST_AXIS as usize;
@@ -20,7 +20,7 @@ const M: usize = card::LAST_AXIS as usize;
 // requires, for the crate above.
 pub fn run_from(numbers: &[u64; 56]) -> usize
     requires { ⌜ ListOf (now numbers) 0 ⌝ }
-    ensures { λ r. ⌜ ((strides : List ℤ) → RunFrom (iters (now (numbers .entry)) strides) r) ⌝ }
+    ensures { λ r. ⌜ ((strides : List ℤ) → RunFrom (shardIters (now (numbers .entry)) strides) r) ⌝ }
 {
     let mut k = numbers[card::COUNTS + card::SHARD] as usize;
     while 0 < k {
@@ -33,16 +33,16 @@ pub fn run_from(numbers: &[u64; 56]) -> usize
 }
 
 // What one step of an iter of the shard adds to level and m.
-fn way(numbers: &[u64; 56], strides: &[i64; 24], k: usize) -> Place
+fn way(numbers: &[u64; 56], strides: &[i64; 24], k: usize) -> LevelAndM
     requires { ⌜ Admits (now numbers) (now strides) × (k < getD (now numbers) 40 0) ⌝ }
-    ensures { λ r. ⌜ Adds (slice 32 40 (now (numbers .entry))) (unit (getD (iters (now (numbers .entry)) (now (strides .entry))) k none)) r ⌝ }
+    ensures { λ r. ⌜ Adds (slice 32 40 (now (numbers .entry))) (unit (getD (shardIters (now (numbers .entry)) (now (strides .entry))) k none)) r ⌝ }
 {
     let mut sums = [0i64; 8];
     let stride = strides[k];
     let axis = numbers[8 + k] as usize;
     sums[axis] = stride;
-    let level = runs::weigh(numbers, &sums);
-    Place { level, m: sums[M] }
+    let level = copies_runs::weigh(numbers, &sums);
+    LevelAndM { level, m: sums[M] }
 }
 
 // The same for the first of them. Public, with a requires, for the crate above.
@@ -53,7 +53,7 @@ pub fn put_ways(
     levels: &mut [i64; 8],
     ms: &mut [i64; 8],
 )
-    requires { ⌜ Admits (now numbers) (now strides) × RunFrom (iters (now numbers) (now strides)) from × (length (now levels) ≡ 8) × (length (now ms) ≡ 8) ⌝ }
+    requires { ⌜ Admits (now numbers) (now strides) × RunFrom (shardIters (now numbers) (now strides)) from × (length (now levels) ≡ 8) × (length (now ms) ≡ 8) ⌝ }
     ensures { λ r. ⌜ WaysTo (now (numbers .entry)) (now (strides .entry)) from (now (levels .exit)) (now (ms .exit)) ⌝ }
 {
     let mut k: usize = 0;
@@ -84,8 +84,8 @@ pub fn turn(
     levels: &[i64; 8],
     ms: &[i64; 8],
     digits: &mut [u64; 8],
-    start: Place,
-) -> Place
+    start: LevelAndM,
+) -> LevelAndM
     requires { ⌜ Turnable (now numbers) (now strides) from (now levels) (now ms) (now digits) start ⌝ }
     ensures { λ r. ⌜ Turned (now (numbers .entry)) (now (strides .entry)) from (now (digits .entry)) (now (digits .exit)) r ⌝ }
 {
@@ -99,11 +99,11 @@ pub fn turn(
             digits[k] = digit + 1;
             level = level + levels[k];
             m = m + ms[k];
-            return Place { level, m };
+            return LevelAndM { level, m };
         }
         digits[k] = 0;
         level = back(level, digit, levels[k]);
         m = back(m, digit, ms[k]);
     }
-    Place { level, m }
+    LevelAndM { level, m }
 }

@@ -8,7 +8,7 @@ use native.Mathlib.Omega.{arith}
 use lib.Arith.{digits-lt, digits-div, digits-mod}
 use lib.ListN.{getD, set}
 use lib.Seq.{getD-set-other}
-use Rattle.claims.specs.Claims.{Layout, Claims, Owners, occupied}
+use Rattle.claims.specs.Claims.{CopiesAt, Claims, Owners, occupied}
 use Rattle.claims.proofs.Theorems.{owners-none-share}
 
 -- an entry that is emptied is one less
@@ -58,17 +58,17 @@ places-counted (suc n) place table p =
     omega (arith, emptied table (place n) (p .there n (omega arith)))
 
 -- the copies of an element have a cell each
-abbrev pub CopiesApart : Layout → ℕ → Type 0
+abbrev pub CopiesApart : CopiesAt → ℕ → Type 0
 CopiesApart p n = (f r s : ℕ) → f < n → r < p .copies f → s < p .copies f → p .at f r ≡ p .at f s → r ≡ s
 
 -- the elements that have copies are so many leaders, each with as many copies
-pub record Led (p : Layout) (n classes copies : ℕ) (leader : ℕ → ℕ) : Type 0 where
+pub record Led (p : CopiesAt) (n classes copies : ℕ) (leader : ℕ → ℕ) : Type 0 where
   pub element : (k : ℕ) → k < classes → leader k < n
   pub own : (k : ℕ) → k < classes → p .copies (leader k) ≡ copies
   pub found : (f : ℕ) → f < n → 0 < p .copies f → (k : ℕ) × (k < classes) × (leader k ≡ f)
   pub once : (j k : ℕ) → j < classes → k < classes → leader j ≡ leader k → j ≡ k
 
-module _ (p : Layout) (n : ℕ) (table : List ℕ) (owners : Owners p n table) (apart : CopiesApart p n) (classes copies : ℕ) (leader : ℕ → ℕ)
+module _ (p : CopiesAt) (n : ℕ) (table : List ℕ) (owners : Owners p n table) (apart : CopiesApart p n) (classes copies : ℕ) (leader : ℕ → ℕ)
     (some : 0 < copies) (led : Led p n classes copies leader) where
   -- all copies of all leaders in one row, and the cell of each
   place : ℕ → ℕ

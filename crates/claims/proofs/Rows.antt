@@ -13,8 +13,8 @@ use lib.ListN.{length, getD, set, drop, replicate, length-set, drop-of-length-le
 use lib.Seq.{drop-cons, getD-set-same, getD-set-other, lt-length-set}
 use borrow.Author.Tests.{eq-eqb, eqb-true, ltb-true, ltb-false}
 use Rattle.laws.proofs.Order.{le-or-lt}
-use Rattle.claims.specs.Claims.{Layout, Claims, taken, occupied}
-use Rattle.claims.specs.Rows.{RowOf, Within, minSome, least, entryMet, cellWith, cellMet, rowWritten}
+use Rattle.claims.specs.Claims.{CopiesAt, Claims, taken, occupied}
+use Rattle.claims.specs.Rows.{RowOf, RowWithin, minSome, least, entryMet, cellWith, cellMet, rowWritten}
 
 -- cell c is one of a row's
 pub record Among (row : List ℕ) (c : ℕ) : Type 0 where
@@ -39,7 +39,7 @@ nowhere : (c : ℕ) → Among [] c → ⊥
 nowhere c a = not-suc-le-zero (a .below)
 
 -- the cells of an element's row are those that it claims
-module _ (p : Layout) (f : ℕ) (row : List ℕ) (is : RowOf p f row) (c : ℕ) where
+module _ (p : CopiesAt) (f : ℕ) (row : List ℕ) (is : RowOf p f row) (c : ℕ) where
   pub among-claims : Among row c → Claims p f c
   among-claims a =
       let below : a .place < p .copies f = omega (arith, is .size) in
@@ -195,11 +195,11 @@ module _ (entry : ℕ) where
   written-length [] table = refl
   written-length (d ∷ row) table = written-length row (set table d entry) ∙ length-set table d entry
 
-  within-rest : (d : ℕ) (row table : List ℕ) → Within (d ∷ row) table → Within row (set table d entry)
+  within-rest : (d : ℕ) (row table : List ℕ) → RowWithin (d ∷ row) table → RowWithin row (set table d entry)
   within-rest d row table w = λ r h. lt-length-set table d entry (w (suc r) (suc-le-suc h))
 
   -- each cell is a row's, and has the entry, or is none, and has what it had
-  pub written-at : (row table : List ℕ) → Within row table → (c : ℕ) →
+  pub written-at : (row table : List ℕ) → RowWithin row table → (c : ℕ) →
       (Among row c × (getD (rowWritten entry row table) c 0 ≡ entry)) ⊎ ((Among row c → ⊥) × (getD (rowWritten entry row table) c 0 ≡ getD table c 0))
   written-at [] table w c = inr (nowhere c, refl)
   written-at (d ∷ row) table w c =
@@ -240,12 +240,12 @@ occupied-set (d ∷ table) zero entry h = omega arith
 occupied-set (d ∷ table) (suc c) entry h = omega (arith, occupied-set table c entry (le-of-suc-le-suc h))
 
 -- writing a row occupies no fewer cells, and more where its first cell was nobody's
-pub occupied-written : (entry : ℕ) (row table : List ℕ) → 0 < entry → Within row table → occupied table ≤ occupied (rowWritten entry row table)
+pub occupied-written : (entry : ℕ) (row table : List ℕ) → 0 < entry → RowWithin row table → occupied table ≤ occupied (rowWritten entry row table)
 occupied-written entry [] table p w = omega arith
 occupied-written entry (d ∷ row) table p w =
     omega (arith, occupied-set table d entry (w 0 (omega arith)), taken-owned entry p, taken-most (getD table d 0), occupied-written entry row (set table d entry) p (within-rest entry d row table w))
 
-pub occupied-claimed : (entry : ℕ) (row table : List ℕ) → 0 < entry → Within row table → 0 < length row → entryMet table row ≡ 0 → occupied table < occupied (rowWritten entry row table)
+pub occupied-claimed : (entry : ℕ) (row table : List ℕ) → 0 < entry → RowWithin row table → 0 < length row → entryMet table row ≡ 0 → occupied table < occupied (rowWritten entry row table)
 occupied-claimed entry [] table p w h e = absurd (omega arith)
 occupied-claimed entry (d ∷ row) table p w h e =
     let free : getD table d 0 ≡ 0 = met-nobody table (d ∷ row) e d (here d row d refl) in

@@ -5,7 +5,7 @@ use Prim.Native.Nat.{ℕ, zero, suc, _+_, _<_}
 use native.Mathlib.Nat.{zero-add}
 use native.Mathlib.Omega.{arith}
 use lib.ListN.{length, getD, replicate, length-replicate}
-use Rattle.claims.specs.Claims.{Layout, Owners}
+use Rattle.claims.specs.Claims.{CopiesAt, Owners}
 use Rattle.claims.specs.Outcome.{Inside, ClaimsComeTo}
 use Rattle.claims.specs.Rows.{RowOf, entryMet, rowWritten}
 use Rattle.claims.specs.Run.{rowFrom, claimFrom, run}
@@ -22,14 +22,14 @@ module _ (at : ℕ → ℕ) where
   row-at (suc k) r zero h = ap at (omega arith)
   row-at (suc k) r (suc i) h = row-at k (r + 1) i (omega arith) ∙ ap at (omega arith)
 
-row-is : (p : Layout) (f : ℕ) → RowOf p f (rowFrom (p .at f) (p .copies f) 0)
+row-is : (p : CopiesAt) (f : ℕ) → RowOf p f (rowFrom (p .at f) (p .copies f) 0)
 row-is p f =
     record {
       size = row-length (p .at f) (p .copies f) 0;
       cells = λ r h. row-at (p .at f) (p .copies f) 0 r h ∙ ap (p .at f) (zero-add r);
     }
 
-module _ (p : Layout) (n cells : ℕ) (inside : Inside p n cells) where
+module _ (p : CopiesAt) (n cells : ℕ) (inside : Inside p n cells) where
   -- claiming element y and then what is left comes to an outcome where what is left does, and where y's row meets somebody
   step : (left y : ℕ) (table : List ℕ) → y < n → length table ≡ cells → Owners p y table
       → ((after : List ℕ) → length after ≡ cells → Owners p (y + 1) after → ClaimsComeTo p n cells (claimFrom p left (y + 1) after))

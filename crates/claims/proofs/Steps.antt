@@ -8,9 +8,9 @@ use native.Mathlib.Nat.{eq-or-lt-of-le}
 use native.Mathlib.Omega.{arith}
 use lib.ListN.{length, getD, replicate}
 use Rattle.laws.proofs.Order.{le-or-lt}
-use Rattle.claims.specs.Claims.{Layout, Claims, Owners, occupied, FirstClash}
+use Rattle.claims.specs.Claims.{CopiesAt, Claims, Owners, occupied, FirstClash}
 use Rattle.claims.specs.Outcome.{Inside}
-use Rattle.claims.specs.Rows.{RowOf, Within, entryMet, cellMet, rowWritten, RowClaim}
+use Rattle.claims.specs.Rows.{RowOf, RowWithin, entryMet, cellMet, rowWritten, RowClaim}
 use Rattle.claims.proofs.Rows.{Among, among-claims, claims-among, met-nobody, met-somebody, met-smallest, cell-met, written-at, occupied-claimed}
 
 nobody : (n c : ℕ) → _≡_ {A = ℕ} (getD (replicate n 0) c 0) 0
@@ -19,11 +19,11 @@ nobody (suc n) zero = refl
 nobody (suc n) (suc c) = nobody n c
 
 -- a cleared table has the owners of no element
-pub owners-none : (p : Layout) (cells : ℕ) → Owners p 0 (replicate cells 0)
+pub owners-none : (p : CopiesAt) (cells : ℕ) → Owners p 0 (replicate cells 0)
 owners-none p cells = λ f c. (λ e. absurd (omega (arith, nobody cells c)), λ h. absurd (omega (arith, h .0)))
 
 -- where every copy lies in the cells, each element's row lies in the table of the cells
-pub row-within : (p : Layout) (n : ℕ) (table : List ℕ) → Inside p n (length table) → (y : ℕ) (row : List ℕ) → y < n → RowOf p y row → Within row table
+pub row-within : (p : CopiesAt) (n : ℕ) (table : List ℕ) → Inside p n (length table) → (y : ℕ) (row : List ℕ) → y < n → RowOf p y row → RowWithin row table
 row-within p n table inside y row h is = λ r k.
     let below : r < p .copies y = omega (arith, is .size) in omega (arith, is .cells r below, inside y r h below)
 
@@ -31,15 +31,15 @@ row-within p n table inside y row h is = λ r k.
 pub claim-none : (row : List ℕ) (f : ℕ) (table : List ℕ) → 0 < entryMet table row → RowClaim row f 0 table table
 claim-none row f table h = record { met = λ e. (h, refl); claimed = λ k. absurd (omega arith); counted = omega arith }
 
-pub claim-all : (row : List ℕ) (f newly : ℕ) (before after : List ℕ) → Within row before → 0 < length row → entryMet before row ≡ 0
+pub claim-all : (row : List ℕ) (f newly : ℕ) (before after : List ℕ) → RowWithin row before → 0 < length row → entryMet before row ≡ 0
     → after ≡ rowWritten (f + 1) row before → newly + occupied before ≡ occupied after → RowClaim row f newly before after
 claim-all row f newly before after w h free e counted =
     let more = rw (sym e) at (occupied-claimed (f + 1) row before (omega arith) w h free) in
     record { met = λ none. absurd (omega arith); claimed = λ k. (free, e); counted = counted }
 
-module _ (p : Layout) (y : ℕ) (table : List ℕ) (owners : Owners p y table) (row : List ℕ) (is : RowOf p y row) where
+module _ (p : CopiesAt) (y : ℕ) (table : List ℕ) (owners : Owners p y table) (row : List ℕ) (is : RowOf p y row) where
   -- element y's row meets nobody: with the row written the table has the owners of one element more
-  pub owners-more : Within row table → entryMet table row ≡ 0 → Owners p (y + 1) (rowWritten (y + 1) row table)
+  pub owners-more : RowWithin row table → entryMet table row ≡ 0 → Owners p (y + 1) (rowWritten (y + 1) row table)
   owners-more w free f c =
       let last : f < y + 1 → (f ≡ y) ⊎ (f < y) = λ h. eq-or-lt-of-le (omega arith) in
       ⊎-elim
@@ -90,9 +90,9 @@ module _ (p : Layout) (y : ℕ) (table : List ℕ) (owners : Owners p y table) (
       }
 
 -- the two steps of the loop over the elements, from what claiming row y ensures
-module _ (p : Layout) (y : ℕ) (before : List ℕ) (owners : Owners p y before) (row : List ℕ) (is : RowOf p y row) (newly : ℕ) (after : List ℕ)
+module _ (p : CopiesAt) (y : ℕ) (before : List ℕ) (owners : Owners p y before) (row : List ℕ) (is : RowOf p y row) (newly : ℕ) (after : List ℕ)
     (claim : RowClaim row y newly before after) where
-  pub claimed-owners : Within row before → 0 < newly → Owners p (y + 1) after
+  pub claimed-owners : RowWithin row before → 0 < newly → Owners p (y + 1) after
   claimed-owners w h =
       let done = claim .claimed h in rw (done .1) (owners-more p y before owners row is w (done .0))
 
@@ -100,7 +100,7 @@ module _ (p : Layout) (y : ℕ) (before : List ℕ) (owners : Owners p y before)
   met-clash n h e = clash-first p y before owners row is n h (claim .met e .0)
 
 -- an element without copies claims nothing: the table has the owners of one element more as it is
-pub owners-follow : (p : Layout) (y : ℕ) (table : List ℕ) → p .copies y ≡ 0 → Owners p y table → Owners p (y + 1) table
+pub owners-follow : (p : CopiesAt) (y : ℕ) (table : List ℕ) → p .copies y ≡ 0 → Owners p y table → Owners p (y + 1) table
 owners-follow p y table none owners f c = (
   λ e. let o = owners f c .0 e in (omega (arith, o .0), o .1),
   λ h.

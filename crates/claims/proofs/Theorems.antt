@@ -7,7 +7,7 @@ use native.Mathlib.Nat.{le-antisymm}
 use native.Mathlib.Omega.{arith}
 use lib.ListN.{length, getD}
 use lib.Seq.{ext-getD}
-use Rattle.claims.specs.Claims.{Layout, Claims, Owners, OwnedTable, FirstClash}
+use Rattle.claims.specs.Claims.{CopiesAt, Claims, Owners, OwnedTable, FirstClash}
 use Rattle.claims.specs.Outcome.{Inside, NoneShare, Outcome, Owned, Clash, ClaimsComeTo}
 use Rattle.claims.specs.Run.{run}
 use Rattle.claims.proofs.Run.{run-comes}
@@ -18,7 +18,7 @@ same-entry zero zero to from = refl
 same-entry zero (suc b) to from = from b (omega arith) ∙ omega arith
 same-entry (suc a) b to from = omega (arith, to a (omega arith))
 
-module _ (p : Layout) (n : ℕ) where
+module _ (p : CopiesAt) (n : ℕ) where
   -- one table of the cells has the owners
   pub owners-unique : (s t : List ℕ) → length s ≡ length t → Owners p n s → Owners p n t → s ≡ t
   owners-unique s t l o q =
@@ -50,7 +50,7 @@ module _ (p : Layout) (n : ℕ) where
     clash-unique = cc (same-x, same-y, same-cell)
 
 -- the outcome is unique: two that the claims come to are equal
-pub outcome-unique : (p : Layout) (n cells : ℕ) (a b : Outcome) → ClaimsComeTo p n cells a → ClaimsComeTo p n cells b → a ≡ b
+pub outcome-unique : (p : CopiesAt) (n cells : ℕ) (a b : Outcome) → ClaimsComeTo p n cells a → ClaimsComeTo p n cells b → a ≡ b
 outcome-unique p n cells (Owned s i) (Owned t j) h k =
     let same : s ≡ t = owners-unique p n s t (h .size ∙ sym (k .size)) (h .owners) (k .owners) in
     cc (h .counted, k .counted, same)
@@ -61,11 +61,11 @@ outcome-unique p n cells (Clash x y cell) (Owned t j) h k =
 outcome-unique p n cells (Clash x y cell) (Clash x′ y′ cell′) h k = clash-unique p n x y cell x′ y′ cell′ h k
 
 -- an outcome is the one of the run, so a load that the run computes is a load of the claims
-pub outcome-is-run : (p : Layout) (n cells : ℕ) → Inside p n cells → (a : Outcome) → ClaimsComeTo p n cells a → a ≡ run p n cells
+pub outcome-is-run : (p : CopiesAt) (n cells : ℕ) → Inside p n cells → (a : Outcome) → ClaimsComeTo p n cells a → a ≡ run p n cells
 outcome-is-run p n cells inside a h = outcome-unique p n cells a (run p n cells) h (run-comes p n cells inside)
 
 -- demand 3, over any layout whose copies lie in the cells: there is no clash exactly when no two different elements share a cell
-pub no-clash-exactly : (p : Layout) (n cells : ℕ) → Inside p n cells
+pub no-clash-exactly : (p : CopiesAt) (n cells : ℕ) → Inside p n cells
     → ((x y cell : ℕ) → FirstClash p n x y cell → ⊥) ↔ NoneShare p n
 no-clash-exactly p n cells inside =
     (λ none. split none (run p n cells) (run-comes p n cells inside), λ none x y cell k. clash-shares p n x y cell k none)
@@ -75,7 +75,7 @@ no-clash-exactly p n cells inside =
     split none (Clash x y cell) h = absurd (none x y cell h)
 
 -- and then, and only then, it is approved
-pub approved-exactly : (p : Layout) (n cells : ℕ) → Inside p n cells
+pub approved-exactly : (p : CopiesAt) (n cells : ℕ) → Inside p n cells
     → ((table : List ℕ) × (count : ℕ) × OwnedTable p n cells table count) ↔ NoneShare p n
 approved-exactly p n cells inside =
     (λ a. owners-none-share p n (a .0) (a .2 .owners), λ none. split none (run p n cells) (run-comes p n cells inside))
@@ -84,7 +84,7 @@ approved-exactly p n cells inside =
     split none (Owned table count) h = (table, count, h)
     split none (Clash x y cell) h = absurd (clash-shares p n x y cell h none)
 
-module _ (p : Layout) (n : ℕ) (table : List ℕ) (owners : Owners p n table) (c : ℕ) where
+module _ (p : CopiesAt) (n : ℕ) (table : List ℕ) (owners : Owners p n table) (c : ℕ) where
   -- a cell's owner is the one element placed there
   pub owner-placed : (f : ℕ) → f < n → Claims p f c → (getD table c 0 ≡ f + 1) × ((g : ℕ) → g < n → Claims p g c → g ≡ f)
   owner-placed f h k =
@@ -99,10 +99,10 @@ module _ (p : Layout) (n : ℕ) (table : List ℕ) (owners : Owners p n table) (
       split none (suc f) e = let o = owners f c .0 (omega arith) in absurd (none f (o .0) (o .1))
 
 -- two copies of one element in one cell are no clash: the two of a clash are different elements, so one alone has none
-pub clash-differs : (p : Layout) (n x y cell : ℕ) → FirstClash p n x y cell → x ≡ y → ⊥
+pub clash-differs : (p : CopiesAt) (n x y cell : ℕ) → FirstClash p n x y cell → x ≡ y → ⊥
 clash-differs p n x y cell k e = omega (arith, k .ordered)
 
-pub copies-no-clash : (p : Layout) (x y cell : ℕ) → FirstClash p 1 x y cell → ⊥
+pub copies-no-clash : (p : CopiesAt) (x y cell : ℕ) → FirstClash p 1 x y cell → ⊥
 copies-no-clash p x y cell k = omega (arith, k .ordered, k .element)
 
 -- two copies of element 0 in cell 1, and element 1 in cell 0: two occupied cells

@@ -6,16 +6,16 @@ use mathlib.Core.List.{List, [], _∷_}
 use Prim.Native.Nat.{ℕ, zero, suc, _+_, _<_, min}
 use lib.Dec.{eqb}
 use lib.ListN.{length, getD, set}
-use Rattle.claims.specs.Claims.{Layout, occupied}
+use Rattle.claims.specs.Claims.{CopiesAt, occupied}
 
 -- a row of element f: where its copies go
-pub record RowOf (p : Layout) (f : ℕ) (row : List ℕ) : Type 0 where
+pub record RowOf (p : CopiesAt) (f : ℕ) (row : List ℕ) : Type 0 where
   pub size : length row ≡ p .copies f
   pub cells : (r : ℕ) → r < p .copies f → getD row r 0 ≡ p .at f r
 
 -- each cell of a row is one of the table's
-abbrev pub Within : List ℕ → List ℕ → Type 0
-Within row table = (r : ℕ) → r < length row → getD row r 0 < length table
+abbrev pub RowWithin : List ℕ → List ℕ → Type 0
+RowWithin row table = (r : ℕ) → r < length row → getD row r 0 < length table
 
 -- the smaller of two numbers, where 0 stands for none
 abbrev pub minSome : ℕ → ℕ → ℕ

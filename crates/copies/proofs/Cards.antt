@@ -20,9 +20,9 @@ use Rattle.card.proofs.Admitted.{Checked, checked, Numbered, numbered}
 use Rattle.rules.specs.Rules.{part}
 use Rattle.rules.specs.Walked.{walked}
 use Rattle.rules.proofs.Base.{walked-at, walked-eight}
-use Rattle.sums.specs.Walks.{roomy, Walkable, Sums}
+use Rattle.copies_sums.specs.Walks.{roomy, Walkable, Sums}
 use Rattle.copies.specs.Contracts.{Ready}
-use Rattle.sums.proofs.Turn.{along-room}
+use Rattle.copies_sums.proofs.Turn.{along-room}
 
 -- a list of eight has a bound if it has it on each axis
 pub eight-small : (l : List ℤ) (most : ℕ) → length l ≡ 8 → ((axis : ℕ) → axis < 8 → natAbs (getD l axis (pos 0)) ≤ most) → (axis : ℕ) → natAbs (getD l axis (pos 0)) ≤ most

@@ -13,7 +13,7 @@ use Rattle.card.specs.Limits.{mostExtent}
 use Rattle.card.specs.Packed.{beyond, farthest, itersOf, ListOf}
 use Rattle.card.specs.Admission.{itersFit, itersOnAxes, spaceFits}
 use Rattle.rules.specs.Rules.{axes}
-use Rattle.sums.specs.Walks.{Walkable, Sums}
+use Rattle.copies_sums.specs.Walks.{Walkable, Sums}
 use Rattle.rules.specs.declared.Position.{Position}
 use Rattle.rules.specs.declared.Position.the-variants.{At, Past}
 

@@ -120,7 +120,7 @@ fn copy_number(base: &[i64; 8], numbers: &[u64; 56], strides: &[i64; 24], combin
     ensures { λ r. ⌜ r ≡ numberOf (positionFrom (slice 32 40 (now (numbers .entry))) (swizzleOf (now (numbers .entry))) (itersOf (now (numbers .entry)) (now (strides .entry)) 1) (now (base .entry)) combination) ⌝ }
 {
     let mut sums = *base;
-    sums::walk(numbers, strides, card::REPLICA, combination, &mut sums);
+    copies_sums::walk(numbers, strides, card::REPLICA, combination, &mut sums);
     let mut coordinates: [u64; 8] = [0; 8];
     finish(&sums, &mut coordinates);
     coordinates[M] = swizzled_on_axis(numbers, sums[M]);
@@ -198,6 +198,6 @@ pub fn place_row(numbers: &[u64; 56], strides: &[i64; 24], flat: Flat, row: &mut
     ensures { λ r. ⌜ PlacedRow (spot (cardOf (now (numbers .entry)) (now (strides .entry))) (flat .0)) (now (row .entry)) (now (row .exit)) r ⌝ }
 {
     let mut base = offset(strides);
-    sums::walk(numbers, strides, card::SHARD, flat.0, &mut base);
+    copies_sums::walk(numbers, strides, card::SHARD, flat.0, &mut base);
     place_copies(&base, numbers, strides, row)
 }

@@ -36,7 +36,7 @@ fn is_wrong(kind: u64, computation: u64, register: Register, n: usize) -> bool
     requires { ⌜ n < 256 ⌝ }
     ensures { λ r. ⌜ r ≡ (isOwn kind computation (n / 8) (n % 8) && not (isOfSort kind register)) ⌝ }
 {
-    let p = moves::source(kind, computation, n as u64 / 8, n as u64 % 8);
+    let p = dealing_moves::source(kind, computation, n as u64 / 8, n as u64 % 8);
     (p < 64) & !is_of_sort(kind, register)
 }
 
@@ -67,7 +67,7 @@ pub fn judge_dealing(kind: u64, computation: u64, tile: [[Register; 8]; 8]) -> M
         judge(
             kind,
             computation,
-            moves::dealt_lanes(kind, computation, tile, none),
+            dealing_moves::dealt_lanes(kind, computation, tile, none),
         )
     } else {
         Moved::Refused(fragment::outside())
@@ -84,7 +84,7 @@ pub fn deal(
     ensures { λ r. ⌜ r ≡ dealtLanes kind computation tile lanes ⌝ }
 {
     match judge_dealing(kind, computation, tile) {
-        Moved::Done => moves::dealt_lanes(kind, computation, tile, lanes),
+        Moved::Done => dealing_moves::dealt_lanes(kind, computation, tile, lanes),
         Moved::Refused(_) => lanes,
     }
 }
@@ -110,7 +110,7 @@ pub fn collect(
     ensures { λ r. ⌜ r ≡ collectedTile kind computation lanes tile ⌝ }
 {
     match judge_collecting(kind, computation, lanes) {
-        Moved::Done => moves::collected_tile(kind, computation, lanes, tile),
+        Moved::Done => dealing_moves::collected_tile(kind, computation, lanes, tile),
         Moved::Refused(_) => tile,
     }
 }

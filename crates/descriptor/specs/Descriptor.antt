@@ -8,11 +8,11 @@ use Rattle.answers.specs.Refusals.{answer, refusalNumbers}
 use Rattle.answers.specs.declared.Numbers.{Numbers}
 use Rattle.answers.specs.declared.Refusal.the-variants.{MaskSize, Reserved, Shift}
 use Rattle.descriptor.specs.declared.Fields.{Fields}
-use Rattle.descriptor.specs.declared.Read.{Read}
-use Rattle.descriptor.specs.declared.Read.the-variants.{Done, Refused}
-use Rattle.descriptor.specs.declared.Reading.{Reading}
-use Rattle.descriptor.specs.declared.Written.{Written}
-use Rattle.descriptor.specs.declared.Written.the-variants.{Descriptor, Refused as NotWritten}
+use Rattle.descriptor.specs.declared.DescriptorRead.{DescriptorRead}
+use Rattle.descriptor.specs.declared.DescriptorRead.the-variants.{Done, Refused}
+use Rattle.descriptor.specs.declared.DescriptorReading.{DescriptorReading}
+use Rattle.descriptor.specs.declared.DescriptorWritten.{DescriptorWritten}
+use Rattle.descriptor.specs.declared.DescriptorWritten.the-variants.{Descriptor, Refused as NotWritten}
 
 -- so many bits of a descriptor, from this one on
 abbrev pub bits : ℕ → ℕ → ℕ → ℕ
@@ -43,8 +43,8 @@ abbrev pub reserved : ℕ → Bool
 reserved d = not (eqb (bits 3 36 d) 0) || not (eqb (bits 2 62 d) 0)
 
 -- reading refuses 15 only, whatever the shift; at 0 the fields stand beside the answer, refused a record of zeros
-abbrev pub readAnswer : ℕ → Reading
-readAnswer d =
+abbrev pub fieldsAnswer : ℕ → DescriptorReading
+fieldsAnswer d =
     cond (reserved d) (record { answer = Refused Reserved; fields = noFields }) (record { answer = Done; fields = fieldsOf d })
 
 -- a yes as the bit 1, a no as 0
@@ -78,16 +78,16 @@ abbrev pub shiftLimit : ℕ → ℕ
 shiftLimit M = cond (eqb M 32) 16 32
 
 -- writing for M refuses a wrong M, 13, and then a shift above the limit, 16
-abbrev pub writeAnswer : ℕ → ℕ → Fields → Written
-writeAnswer limit M f =
+abbrev pub descriptorAnswer : ℕ → ℕ → Fields → DescriptorWritten
+descriptorAnswer limit M f =
     cond (not (maskM M)) (NotWritten MaskSize) (cond (ltb limit (f .shift)) (NotWritten (Shift limit)) (Descriptor (descriptorOf f)))
 
 -- at number 0 the details of a reading are zero: its fields stand beside it
-abbrev pub readNumbers : Read → Numbers
-readNumbers Done = answer 0 0 0 0
-readNumbers (Refused refusal) = refusalNumbers refusal
+abbrev pub fieldsNumbers : DescriptorRead → Numbers
+fieldsNumbers Done = answer 0 0 0 0
+fieldsNumbers (Refused refusal) = refusalNumbers refusal
 
 -- at number 0 writing gives the descriptor
-abbrev pub writeNumbers : Written → Numbers
-writeNumbers (Descriptor d) = answer 0 d 0 0
-writeNumbers (NotWritten refusal) = refusalNumbers refusal
+abbrev pub descriptorNumbers : DescriptorWritten → Numbers
+descriptorNumbers (Descriptor d) = answer 0 d 0 0
+descriptorNumbers (NotWritten refusal) = refusalNumbers refusal

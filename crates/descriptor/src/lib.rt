@@ -12,19 +12,19 @@ pub struct Fields {
 }
 
 // The answer to the reading of a descriptor.
-pub enum Read {
+pub enum DescriptorRead {
     Done,
     Refused(Refusal),
 }
 
 // What reading a descriptor gives: the answer, and the fields beside it.
-pub struct Reading {
-    pub answer: Read,
+pub struct DescriptorReading {
+    pub answer: DescriptorRead,
     pub fields: Fields,
 }
 
 // The answer to the writing of a descriptor.
-pub enum Written {
+pub enum DescriptorWritten {
     Descriptor(u64),
     Refused(Refusal),
 }

@@ -1,13 +1,13 @@
 // Descriptors of zero-column masks read and written, each field at its bits.
 use answers::Numbers;
 use answers::Refusal;
+use descriptor::DescriptorRead;
+use descriptor::DescriptorReading;
+use descriptor::DescriptorWritten;
 use descriptor::Fields;
-use descriptor::Read;
-use descriptor::Reading;
-use descriptor::Written;
 ghost use mathlib.Core.Path.{_≡_};
 ghost use Prim.Native.Nat.{_+_, _^_, _<_, _≤_};
-ghost use Rattle.descriptor.specs.Descriptor.{fieldsOf, noFields, reserved, readAnswer, bit, countBits, spanBits, descriptorOf, shiftLimit, writeAnswer, readNumbers, writeNumbers};
+ghost use Rattle.descriptor.specs.Descriptor.{fieldsOf, noFields, reserved, fieldsAnswer, bit, countBits, spanBits, descriptorOf, shiftLimit, descriptorAnswer, fieldsNumbers, descriptorNumbers};
 
 // Whether a reserved bit, 36-38 or 62-63, is set. Public for the crates above.
 pub fn has_reserved(descriptor: u64) -> bool
@@ -57,19 +57,19 @@ fn no_fields() -> Fields
 }
 
 // The fields of any descriptor.
-pub fn read_descriptor(descriptor: u64) -> Reading
-    ensures { λ r. ⌜ r ≡ readAnswer descriptor ⌝ }
+pub fn read_descriptor(descriptor: u64) -> DescriptorReading
+    ensures { λ r. ⌜ r ≡ fieldsAnswer descriptor ⌝ }
 {
     if has_reserved(descriptor) {
         let fields = no_fields();
-        Reading {
-            answer: Read::Refused(Refusal::Reserved),
+        DescriptorReading {
+            answer: DescriptorRead::Refused(Refusal::Reserved),
             fields,
         }
     } else {
         let fields = fields_of(descriptor);
-        Reading {
-            answer: Read::Done,
+        DescriptorReading {
+            answer: DescriptorRead::Done,
             fields,
         }
     }
@@ -115,35 +115,35 @@ fn descriptor_of(fields: Fields) -> u64
 }
 
 // The descriptor of any fields, for any M.
-pub fn write_descriptor(m: u64, fields: Fields) -> Written
-    ensures { λ r. ⌜ r ≡ writeAnswer (shiftLimit m) m fields ⌝ }
+pub fn write_descriptor(m: u64, fields: Fields) -> DescriptorWritten
+    ensures { λ r. ⌜ r ≡ descriptorAnswer (shiftLimit m) m fields ⌝ }
 {
     if !descriptor_limits::is_mask_m(m) {
-        return Written::Refused(Refusal::MaskSize);
+        return DescriptorWritten::Refused(Refusal::MaskSize);
     }
     let limit = descriptor_limits::shift_limit(m);
     if limit < fields.shift {
-        return Written::Refused(Refusal::Shift { limit });
+        return DescriptorWritten::Refused(Refusal::Shift { limit });
     }
-    Written::Descriptor(descriptor_of(fields))
+    DescriptorWritten::Descriptor(descriptor_of(fields))
 }
 
 // The plain numbers of a reading's answer.
-pub fn read_numbers(read: Read) -> Numbers
-    ensures { λ r. ⌜ r ≡ readNumbers read ⌝ }
+pub fn read_numbers(read: DescriptorRead) -> Numbers
+    ensures { λ r. ⌜ r ≡ fieldsNumbers read ⌝ }
 {
     match read {
-        Read::Done => answers::answer(0, 0, 0, 0),
-        Read::Refused(refusal) => answers::refusal_numbers(refusal),
+        DescriptorRead::Done => answers::answer(0, 0, 0, 0),
+        DescriptorRead::Refused(refusal) => answers::refusal_numbers(refusal),
     }
 }
 
 // The plain numbers of a writing's answer.
-pub fn write_numbers(written: Written) -> Numbers
-    ensures { λ r. ⌜ r ≡ writeNumbers written ⌝ }
+pub fn write_numbers(written: DescriptorWritten) -> Numbers
+    ensures { λ r. ⌜ r ≡ descriptorNumbers written ⌝ }
 {
     match written {
-        Written::Descriptor(descriptor) => answers::answer(0, descriptor, 0, 0),
-        Written::Refused(refusal) => answers::refusal_numbers(refusal),
+        DescriptorWritten::Descriptor(descriptor) => answers::answer(0, descriptor, 0, 0),
+        DescriptorWritten::Refused(refusal) => answers::refusal_numbers(refusal),
     }
 }

@@ -1,19 +1,19 @@
 // The words on a carrier's move plan: carry and plan. The buffers are lent for all lines, no more of each than a
 // line asks for; what they are long is the program's own limit.
 use desk_cards::cards;
-use lines::places;
-use lines::places::Kept;
-use lines_read::words::MOST_CARRIED;
-use lines_reply::lent;
-use lines_reply::lent::fill;
-use lines_reply::lent::fill_plan;
-use lines_reply::reply;
-use lines_reply::reply::Reply;
+use desk_lines::places;
+use desk_lines::places::Kept;
+use desk_lines_read::words::MOST_CARRIED;
+use desk_lines_reply::lent;
+use desk_lines_reply::lent::fill;
+use desk_lines_reply::lent::fill_plan;
+use desk_lines_reply::reply;
+use desk_lines_reply::reply::LineReply;
 
 // The check of a plan that a line asks for, in tables as they are lent.
-fn ask_carry(numbers: &Kept, plan: &[u64], first: &mut [u32], second: &mut [u32]) -> Reply {
-    fill(first, lent::TABLE);
-    fill(second, lent::SECOND_TABLE);
+fn ask_carry(numbers: &Kept, plan: &[u64], first: &mut [u32], second: &mut [u32]) -> LineReply {
+    fill(first, c_registers::TABLE);
+    fill(second, c_registers::SECOND_TABLE);
     let one = cards::first(numbers);
     let two = cards::second(numbers);
     let checked = planning::check_plan(one, two, plan, first, second);
@@ -21,7 +21,7 @@ fn ask_carry(numbers: &Kept, plan: &[u64], first: &mut [u32], second: &mut [u32]
 }
 
 // carry CARD, CARD, count, so many plan numbers, length, length
-pub fn carry(numbers: &Kept, first: &mut [u32], second: &mut [u32]) -> Reply {
+pub fn carry(numbers: &Kept, first: &mut [u32], second: &mut [u32]) -> LineReply {
     let count = numbers[places::COUNT];
     if MOST_CARRIED < count {
         return reply::unknown();
@@ -47,10 +47,10 @@ pub fn carry(numbers: &Kept, first: &mut [u32], second: &mut [u32]) -> Reply {
 }
 
 // The plan that a line asks for, in memory as it is lent.
-fn ask_plan(numbers: &Kept, plan: &mut [u64], first: &mut [u32], second: &mut [u32]) -> Reply {
+fn ask_plan(numbers: &Kept, plan: &mut [u64], first: &mut [u32], second: &mut [u32]) -> LineReply {
     fill_plan(plan);
-    fill(first, lent::TABLE);
-    fill(second, lent::SECOND_TABLE);
+    fill(first, c_registers::TABLE);
+    fill(second, c_registers::SECOND_TABLE);
     let one = cards::first(numbers);
     let two = cards::second(numbers);
     let written = planning::write_plan(one, two, plan, first, second);
@@ -63,7 +63,7 @@ fn ask_plan(numbers: &Kept, plan: &mut [u64], first: &mut [u32], second: &mut [u
 }
 
 // plan CARD, CARD, plan length, length, length
-pub fn plan(numbers: &Kept, plan: &mut [u64], first: &mut [u32], second: &mut [u32]) -> Reply {
+pub fn plan(numbers: &Kept, plan: &mut [u64], first: &mut [u32], second: &mut [u32]) -> LineReply {
     let room = numbers[places::PLAN_LENT];
     if (plan.len() as u64) < room {
         return reply::unknown();

@@ -1,14 +1,14 @@
 // The word canonical: the verdict on a canonical shared-memory layout, with LBO and SBO as a descriptor has them.
 use canonical::Canonical;
-use lines::places;
-use lines::places::Kept;
-use lines_reply::lent::TABLE;
-use lines_reply::lent::fill;
-use lines_reply::reply;
-use lines_reply::reply::Reply;
+use desk_lines::places;
+use desk_lines::places::Kept;
+use desk_lines_reply::lent::TABLE;
+use desk_lines_reply::lent::fill;
+use desk_lines_reply::reply;
+use desk_lines_reply::reply::LineReply;
 
 // The verdict that a line asks for, in entries as they are lent.
-fn ask_canonical(numbers: &Kept, lent: &mut [u32]) -> Reply {
+fn ask_canonical(numbers: &Kept, lent: &mut [u32]) -> LineReply {
     fill(lent, TABLE);
     let asked = Canonical {
         major: numbers[0],
@@ -26,7 +26,7 @@ fn ask_canonical(numbers: &Kept, lent: &mut [u32]) -> Reply {
 }
 
 // canonical major-ness mode bits m k LBO SBO length-of-m length
-pub fn canonical(numbers: &Kept, lent: &mut [u32]) -> Reply {
+pub fn canonical(numbers: &Kept, lent: &mut [u32]) -> LineReply {
     let asked = numbers[places::CANONICAL_LENT];
     if (lent.len() as u64) < asked {
         return reply::unknown();

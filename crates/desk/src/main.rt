@@ -8,15 +8,15 @@ mod tables;
 use desk_cards::books;
 use desk_cards::notations;
 use desk_cards::placements;
+use desk_lines::places::Kept;
+use desk_lines_read::words;
+use desk_lines_read::words::Word;
+use desk_lines_reply::print;
+use desk_lines_reply::reply;
+use desk_lines_reply::reply::LineReply;
 use desk_plain::fragments;
 use desk_plain::masks;
 use desk_plain::swizzles;
-use lines::places::Kept;
-use lines_read::words;
-use lines_read::words::Word;
-use lines_reply::print;
-use lines_reply::reply;
-use lines_reply::reply::Reply;
 use text::input;
 use text::input::Input;
 use text::output;
@@ -28,7 +28,7 @@ fn ask(
     lent: &mut [u32],
     second: &mut [u32],
     plan: &mut [u64],
-) -> Reply {
+) -> LineReply {
     match word {
         Word::Swizzle => swizzles::swizzle(numbers),
         Word::Mode => swizzles::mode(numbers),
@@ -59,7 +59,7 @@ fn answer(
     lent: &mut [u32],
     second: &mut [u32],
     plan: &mut [u64],
-) -> Reply {
+) -> LineReply {
     if words::is_read(line, held) {
         return notations::read(line, held);
     }

@@ -5,14 +5,14 @@ use crate::records::put_lengths;
 use crate::records::put_marks;
 use answers::Numbers;
 use card::Card;
-use lines::numbers::byte;
-use lines::places;
-use lines::places::Kept;
-use lines_read::pairs;
-use lines_read::words;
-use lines_reply::lent::digest_bytes;
-use lines_reply::reply;
-use lines_reply::reply::Reply;
+use desk_lines::numbers::byte;
+use desk_lines::places;
+use desk_lines::places::Kept;
+use desk_lines_read::pairs;
+use desk_lines_read::words;
+use desk_lines_reply::lent::digest_bytes;
+use desk_lines_reply::reply;
+use desk_lines_reply::reply::LineReply;
 use notation::Layout;
 
 // What a lent byte is before the question, the most that the program lends, of a note too, and the largest seed.
@@ -34,13 +34,13 @@ fn note_of(seed: u64) -> [u8; 1024] {
 }
 
 // The block that a line asks for, in lent bytes.
-fn ask_block(numbers: &Kept, note: &[u8], lent: &mut [u8]) -> Reply {
+fn ask_block(numbers: &Kept, note: &[u8], lent: &mut [u8]) -> LineReply {
     let written = storing::write_block(cards::first(numbers), note, lent);
     reply::digest_bytes(storing::answer_numbers(written), lent)
 }
 
 // block CARD, note length, seed, length
-pub fn block(numbers: &Kept) -> Reply {
+pub fn block(numbers: &Kept) -> LineReply {
     let noted = numbers[places::NOTE_LENGTH];
     let seed = numbers[places::SEED];
     let asked = numbers[places::BLOCK_LENT];
@@ -61,7 +61,7 @@ pub fn block(numbers: &Kept) -> Reply {
 }
 
 // The reply to a block that was read: its answer, the card, and the note's length and digest.
-fn shown(answer: Numbers, card: Card, noted: u64, digest: u64) -> Reply {
+fn shown(answer: Numbers, card: Card, noted: u64, digest: u64) -> LineReply {
     let shard = card.shard;
     let marks = card.marks;
     let replica = card.replica;
@@ -84,7 +84,7 @@ fn shown(answer: Numbers, card: Card, noted: u64, digest: u64) -> Reply {
 }
 
 // The reply to a block.
-fn read_page(block: &[u8]) -> Reply {
+fn read_page(block: &[u8]) -> LineReply {
     let page = storing::read_block(block);
     let answer = page.answer;
     let card = page.card;
@@ -98,7 +98,7 @@ fn read_page(block: &[u8]) -> Reply {
 }
 
 // page TEXT: pairs of hex digits after the one space after the word
-pub fn page(line: &[u8; 4096], held: usize) -> Reply {
+pub fn page(line: &[u8; 4096], held: usize) -> LineReply {
     if held < words::SPACED {
         return reply::unknown();
     }

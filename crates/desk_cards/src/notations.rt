@@ -3,11 +3,11 @@ use crate::cards;
 use crate::records::layout_values;
 use crate::records::put_marks;
 use answers::Numbers;
-use lines::places;
-use lines::places::Kept;
-use lines_read::words;
-use lines_reply::reply;
-use lines_reply::reply::Reply;
+use desk_lines::places;
+use desk_lines::places::Kept;
+use desk_lines_read::words;
+use desk_lines_reply::reply;
+use desk_lines_reply::reply::LineReply;
 use notation::Layout;
 
 // What a lent byte is before the question, and the most that the program lends.
@@ -16,7 +16,7 @@ const LENT: u8 = 165;
 const MOST_LENT: u64 = 1024;
 
 // The reply to a reading: its answer, and the layout beside it.
-fn shown(answer: Numbers, layout: Layout) -> Reply {
+fn shown(answer: Numbers, layout: Layout) -> LineReply {
     let marks = layout.marks;
     let mut values = layout_values(layout);
     put_marks(&mut values, places::LAYOUT_MARKS, marks);
@@ -24,7 +24,7 @@ fn shown(answer: Numbers, layout: Layout) -> Reply {
 }
 
 // The reply to a text.
-fn read_text(text: &[u8]) -> Reply {
+fn read_text(text: &[u8]) -> LineReply {
     let reading = reading::read(text);
     let answer = reading.answer;
     let layout = reading.layout;
@@ -32,7 +32,7 @@ fn read_text(text: &[u8]) -> Reply {
 }
 
 // read TEXT: all that follows the one space after the word
-pub fn read(line: &[u8], held: usize) -> Reply {
+pub fn read(line: &[u8], held: usize) -> LineReply {
     if held < words::SPACED {
         return reply::unknown();
     }
@@ -43,13 +43,13 @@ pub fn read(line: &[u8], held: usize) -> Reply {
 }
 
 // The text that a line asks for, in lent bytes.
-fn ask_write(numbers: &Kept, lent: &mut [u8]) -> Reply {
+fn ask_write(numbers: &Kept, lent: &mut [u8]) -> LineReply {
     let written = writing::write(cards::first(numbers), lent);
     reply::written(writing::write_numbers(written), lent)
 }
 
 // write shard, replica, offsets, length
-pub fn write(numbers: &Kept) -> Reply {
+pub fn write(numbers: &Kept) -> LineReply {
     let asked = numbers[places::WRITE_LENT];
     if MOST_LENT < asked {
         return reply::unknown();

@@ -1,13 +1,13 @@
 // The word place.
 use crate::cards;
 use answers::Numbers;
-use lines::numbers::nine;
-use lines::places;
-use lines::places::Kept;
-use lines_reply::lent::TABLE;
-use lines_reply::lent::fill;
-use lines_reply::reply;
-use lines_reply::reply::Reply;
+use desk_lines::numbers::nine;
+use desk_lines::places;
+use desk_lines::places::Kept;
+use desk_lines_reply::lent::TABLE;
+use desk_lines_reply::lent::fill;
+use desk_lines_reply::reply;
+use desk_lines_reply::reply::LineReply;
 
 // The most entries that the program lends to a placement.
 const MOST_LENT: u64 = 64;
@@ -27,7 +27,7 @@ fn ask_place(numbers: &Kept, lent: &mut [u32]) -> Numbers {
 }
 
 // place CARD dimensions, eight sizes, coordinates, eight coordinates, length
-pub fn place(numbers: &Kept) -> Reply {
+pub fn place(numbers: &Kept) -> LineReply {
     let asked = numbers[places::PLACE_LENT];
     if MOST_LENT < asked {
         return reply::unknown();

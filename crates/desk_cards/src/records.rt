@@ -1,6 +1,6 @@
 // A layout as values after the bar of a reply, each where it stands among the numbers of a line.
-use lines::numbers::yes;
-use lines::places;
+use desk_lines::numbers::yes;
+use desk_lines::places;
 use notation::Layout;
 
 // The shard, the replica and the offsets, as they are handed over to C.

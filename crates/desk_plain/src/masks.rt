@@ -1,14 +1,14 @@
 // The words of the subject mask.
 use answers::Numbers;
 use descriptor::Fields;
-use lines::numbers::byte;
-use lines::numbers::wide;
-use lines::numbers::within;
-use lines::numbers::yes;
-use lines::places;
-use lines::places::Kept;
-use lines_reply::reply;
-use lines_reply::reply::Reply;
+use desk_lines::numbers::byte;
+use desk_lines::numbers::wide;
+use desk_lines::numbers::within;
+use desk_lines::numbers::yes;
+use desk_lines::places;
+use desk_lines::places::Kept;
+use desk_lines_reply::reply;
+use desk_lines_reply::reply::LineReply;
 
 // The most bytes that the program lends to a mask.
 const MOST_LENT: u64 = 64;
@@ -81,7 +81,7 @@ fn shared(fields: Fields) -> [u64; 4] {
 }
 
 // fields descriptor
-pub fn fields(numbers: &Kept) -> Reply {
+pub fn fields(numbers: &Kept) -> LineReply {
     let reading = descriptor_bits::read_descriptor(numbers[0]);
     let answer = reading.answer;
     let fields = reading.fields;
@@ -96,7 +96,7 @@ pub fn fields(numbers: &Kept) -> Reply {
 }
 
 // descriptor M, with the twelve fields
-pub fn descriptor(numbers: &Kept) -> Reply {
+pub fn descriptor(numbers: &Kept) -> LineReply {
     if are_fields(numbers) {
         let written = descriptor_bits::write_descriptor(numbers[0], given(numbers));
         return reply::plain(descriptor_bits::write_numbers(written));
@@ -111,7 +111,7 @@ fn ask_mask(numbers: &Kept, lent: &mut [u8]) -> Numbers {
 }
 
 // mask M N descriptor length
-pub fn mask(numbers: &Kept) -> Reply {
+pub fn mask(numbers: &Kept) -> LineReply {
     let asked = numbers[places::MASK_LENT];
     if MOST_LENT < asked {
         return reply::unknown();

@@ -34,7 +34,7 @@ use Rattle.judgement.specs.declared.Verdict.{Verdict}
 use Rattle.judgement.specs.declared.Verdict.the-variants.{Approved}
 use Rattle.judgement.proofs.Run.{verdict-is-run}
 use Rattle.judgement.proofs.Theorems.{IsApproval, demand-3-unmarked}
-use Rattle.fragment_layouts.specs.Layouts.{shardOf, layoutOf, shapeOf, coordinatesOf, elementOf, slotCell}
+use Rattle.fragment_layouts.specs.Layouts.{kindShard, kindCard, shapeOf, coordinatesOf, elementOf, slotCell}
 use Rattle.fragment_layouts.proofs.Placed.{kind-facts, slot-facts}
 
 -- more room than the cells changes no judgement
@@ -60,16 +60,16 @@ approved-then card n (Passed owners count) e = ap (λ (k : ℕ). Approved (eleme
 -- the test of a kind: as many elements as cells, and the run occupies every cell
 abbrev kind-approved : ℕ → Bool
 kind-approved kind =
-    eqb (elements (layoutOf kind)) (cells (layoutOf kind))
-    && occupies (cells (layoutOf kind)) (judge (layoutOf kind) (cells (layoutOf kind)))
+    eqb (elements (kindCard kind)) (cells (kindCard kind))
+    && occupies (cells (kindCard kind)) (judge (kindCard kind) (cells (kindCard kind)))
 
 kinds-approved : below kind-approved 9 ≡ true
-unfolding registers shardOf swizzled admission pairOf fullAdmission position coordinates spot leader
+unfolding registers kindShard swizzled admission pairOf fullAdmission position coordinates spot leader
 kinds-approved = refl
 
 -- a kind's card has no marks
-unmarked : (kind : ℕ) → Unmarked (layoutOf kind)
-unmarked kind k h = none (length (shardOf kind)) 8 k
+unmarked : (kind : ℕ) → Unmarked (kindCard kind)
+unmarked kind k h = none (length (kindShard kind)) 8 k
   where
     none : (n m k : ℕ) → getD (take n (replicate m false)) k false ≡ false
     none zero m k = refl
@@ -79,17 +79,17 @@ unmarked kind k h = none (length (shardOf kind)) 8 k
 
 pub record OwnersByRule (kind : ℕ) (after : List ℕ) (verdict : Verdict) : Type 0 where
   -- as many elements as cells, and every cell is occupied
-  pub approved : verdict ≡ Approved (cells (layoutOf kind)) (cells (layoutOf kind)) (cells (layoutOf kind))
+  pub approved : verdict ≡ Approved (cells (kindCard kind)) (cells (kindCard kind)) (cells (kindCard kind))
   -- the owner of a register's cell is what the register holds
   pub owners : (lane i : ℕ) → isSlot kind lane i ≡ true → getD after (slotCell kind lane i) 0 ≡ elementOf kind (place kind lane i) + 1
 
 -- whatever the promise of the verdict on a kind's card allows is this approval
-pub fragment-approved : (kind : ℕ) → kind < 9 → (before after : List ℕ) (verdict : Verdict) → cells (layoutOf kind) ≤ length before
-    → VerdictPromise (layoutOf kind) before after verdict → OwnersByRule kind after verdict
+pub fragment-approved : (kind : ℕ) → kind < 9 → (before after : List ℕ) (verdict : Verdict) → cells (kindCard kind) ≤ length before
+    → VerdictPromise (kindCard kind) before after verdict → OwnersByRule kind after verdict
 fragment-approved kind known before after verdict room promise = record { approved = approved; owners = owners }
   where
     card : Card
-    card = layoutOf kind
+    card = kindCard kind
 
     passed : (eqb (elements card) (cells card) ≡ true) × (occupies (cells card) (judge card (cells card)) ≡ true)
     passed = and-eq-true-iff (eqb (elements card) (cells card)) _ .0 (below-at kind-approved 9 kinds-approved kind known)

@@ -26,7 +26,7 @@ use Rattle.idle.specs.Admission.{fullAdmission}
 use Rattle.placement_judged.specs.Placement.{shapeAdmitted, coordinatesFit, placementAnswer, placementMemory, Placing}
 use Rattle.placement_judged.specs.declared.Placement.{Placement}
 use Rattle.placement_judged.specs.declared.Placement.the-variants.{Copies}
-use Rattle.fragment_layouts.specs.Layouts.{shardOf, layoutOf, shapeOf, coordinatesOf, elementOf, slotCell}
+use Rattle.fragment_layouts.specs.Layouts.{kindShard, kindCard, shapeOf, coordinatesOf, elementOf, slotCell}
 
 abbrev is-admitted : Admission → Bool
 is-admitted Admitted = true
@@ -46,35 +46,35 @@ inside-is (Outside axis) n e = absurd (apart (cc))
 
 -- the test of a kind: its card is admitted, and its shape is one of the card's elements
 abbrev kind-fits : ℕ → Bool
-kind-fits kind = is-admitted (fullAdmission (layoutOf kind)) && shapeAdmitted (shapeOf kind) (elements (layoutOf kind))
+kind-fits kind = is-admitted (fullAdmission (kindCard kind)) && shapeAdmitted (shapeOf kind) (elements (kindCard kind))
 
 -- the test of a register: what it holds has coordinates in the shape, and lies in the register's cell
 abbrev slot-fits : ℕ → ℕ → ℕ → Bool
 slot-fits kind lane i =
     coordinatesFit (shapeOf kind) (coordinatesOf (place kind lane i))
-    && in-cell (spot (layoutOf kind) (elementOf kind (place kind lane i)) 0) (slotCell kind lane i)
+    && in-cell (spot (kindCard kind) (elementOf kind (place kind lane i)) 0) (slotCell kind lane i)
 
 kinds-fit : below kind-fits 9 ≡ true
-unfolding rows columns computations registers shardOf admission pairOf fullAdmission
+unfolding rows columns computations registers kindShard admission pairOf fullAdmission
 kinds-fit = refl
 
 slots-fit : below (λ kind. below (λ lane. below (slot-fits kind lane) (registers kind)) 32) 9 ≡ true
-unfolding rows columns computations computation registers place shardOf swizzled position coordinates spot
+unfolding rows columns computations computation registers place kindShard swizzled position coordinates spot
 slots-fit = refl
 
 pub record KindFits (kind : ℕ) : Type 0 where
-  pub admitted : fullAdmission (layoutOf kind) ≡ Admitted
-  pub shaped : shapeAdmitted (shapeOf kind) (elements (layoutOf kind)) ≡ true
+  pub admitted : fullAdmission (kindCard kind) ≡ Admitted
+  pub shaped : shapeAdmitted (shapeOf kind) (elements (kindCard kind)) ≡ true
 
 pub kind-facts : (kind : ℕ) → kind < 9 → KindFits kind
 kind-facts kind h =
-    let both = and-eq-true-iff (is-admitted (fullAdmission (layoutOf kind))) _ .0 (below-at kind-fits 9 kinds-fit kind h) in
-    record { admitted = admitted-is (fullAdmission (layoutOf kind)) (both .0); shaped = both .1 }
+    let both = and-eq-true-iff (is-admitted (fullAdmission (kindCard kind))) _ .0 (below-at kind-fits 9 kinds-fit kind h) in
+    record { admitted = admitted-is (fullAdmission (kindCard kind)) (both .0); shaped = both .1 }
 
 pub record SlotFits (kind lane i : ℕ) : Type 0 where
   pub known : kind < 9
   pub fits : coordinatesFit (shapeOf kind) (coordinatesOf (place kind lane i)) ≡ true
-  pub there : spot (layoutOf kind) (elementOf kind (place kind lane i)) 0 ≡ Inside (record { 0 = slotCell kind lane i })
+  pub there : spot (kindCard kind) (elementOf kind (place kind lane i)) 0 ≡ Inside (record { 0 = slotCell kind lane i })
 
 pub slot-facts : (kind lane i : ℕ) → isSlot kind lane i ≡ true → SlotFits kind lane i
 slot-facts kind lane i e =
@@ -83,11 +83,11 @@ slot-facts kind lane i e =
     let of-lane = below-at (λ l. below (slot-fits kind l) (registers kind)) 32 of-kind lane (n .of-lane) in
     let both = and-eq-true-iff (coordinatesFit (shapeOf kind) (coordinatesOf (place kind lane i))) _ .0
     (below-at (slot-fits kind lane) (registers kind) of-lane i (n .of-register)) in
-    record { known = n .known; fits = both .0; there = inside-is (spot (layoutOf kind) (elementOf kind (place kind lane i)) 0) (slotCell kind lane i) (both .1) }
+    record { known = n .known; fits = both .0; there = inside-is (spot (kindCard kind) (elementOf kind (place kind lane i)) 0) (slotCell kind lane i) (both .1) }
 
 -- placing what a register holds, its computation, row and column in the kind's shape, gives one copy, in that lane and register
 pub fragment-is-layout : (kind lane i : ℕ) → isSlot kind lane i ≡ true → (before after : List ℕ) (p : Placement) → 1 ≤ length before
-    → Placing (layoutOf kind) (shapeOf kind) (coordinatesOf (place kind lane i)) before after p
+    → Placing (kindCard kind) (shapeOf kind) (coordinatesOf (place kind lane i)) before after p
     → (p ≡ Copies 1) × (after ≡ slotCell kind lane i ∷ drop 1 before)
 unfolding placementAnswer placementMemory copyCells outsideAxis
 fragment-is-layout kind lane i e before after p room placing =

@@ -22,8 +22,8 @@ abbrev pub register : ℕ → ℕ → Iter
 register extent stride = record { extent = extent; stride = pos stride; axis = 7 }
 
 -- .f16: four computations, the first of "%laneid 0–3 (low group) and 16–19 (high group)", each of the others 4 lanes further on
-abbrev pub four : List Iter → List Iter → List Iter
-four row column = lane 4 4 ∷ (row ++ column)
+abbrev pub fourComputations : List Iter → List Iter → List Iter
+fourComputations row column = lane 4 4 ∷ (row ++ column)
 
 -- .f64: one computation
 abbrev pub one : List Iter → List Iter → List Iter
@@ -31,16 +31,16 @@ one row column = row ++ column
 
 -- the iters of row and column, and behind them PTX's row and column: [+ 4] is added "otherwise", where %laneid is not below 16;
 -- groupID is %laneid >> 2, threadID_in_group %laneid % 4
-unfoldable pub shardOf : ℕ → List Iter
-shardOf kind =
+unfoldable pub kindShard : ℕ → List Iter
+kindShard kind =
     getD
-    (four (lane 2 16 ∷ lane 4 1 ∷ []) (register 4 1 ∷ [])  -- 0 A .f16 row-major: %laneid % 4 [+ 4], i
-    ∷ four (lane 2 16 ∷ register 4 1 ∷ []) (lane 4 1 ∷ [])  -- 1 A .f16 column-major: i % 4 [+ 4], %laneid % 4
-    ∷ four (lane 4 1 ∷ []) (lane 2 16 ∷ register 4 1 ∷ [])  -- 2 B .f16 row-major: %laneid % 4, i [+ 4]
-    ∷ four (register 4 1 ∷ []) (lane 2 16 ∷ lane 4 1 ∷ [])  -- 3 B .f16 column-major: i, %laneid % 4 [+ 4]
-    ∷ four (lane 2 16 ∷ lane 4 1 ∷ []) (register 8 1 ∷ [])  -- 4 C .f16: %laneid % 4 [+ 4], i
+    (fourComputations (lane 2 16 ∷ lane 4 1 ∷ []) (register 4 1 ∷ [])  -- 0 A .f16 row-major: %laneid % 4 [+ 4], i
+    ∷ fourComputations (lane 2 16 ∷ register 4 1 ∷ []) (lane 4 1 ∷ [])  -- 1 A .f16 column-major: i % 4 [+ 4], %laneid % 4
+    ∷ fourComputations (lane 4 1 ∷ []) (lane 2 16 ∷ register 4 1 ∷ [])  -- 2 B .f16 row-major: %laneid % 4, i [+ 4]
+    ∷ fourComputations (register 4 1 ∷ []) (lane 2 16 ∷ lane 4 1 ∷ [])  -- 3 B .f16 column-major: i, %laneid % 4 [+ 4]
+    ∷ fourComputations (lane 2 16 ∷ lane 4 1 ∷ []) (register 8 1 ∷ [])  -- 4 C .f16: %laneid % 4 [+ 4], i
     -- 5 C .f32: (%laneid & 0b1) + (i & 0b10) [+ 4], (i & 0b100) + (%laneid & 0b10) + (i & 0b1)
-    ∷ four (lane 2 16 ∷ register 2 2 ∷ lane 2 1 ∷ []) (register 2 4 ∷ lane 2 2 ∷ register 2 1 ∷ [])
+    ∷ fourComputations (lane 2 16 ∷ register 2 2 ∷ lane 2 1 ∷ []) (register 2 4 ∷ lane 2 2 ∷ register 2 1 ∷ [])
     ∷ one (lane 8 4 ∷ []) (lane 4 1 ∷ [])  -- 6 A .f64: %laneid >> 2, %laneid % 4
     ∷ one (lane 4 1 ∷ []) (lane 8 4 ∷ [])  -- 7 B .f64: %laneid % 4, %laneid >> 2
     ∷ one (lane 8 4 ∷ []) (lane 4 1 ∷ register 2 1 ∷ [])  -- 8 C .f64: groupID, (threadID_in_group * 2) + (i & 0x1)
@@ -53,10 +53,10 @@ abbrev pub lengthsOf : ℕ → List ℕ
 lengthsOf kind = 1 ∷ 1 ∷ 32 ∷ 1 ∷ 1 ∷ 1 ∷ 1 ∷ registers kind ∷ []
 
 -- the card of a kind: no marks, no replica, no offset, no swizzle
-abbrev pub layoutOf : ℕ → Card
-layoutOf kind =
+abbrev pub kindCard : ℕ → Card
+kindCard kind =
     record {
-      shard = counted (shardOf kind);
+      shard = counted (kindShard kind);
       marks = replicate 8 false;
       replica = counted [];
       offset = replicate 8 (pos 0);

@@ -22,8 +22,8 @@ use Rattle.rules.specs.Rules.{part}
 use Rattle.rules.specs.Walked.{walked}
 use Rattle.rules.proofs.Along.{along}
 use Rattle.rules.proofs.Base.{walked-at, walked-eight}
-use Rattle.sums.specs.Walks.{roomy, Walkable, Sums}
-use Rattle.sums.proofs.Turn.{along-room}
+use Rattle.copies_sums.specs.Walks.{roomy, Walkable, Sums}
+use Rattle.copies_sums.proofs.Turn.{along-room}
 use Rattle.idle.specs.Idle.{SameSums}
 use Rattle.idle.specs.Contracts.{Says, NoneBelow}
 use Rattle.idle.proofs.Apart.{cancel}

@@ -9,7 +9,7 @@ use lib.ListN.{length, getD, replicate}
 use lib.Signed.{nonNeg}
 use Rattle.card.specs.declared.Iters.{Iters}
 use Rattle.rules.specs.Walked.{walked}
-use Rattle.sums.specs.Walks.{roomy}
+use Rattle.copies_sums.specs.Walks.{roomy}
 
 -- eight sums before anything is added: so far from zero that no combination brings one below it
 abbrev pub far : List ℤ

@@ -8,7 +8,7 @@ ghost use Prim.Native.Nat.{_+_, _≤_, _<_};
 ghost use lib.ListN.{length};
 ghost use Rattle.card.specs.declared.Iters.{Iters};
 ghost use Rattle.card.specs.Packed.{itersOf, cardOf, Whole, Admits};
-ghost use Rattle.sums.specs.Walks.{Walkable};
+ghost use Rattle.copies_sums.specs.Walks.{Walkable};
 ghost use Rattle.idle.specs.Idle.{SameSums, Finds};
 ghost use Rattle.idle.specs.Admission.{fullAdmission};
 ghost use Rattle.idle.specs.Contracts.{Says, Twin};
@@ -38,9 +38,9 @@ fn same_sums(numbers: &[u64; 56], strides: &[i64; 24], a: u64, b: u64) -> bool
     ensures { λ r. ⌜ Says (SameSums (itersOf (now (numbers .entry)) (now (strides .entry)) 1) a b) r ⌝ }
 {
     let mut first = [FAR; 8];
-    sums::walk(numbers, strides, card::REPLICA, a, &mut first);
+    copies_sums::walk(numbers, strides, card::REPLICA, a, &mut first);
     let mut second = [FAR; 8];
-    sums::walk(numbers, strides, card::REPLICA, b, &mut second);
+    copies_sums::walk(numbers, strides, card::REPLICA, b, &mut second);
     are_equal(&first, &second)
 }
 
@@ -82,7 +82,7 @@ fn put_key(numbers: &[u64; 56], strides: &[i64; 24], b: u64, keys: &mut [u64; 64
     ensures { λ r. ⌜ Keyed (itersOf (now (numbers .entry)) (now (strides .entry)) 1) (b + 1) (now (keys .exit)) ⌝ }
 {
     let mut sums = [FAR; 8];
-    sums::walk(numbers, strides, card::REPLICA, b, &mut sums);
+    copies_sums::walk(numbers, strides, card::REPLICA, b, &mut sums);
     let key = key_of(&sums);
     keys[b as usize] = key;
 }
@@ -159,7 +159,7 @@ pub fn admit_packed(numbers: &[u64; 56], strides: &[i64; 24]) -> Admission
 pub fn admit(card: Card) -> Admission
     ensures { λ r. ⌜ r ≡ fullAdmission card ⌝ }
 {
-    let packed = packed::pack(card);
+    let packed = card_packed::pack(card);
     let numbers = packed.numbers;
     let strides = packed.strides;
     admit_packed(&numbers, &strides)

@@ -6,7 +6,7 @@ use text::input::Input;
 use text::output;
 ghost use mathlib.Core.Path.{_≡_};
 ghost use lib.ListN.{take};
-ghost use Rattle.judging.specs.Judge.{JudgedKept};
+ghost use Rattle.typed.specs.Judge.{JudgedKept};
 
 // The entries that the program lends to the verdict.
 const LENT: usize = 16384;
@@ -52,7 +52,7 @@ fn judge_kept(
     let mut lent = [0u32; LENT];
     let lengths = kept(first, first_held);
     let text = kept(second, second_held);
-    let verdict = judging::judge_lines(lengths, text, &mut lent);
+    let verdict = typed::judge_lines(lengths, text, &mut lent);
     judgement_numbers::verdict_numbers(verdict)
 }
 

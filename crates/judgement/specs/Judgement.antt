@@ -14,11 +14,11 @@ use Rattle.rules.specs.Reuse.{leader}
 use Rattle.rules.specs.declared.Spot.{Spot}
 use Rattle.rules.specs.declared.Spot.the-variants.{Inside, Outside}
 use Rattle.idle.specs.Admission.{fullAdmission}
-use Rattle.claims.specs.Claims.{Layout, OwnedTable, FirstClash}
+use Rattle.claims.specs.Claims.{CopiesAt, OwnedTable, FirstClash}
 
 -- where the copies of a card's elements go: an element that is one with a smaller one has none of its own, it is placed with its leader; a copy
 -- outside counts as cell 0, so a layout is asked only where every copy lies inside
-abbrev pub placed : Card → Layout
+abbrev pub placed : Card → CopiesAt
 placed card =
     record {
       copies = λ flat. cond (eqb (leader card flat) flat) (copies card) 0;

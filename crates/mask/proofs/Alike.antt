@@ -8,13 +8,13 @@ use native.Mathlib.Omega.{arith}
 use lib.Dec.{ltb}
 use lib.ListN.{getD, drop}
 use Rattle.descriptor.specs.Descriptor.{fieldsOf, reserved}
-use Rattle.pattern.specs.Pattern.{column, bytes}
-use Rattle.mask.specs.Mask.{maskSize, subMasks, subBits, columns, maskOf, maskAnswer, maskMemory}
+use Rattle.mask_pattern.specs.Pattern.{column, maskBytes}
+use Rattle.mask.specs.Mask.{maskSize, subMasks, subBits, maskColumns, maskOf, maskAnswer, maskMemory}
 use Rattle.descriptor.specs.declared.Fields.{Fields}
 use Rattle.mask.specs.declared.Generated.{Generated}
 use Rattle.mask.specs.declared.Generated.the-variants.{Mask, Refused}
-use Rattle.pattern.proofs.Numbers.{zeroed-same, first-same}
-use Rattle.pattern.proofs.Bytes.{bytes-same}
+use Rattle.mask_pattern.proofs.Numbers.{zeroed-same, first-same}
+use Rattle.mask_pattern.proofs.Bytes.{bytes-same}
 use Rattle.mask.proofs.Sizes.{Sized, sized}
 
 -- alike but for the shift and the fields of sub-masks that M does not use
@@ -32,16 +32,16 @@ column-alike M N f g s a p h =
     rw (a .counts (p / subBits M N) used, a .spans (p / subBits M N) used, a .non-zero, a .skip-span, a .use-span)
 
 module _ (limit M N d e : ℕ) (memory : List ℕ) (alike : Alike M (fieldsOf d) (fieldsOf e)) where
-  mask-alike : maskSize M N ≡ true → (maskOf (columns M N d) N ≡ maskOf (columns M N e) N) × (bytes (columns M N d) (N / 8) ≡ bytes (columns M N e) (N / 8))
+  mask-alike : maskSize M N ≡ true → (maskOf (maskColumns M N d) N ≡ maskOf (maskColumns M N e) N) × (maskBytes (maskColumns M N d) (N / 8) ≡ maskBytes (maskColumns M N e) (N / 8))
   mask-alike h =
       let s = sized M N h in
-      let same : (p : ℕ) → p < N → columns M N d p ≡ columns M N e p = column-alike M N (fieldsOf d) (fieldsOf e) s alike in
-      let all : (p : ℕ) → p < 0 + N → columns M N d p ≡ columns M N e p = λ p l. same p (omega arith) in (
-        ap₂ Mask (zeroed-same (columns M N d) (columns M N e) 0 N all) (first-same (columns M N d) (columns M N e) 0 N all),
-        bytes-same (columns M N d) (columns M N e) (N / 8) (λ p l. same p (omega arith)),
+      let same : (p : ℕ) → p < N → maskColumns M N d p ≡ maskColumns M N e p = column-alike M N (fieldsOf d) (fieldsOf e) s alike in
+      let all : (p : ℕ) → p < 0 + N → maskColumns M N d p ≡ maskColumns M N e p = λ p l. same p (omega arith) in (
+        ap₂ Mask (zeroed-same (maskColumns M N d) (maskColumns M N e) 0 N all) (first-same (maskColumns M N d) (maskColumns M N e) 0 N all),
+        bytes-same (maskColumns M N d) (maskColumns M N e) (N / 8) (λ p l. same p (omega arith)),
       )
 
-  answered : (r : Generated) → bytes (columns M N d) (N / 8) ≡ bytes (columns M N e) (N / 8) → maskMemory r M N d memory ≡ maskMemory r M N e memory
+  answered : (r : Generated) → maskBytes (maskColumns M N d) (N / 8) ≡ maskBytes (maskColumns M N e) (N / 8) → maskMemory r M N d memory ≡ maskMemory r M N e memory
   answered (Mask zeroed used) b = ap (λ (l : List ℕ). l ++ drop (N / 8) memory) b
   answered (Refused refusal) b = refl
 

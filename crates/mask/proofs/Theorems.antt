@@ -12,43 +12,43 @@ use lib.Seq.{drop-at}
 use Rattle.answers.specs.Refusals.{answer}
 use Rattle.answers.proofs.OneToOne.{refusal-not-zero, readBack, refused-back, pinned, rung}
 use Rattle.descriptor.specs.Descriptor.{yes, fieldsOf, reserved}
-use Rattle.pattern.specs.Pattern.{bytes, zeroed, firstUsed}
-use Rattle.mask.specs.Mask.{maskSize, subBits, columns, maskOf, maskAnswer, maskMemory, maskNumbers}
-use Rattle.pattern.specs.Bits.{bColumn, maskBit}
+use Rattle.mask_pattern.specs.Pattern.{maskBytes, zeroed, firstUsed}
+use Rattle.mask.specs.Mask.{maskSize, subBits, maskColumns, maskOf, maskAnswer, maskMemory, maskNumbers}
+use Rattle.mask_pattern.specs.Bits.{bColumn, maskBit}
 use Rattle.descriptor.specs.declared.Fields.{Fields}
 use Rattle.mask.specs.declared.Generated.{Generated}
 use Rattle.mask.specs.declared.Generated.the-variants.{Mask, Refused}
-use Rattle.pattern.proofs.Numbers.{zeroed-same, first-same}
-use Rattle.pattern.proofs.Bytes.{bytes-length, none-zeroed, all-used, zero-bytes, bytes-bit}
+use Rattle.mask_pattern.proofs.Numbers.{zeroed-same, first-same}
+use Rattle.mask_pattern.proofs.Bytes.{bytes-length, none-zeroed, all-used, zero-bytes, bytes-bit}
 use Rattle.mask.proofs.Sizes.{sized}
 use Rattle.mask.proofs.Alike.{Alike, alike-same}
 -- the endless pattern runs in turns; a mask repeats from the start of each sub-mask; the first used column is the smallest that is clear
-pub use Rattle.pattern.proofs.Pattern.{Turns, turns, all-clear, repeats}
-pub use Rattle.pattern.proofs.Least.{Least, first-least, least-one}
+pub use Rattle.mask_pattern.proofs.Pattern.{Turns, turns, all-clear, repeats}
+pub use Rattle.mask_pattern.proofs.Least.{Least, first-least, least-one}
 
 -- a mask whose non-zero mask field is 0: no column is zeroed, and every byte is 0
-pub clear-mask : (M N d : ℕ) → fieldsOf d .«non_zero» ≡ false → (maskOf (columns M N d) N ≡ Mask 0 0) × (bytes (columns M N d) (N / 8) ≡ replicate (N / 8) 0)
+pub clear-mask : (M N d : ℕ) → fieldsOf d .«non_zero» ≡ false → (maskOf (maskColumns M N d) N ≡ Mask 0 0) × (maskBytes (maskColumns M N d) (N / 8) ≡ replicate (N / 8) 0)
 clear-mask M N d e =
     rw (fun-ext (all-clear (subBits M N) (fieldsOf d) e)) (ap₂ Mask (none-zeroed 0 N) (all-used 0 N), zero-bytes (N / 8))
 
 -- mask bit p of the lent memory is column p
-pub mask-bits : (M N d zeroed used : ℕ) (lent : List ℕ) (p : ℕ) → maskSize M N ≡ true → p < N → maskBit (maskMemory (Mask zeroed used) M N d lent) p ≡ columns M N d p
+pub mask-bits : (M N d zeroed used : ℕ) (lent : List ℕ) (p : ℕ) → maskSize M N ≡ true → p < N → maskBit (maskMemory (Mask zeroed used) M N d lent) p ≡ maskColumns M N d p
 mask-bits M N d zeroed used lent p h l =
     let s = sized M N h in
-    let within : p / 8 < length (bytes (columns M N d) (N / 8)) = rw (bytes-length (columns M N d) (N / 8)) (omega arith) in
-    ap (λ (byte : ℕ). yes (p % 8) byte) (List·getD-append (bytes (columns M N d) (N / 8)) (drop (N / 8) lent) 0 (p / 8) within)
-    ∙ bytes-bit (columns M N d) (N / 8) p (omega arith)
+    let within : p / 8 < length (maskBytes (maskColumns M N d) (N / 8)) = rw (bytes-length (maskColumns M N d) (N / 8)) (omega arith) in
+    ap (λ (byte : ℕ). yes (p % 8) byte) (List·getD-append (maskBytes (maskColumns M N d) (N / 8)) (drop (N / 8) lent) 0 (p / 8) within)
+    ∙ bytes-bit (maskColumns M N d) (N / 8) p (omega arith)
 
 -- so the count and the first used column of the answer are those of the lent memory's first N bits
-pub mask-counted : (M N d zeroed used : ℕ) (lent : List ℕ) → maskSize M N ≡ true → maskOf (maskBit (maskMemory (Mask zeroed used) M N d lent)) N ≡ maskOf (columns M N d) N
+pub mask-counted : (M N d zeroed used : ℕ) (lent : List ℕ) → maskSize M N ≡ true → maskOf (maskBit (maskMemory (Mask zeroed used) M N d lent)) N ≡ maskOf (maskColumns M N d) N
 mask-counted M N d zeroed used lent h =
     let memory = maskBit (maskMemory (Mask zeroed used) M N d lent) in
-    let same : (p : ℕ) → p < 0 + N → memory p ≡ columns M N d p = λ p l. mask-bits M N d zeroed used lent p h (omega arith) in
-    ap₂ Mask (zeroed-same memory (columns M N d) 0 N same) (first-same memory (columns M N d) 0 N same)
+    let same : (p : ℕ) → p < 0 + N → memory p ≡ maskColumns M N d p = λ p l. mask-bits M N d zeroed used lent p h (omega arith) in
+    ap₂ Mask (zeroed-same memory (maskColumns M N d) 0 N same) (first-same memory (maskColumns M N d) 0 N same)
 
 -- and bytes past N / 8 are as they were
 pub past-kept : (M N d zeroed used : ℕ) (lent : List ℕ) → drop (N / 8) (maskMemory (Mask zeroed used) M N d lent) ≡ drop (N / 8) lent
-past-kept M N d zeroed used lent = drop-at (bytes (columns M N d) (N / 8)) (drop (N / 8) lent) (N / 8) (bytes-length (columns M N d) (N / 8))
+past-kept M N d zeroed used lent = drop-at (maskBytes (maskColumns M N d) (N / 8)) (drop (N / 8) lent) (N / 8) (bytes-length (maskColumns M N d) (N / 8))
 
 -- the same answer and the same lent memory after it
 pub record Same (limit M N d e : ℕ) (lent : List ℕ) : Type 0 where
@@ -119,8 +119,8 @@ pub mask-in-numbers : (limit M N d : ℕ) (before after : List ℕ) (r : Generat
     (cond (reserved d) (answer 15 0 0 0)
     (cond (ltb limit (fieldsOf d .shift)) (answer 16 limit 0 0)
     (cond (ltb (length before) (N / 8)) (answer 11 (N / 8) 0 0)
-    (answer 0 (zeroed (columns M N d) 0 N) (firstUsed (columns M N d) 0 N) 0)))))
-    × (after ≡ cond (eqb (maskNumbers r .number) 0) (bytes (columns M N d) (N / 8) ++ drop (N / 8) before) before)
+    (answer 0 (zeroed (maskColumns M N d) 0 N) (firstUsed (maskColumns M N d) 0 N) 0)))))
+    × (after ≡ cond (eqb (maskNumbers r .number) 0) (maskBytes (maskColumns M N d) (N / 8) ++ drop (N / 8) before) before)
 mask-in-numbers limit M N d before after r e left = (
   ap maskNumbers e
       ∙ rung maskNumbers (not (maskSize M N)) refl
@@ -130,6 +130,6 @@ mask-in-numbers limit M N d before after r e left = (
 )
   where
     memory : (r : Generated)
-        → maskMemory r M N d before ≡ cond (eqb (maskNumbers r .number) 0) (bytes (columns M N d) (N / 8) ++ drop (N / 8) before) before
+        → maskMemory r M N d before ≡ cond (eqb (maskNumbers r .number) 0) (maskBytes (maskColumns M N d) (N / 8) ++ drop (N / 8) before) before
     memory (Mask zeroed used) = refl
     memory (Refused refusal) = rw (refusal-not-zero refusal)

@@ -8,7 +8,7 @@ use Rattle.answers.specs.Refusals.{answer, refusalNumbers}
 use Rattle.answers.specs.declared.Numbers.{Numbers}
 use Rattle.answers.specs.declared.Refusal.the-variants.{TooShort, MaskSize, Reserved, Shift}
 use Rattle.descriptor.specs.Descriptor.{fieldsOf, reserved, maskM}
-use Rattle.pattern.specs.Pattern.{column, bytes, zeroed, firstUsed}
+use Rattle.mask_pattern.specs.Pattern.{column, maskBytes, zeroed, firstUsed}
 use Rattle.mask.specs.declared.Generated.{Generated}
 use Rattle.mask.specs.declared.Generated.the-variants.{Mask, Refused}
 
@@ -24,8 +24,8 @@ abbrev pub subBits : ℕ → ℕ → ℕ
 subBits M N = N / subMasks M
 
 -- the columns of the mask for M, N and a descriptor
-abbrev pub columns : ℕ → ℕ → ℕ → ℕ → Bool
-columns M N d = column (subBits M N) (fieldsOf d)
+abbrev pub maskColumns : ℕ → ℕ → ℕ → ℕ → Bool
+maskColumns M N d = column (subBits M N) (fieldsOf d)
 
 -- at number 0 how many of the N columns are zeroed, and the smallest p whose bit is clear, or N
 abbrev pub maskOf : (ℕ → Bool) → ℕ → Generated
@@ -38,11 +38,11 @@ maskAnswer limit M N d room =
     (cond (reserved d) (Refused Reserved)
     (cond (ltb limit (fieldsOf d .shift)) (Refused (Shift limit))
     (cond (ltb room (N / 8)) (Refused (TooShort (N / 8)))
-    (maskOf (columns M N d) N))))
+    (maskOf (maskColumns M N d) N))))
 
 -- the lent memory after this answer: refused it is untouched, at 0 the first N / 8 bytes are the mask and those past it as they were
 abbrev pub maskMemory : Generated → ℕ → ℕ → ℕ → List ℕ → List ℕ
-maskMemory (Mask zeroed first) M N d memory = bytes (columns M N d) (N / 8) ++ drop (N / 8) memory
+maskMemory (Mask zeroed first) M N d memory = maskBytes (maskColumns M N d) (N / 8) ++ drop (N / 8) memory
 maskMemory (Refused refusal) M N d memory = memory
 
 abbrev pub maskNumbers : Generated → Numbers

@@ -6,7 +6,7 @@ ghost use mathlib.Core.Path.{_≡_};
 ghost use Prim.Native.Nat.{_*_, _/_, _%_, _≤_};
 ghost use lib.ListN.{length, getD};
 ghost use Rattle.descriptor.specs.Descriptor.{yes, shiftLimit};
-ghost use Rattle.pattern.specs.Pattern.{column, bytes};
+ghost use Rattle.mask_pattern.specs.Pattern.{column, maskBytes};
 ghost use Rattle.mask.specs.Mask.{maskSize, subBits, maskOf, maskAnswer, maskMemory, maskNumbers};
 
 // The answer to the generation of a mask: how many columns are zeroed, and the first that is used.
@@ -25,7 +25,7 @@ fn is_mask_size(m: u64, n: u64) -> bool
 // The bytes of words, as many as are lent.
 fn write_bytes(words: [u64; 4], mask: &mut [u8])
     requires { ⌜ length (now mask) ≤ 32 ⌝ }
-    ensures { λ r. ⌜ now (mask .exit) ≡ bytes (λ p. yes (p % 64) (getD words (p / 64) 0)) (length (now (mask .entry))) ⌝ }
+    ensures { λ r. ⌜ now (mask .exit) ≡ maskBytes (λ p. yes (p % 64) (getD words (p / 64) 0)) (length (now (mask .entry))) ⌝ }
 {
     let mut j = 0;
     while j < mask.len() {
@@ -50,9 +50,9 @@ fn sub_bits(m: u64, n: u64) -> u64
 // A mask written into memory of just its bytes, and what it says of its columns.
 fn fill_mask(size: u64, fields: Fields, mask: &mut [u8]) -> Generated
     requires { ⌜ (8 * length (now mask) ≤ 4 * size) × (size ≤ 256) × (length (now mask) ≤ 32) ⌝ }
-    ensures { λ r. ⌜ (r ≡ maskOf (column size fields) (8 * length (now (mask .entry)))) × (now (mask .exit) ≡ bytes (column size fields) (length (now (mask .entry)))) ⌝ }
+    ensures { λ r. ⌜ (r ≡ maskOf (column size fields) (8 * length (now (mask .entry)))) × (now (mask .exit) ≡ maskBytes (column size fields) (length (now (mask .entry)))) ⌝ }
 {
-    let words = pattern::words_of(size, fields, 8 * (mask.len() as u64));
+    let words = mask_pattern::words_of(size, fields, 8 * (mask.len() as u64));
     let at = words.at;
     write_bytes(at, &mut *mask);
     Generated::Mask {

@@ -24,12 +24,12 @@ use Rattle.card.specs.declared.Admission.the-variants.{Admitted, Refused}
 use Rattle.answers.specs.declared.Refusal.{Refusal}
 use Rattle.answers.specs.declared.Refusal.the-variants.{Counts, Limits as OutOfLimits, Axis}
 use Rattle.laws.proofs.Rungs.{apart}
-use Rattle.notation.specs.Text.{axisOf, Lists, Notation, spell, Short, Each, Sound, Unmarked, Plain, Rising, Limits, Within, Correct}
-use Rattle.notation.specs.Meaning.{valueOf, isMarked, markOf, itersOf, listOf, laid, noOffset, layoutOf}
+use Rattle.notation.specs.Text.{axisMeant, Lists, Notation, spell, Short, Each, Sound, NoStar, Plain, Rising, Limits, Within, Correct}
+use Rattle.notation.specs.Meaning.{valueOf, isMarked, markOf, itersSaid, listOf, laid, noOffset, layoutOf}
 use Rattle.notation.specs.Promise.{Answered}
-use Rattle.notation.specs.Writing.{isBelow, stepFor, stepsFor, offsetsFrom, noMarks, listsFor, written, textOf, answerFor, writeAnswer, bytesAfter, keptOf}
-use Rattle.notation.specs.declared.Place.{Place}
-use Rattle.notation.specs.declared.Place.the-variants.{Bare, At, Marked}
+use Rattle.notation.specs.Writing.{isBelow, stepFor, stepsFor, offsetsFrom, noMarks, listsFor, writtenAs, textOf, answerFor, writtenAnswer, bytesAfter, keptOf}
+use Rattle.notation.specs.declared.NamedAxis.{NamedAxis}
+use Rattle.notation.specs.declared.NamedAxis.the-variants.{Bare, At, Marked}
 use Rattle.notation.specs.declared.Step.{Step}
 use Rattle.notation.specs.declared.Layout.{Layout}
 use Rattle.notation.specs.declared.Read.the-variants.{Done}
@@ -49,7 +49,7 @@ pub value-back : (z : ℤ) (mark : Bool) (axis : ℕ) → valueOf (stepFor z mar
 value-back (pos n) mark axis = refl
 value-back (negsuc n) mark axis = refl
 
-pub axis-back : (z : ℤ) (mark : Bool) (axis : ℕ) → axisOf (stepFor z mark axis .place) ≡ axis
+pub axis-back : (z : ℤ) (mark : Bool) (axis : ℕ) → axisMeant (stepFor z mark axis .place) ≡ axis
 axis-back z true axis = refl
 axis-back z false axis = refl
 
@@ -68,7 +68,7 @@ step-sound : (z : ℤ) (mark : Bool) (axis : ℕ) → withinZ leastStride mostSt
 step-sound z mark axis e a = (stride-short z e, below-some z, omega (arith, axis-back z mark axis))
 
 -- a list of iters as it is written
-iters-back : (ms : List Bool) (is : List Iter) → itersOf (map extentOf is) (stepsFor ms is) ≡ is
+iters-back : (ms : List Bool) (is : List Iter) → itersSaid (map extentOf is) (stepsFor ms is) ≡ is
 iters-back ms [] = refl
 iters-back [] (i ∷ is) =
     λ j. record { extent = i .extent; stride = value-back (i .stride) false (i .axis) j; axis = i .axis } ∷ iters-back [] is j
@@ -203,7 +203,7 @@ module _ (card : Card) (eight : OfEight card) (ok : fieldChecks card Admitted �
   replica-few = leb-true (card .replica .count) 4 (and-eq-true-iff (within 1 8 (card .shard .count)) (leb (card .replica .count) 4) .0 counts .1)
 
   -- the text is correct
-  pub written-within : Within (written card)
+  pub written-within : Within (writtenAs card)
   written-within =
       let n = four-of (itersFit (card .shard)) (marksFit (marksOf card) (map strideOf (listed (card .shard)))) (itersFit (card .replica)) (all (withinZ leastStride mostStride) (card .offset)) numbers in
       let a = and-eq-true-iff (itersOnAxes (card .shard)) (itersOnAxes (card .replica)) .0 axes in
@@ -217,12 +217,12 @@ module _ (card : Card) (eight : OfEight card) (ok : fieldChecks card Admitted �
         rising = offsets-rising 0 (card .offset) (omega (arith, eight .offset));
       }
     where
-      plain : (z : ℤ) (m : Bool) (axis : ℕ) → (m ≡ true → all not noMarks ≡ false) → Unmarked (stepFor z m axis .place)
+      plain : (z : ℤ) (m : Bool) (axis : ℕ) → (m ≡ true → all not noMarks ≡ false) → NoStar (stepFor z m axis .place)
       plain z true axis g = absurd (true≢false (g refl))
       plain z false axis g = tt
 
   -- and says what the card holds
-  pub written-layout : layoutOf (written card) ≡ keptOf card
+  pub written-layout : layoutOf (writtenAs card) ≡ keptOf card
   written-layout =
       let marks : map markOf (stepsFor (marksOf card) (listed (card .shard))) ≡ marksOf card
       = marks-back (marksOf card) (listed (card .shard)) (length-take-le (card .shard .count) (card .marks) (omega (arith, eight .marks, shard-few .1)) ∙ sym (length-take-le (card .shard .count) (card .shard .at) (omega (arith, eight .shard, shard-few .1)))) in
@@ -237,17 +237,17 @@ module _ (card : Card) (eight : OfEight card) (ok : fieldChecks card Admitted �
   -- reading what was written gives the same shard, replica, offset and marks
   pub read-written : (r : Reading) → Answered (textOf card) r → r ≡ record { answer = Done; layout = keptOf card }
   unfolding textOf
-  read-written r a = read-spelled (written card) written-within r a ∙ ap (λ (l : Layout). record { answer = Done; layout = l }) written-layout
+  read-written r a = read-spelled (writtenAs card) written-within r a ∙ ap (λ (l : Layout). record { answer = Done; layout = l }) written-layout
 
 -- two outcomes that the promise of writing allows are equal: the answer, and every lent byte
-pub write-settled : (card : Card) (lent : List ℕ) (p q : Written) (b d : List ℕ) → (p ≡ writeAnswer card (length lent)) × (b ≡ bytesAfter p card lent)
-    → (q ≡ writeAnswer card (length lent)) × (d ≡ bytesAfter q card lent) → (p ≡ q) × (b ≡ d)
+pub write-settled : (card : Card) (lent : List ℕ) (p q : Written) (b d : List ℕ) → (p ≡ writtenAnswer card (length lent)) × (b ≡ bytesAfter p card lent)
+    → (q ≡ writtenAnswer card (length lent)) × (d ≡ bytesAfter q card lent) → (p ≡ q) × (b ≡ d)
 write-settled card lent p q b d e f =
     let same : p ≡ q = e .0 ∙ sym (f .0) in
     (same, e .1 ∙ ap (λ (r : Written). bytesAfter r card lent) same ∙ sym (f .1))
 
 -- what stands in lent bytes after writing reads back: at number 0 the first bytes are the text, and reading them gives the same
-pub read-lent : (card : Card) → OfEight card → (lent : List ℕ) (n : ℕ) → writeAnswer card (length lent) ≡ Length n
+pub read-lent : (card : Card) → OfEight card → (lent : List ℕ) (n : ℕ) → writtenAnswer card (length lent) ≡ Length n
     → (r : Reading) → Answered (take n (bytesAfter (Length n) card lent)) r → r ≡ record { answer = Done; layout = keptOf card }
 read-lent card eight lent n e r a = by (fieldChecks card Admitted) refl e
   where

@@ -11,14 +11,14 @@ use borrow.Author.Tests.{ltb-true, ltb-false, leb-true, leb-false, eqb-true, eqb
 use lib.Dec.{leb, ltb, eqb}
 use lib.ListN.{length, getD, drop, length-append}
 use lib.Seq.{drop-cons}
-use Rattle.notation.specs.Text.{decimal, name, axisOf, spellPlace, spellSigned, spellStep, tails, joined, opening, closing, enclosed, Lists, spellLists, spellShard, several, spellSome, isNone, spellReplica, spellOffsets, Notation, spell, Short, Each, Sound, Unmarked, Plain, Rising, Limits, Within, Correct}
-use Rattle.notation.specs.Machine.{digitOf, continues, initialOf, restOf, words, letter, most, least, parens, isShard, inOffset, go, stuck, number, signed, onAxis, stepOf, spotOf, Seen, noLists, here, said, withExtent, withStep, asPart, enter, at, State, firstMove, extentMove, begunMove, minusMove, listMove, offsetMove, follow, sizeMove, atMove, teeMove, namedMove, starredMove, closedMove, plusMove, openedMove, endedMove, phaseMove, moved, stepped}
+use Rattle.notation.specs.Text.{decimal, name, axisMeant, spellPlace, spellSigned, spellStep, tails, joined, openingBytes, closing, enclosed, Lists, spellLists, spellShard, several, spellSome, isNone, spellReplica, spellOffsets, Notation, spell, Short, Each, Sound, NoStar, Plain, Rising, Limits, Within, Correct}
+use Rattle.notation.specs.Machine.{digitOf, continues, initialOf, restOf, wordsToFollow, letter, most, leastAxis, parens, isShard, inOffset, go, stuck, withNumber, withSign, withAxis, stepOf, spotOf, Seen, noLists, here, said, withExtent, withStep, asPart, enter, stateAt, State, firstMove, extentMove, begunMove, minusMove, listMove, offsetMove, follow, sizeMove, atMove, teeMove, namedMove, starredMove, closedMove, plusMove, openedMove, endedMove, phaseMove, moved, stepped}
 use Rattle.notation.specs.declared.Phase.{Phase}
 use Rattle.notation.specs.declared.Phase.the-variants.{First, Extent, Begun, Minus, Size, At, Tee, Named, Starred, Closed, Plus, Opened, Ended, Stuck}
 use Rattle.notation.specs.declared.Part.{Part}
 use Rattle.notation.specs.declared.Part.the-variants.{Shard, Several, Single, Offset}
-use Rattle.notation.specs.declared.Place.{Place}
-use Rattle.notation.specs.declared.Place.the-variants.{Bare, At as OnAxis, Marked}
+use Rattle.notation.specs.declared.NamedAxis.{NamedAxis}
+use Rattle.notation.specs.declared.NamedAxis.the-variants.{Bare, At as OnAxis, Marked}
 use Rattle.notation.specs.declared.Step.{Step}
 use Rattle.notation.specs.declared.Piece.{Piece}
 use Rattle.notation.specs.declared.Event.{Event}
@@ -33,7 +33,7 @@ upTo [] = []
 upTo (a ∷ l) = cond (eqb a 0) [] (a ∷ upTo l)
 
 abbrev pub owing : ℕ → List ℕ
-owing owed = upTo (drop (owed % 64) words)
+owing owed = upTo (drop (owed % 64) wordsToFollow)
 
 -- what strides a part may have
 abbrev pub Fine : Part → Step → Type 0
@@ -74,17 +74,17 @@ pub record InExtents (s : Seen) (part x : List ℕ) : Type 0 where
   pub none : s .steps ≡ []
   pub room : length (s .extents) + 1 ≤ most (s .part)
   pub short : Each Short (s .extents)
-  pub read : x ≡ (prefix (s .part) (s .shard) ++ (opening (parens (s .part)) ++ lead (map decimal (s .extents)))) ++ part
+  pub read : x ≡ (prefix (s .part) (s .shard) ++ (openingBytes (parens (s .part)) ++ lead (map decimal (s .extents)))) ++ part
 
 -- before a stride of a list
 abbrev pub beforeStride : Part → Seen → List ℕ
 beforeStride part s =
-    prefix part (s .shard) ++ (enclosed (parens part) (map decimal (s .extents)) ++ (58 ∷ (opening (parens part) ++ lead (map spellStep (s .steps)))))
+    prefix part (s .shard) ++ (enclosed (parens part) (map decimal (s .extents)) ++ (58 ∷ (openingBytes (parens part) ++ lead (map spellStep (s .steps)))))
 
 pub record InStrides (part : Part) (s : Seen) : Type 0 where
   pub outer : Outer part (s .shard)
   pub from0 : s .from ≡ 0
-  pub enough : least part ≤ length (s .extents)
+  pub enough : leastAxis part ≤ length (s .extents)
   pub few : length (s .extents) ≤ most part
   pub room : length (s .steps) + 1 ≤ length (s .extents)
   pub short : Each Short (s .extents)
@@ -181,7 +181,7 @@ text-more x p part part′ rest b e f =
 
 extents-more : {s : Seen} {part x : List ℕ} (part′ : List ℕ) (b : ℕ) → InExtents s part x → part ++ (b ∷ []) ≡ part′ → InExtents s part′ ((x ++ (b ∷ [])) ++ [])
 extents-more {s} {part} {x} part′ b i f =
-    record { outer = i .outer; from0 = i .from0; none = i .none; room = i .room; short = i .short; read = text-more x (prefix (s .part) (s .shard) ++ (opening (parens (s .part)) ++ lead (map decimal (s .extents)))) part part′ [] b (i .read) f }
+    record { outer = i .outer; from0 = i .from0; none = i .none; room = i .room; short = i .short; read = text-more x (prefix (s .part) (s .shard) ++ (openingBytes (parens (s .part)) ++ lead (map decimal (s .extents)))) part part′ [] b (i .read) f }
 
 step-more : {s : Seen} {part x : List ℕ} (part′ rest : List ℕ) (b : ℕ) → InStep s part x → part ++ (b ∷ rest) ≡ part′ → InStep s part′ ((x ++ (b ∷ [])) ++ rest)
 step-more {s} {part} {x} part′ rest b i f = record { before = i .before; read = text-more x (front (s .part) s) part part′ rest b (i .read) f }
@@ -226,10 +226,10 @@ module _ (s : Seen) (v : ℕ) (x : List ℕ) (b : ℕ) (short : Short v) where
         none = i .none;
         room = omega (arith, longer);
         short = each-append Short (s .extents) (v ∷ []) (i .short) (short, tt);
-        read = rw (map-append decimal (s .extents) (v ∷ [])) (comma-text (prefix (s .part) (s .shard)) (opening (parens (s .part))) (map decimal (s .extents)) (decimal v) x b (i .read) e);
+        read = rw (map-append decimal (s .extents) (v ∷ [])) (comma-text (prefix (s .part) (s .shard)) (openingBytes (parens (s .part))) (map decimal (s .extents)) (decimal v) x b (i .read) e);
       }
 
-  strides-begun : (part : Part) → InExtents (with s part) (decimal v) x → least part ≤ length (s .extents) + 1 → InStrides part (withExtent (with s part) v)
+  strides-begun : (part : Part) → InExtents (with s part) (decimal v) x → leastAxis part ≤ length (s .extents) + 1 → InStrides part (withExtent (with s part) v)
   strides-begun part i l =
       record {
         outer = i .outer;
@@ -241,15 +241,15 @@ module _ (s : Seen) (v : ℕ) (x : List ℕ) (b : ℕ) (short : Short v) where
         fine = subst⁻¹ (λ (l : List Step). Each (Fine part) l) (i .none) tt;
       }
 
-  strides-text : (part : Part) → InExtents (with s part) (decimal v) x → x ++ (closing (parens part) ++ (58 ∷ opening (parens part))) ≡ beforeStride part (withExtent (with s part) v) ++ []
+  strides-text : (part : Part) → InExtents (with s part) (decimal v) x → x ++ (closing (parens part) ++ (58 ∷ openingBytes (parens part))) ≡ beforeStride part (withExtent (with s part) v) ++ []
   strides-text part i =
-      let o : List ℕ = opening (parens part) in
+      let o : List ℕ = openingBytes (parens part) in
       let f : List ℕ = prefix part (s .shard) in
       let m : List ℕ = o ++ (joined (map decimal (s .extents) ++ (decimal v ∷ [])) ++ closing (parens part)) in
       rw (map-append decimal (s .extents) (v ∷ []), i .none)
       (close-text (prefix part (s .shard)) o (closing (parens part)) (map decimal (s .extents)) (decimal v) x (58 ∷ o) (i .read) ∙ ap (λ (l : List ℕ). f ++ (m ++ (58 ∷ l))) (sym (append-nil o)) ∙ sym (append-nil (f ++ (m ++ (58 ∷ (o ++ []))))))
 
-  extent-closed : (part : Part) → InExtents (with s part) (decimal v) x → b ≡ cond (parens part) 41 58 → least part ≤ length (s .extents) + 1
+  extent-closed : (part : Part) → InExtents (with s part) (decimal v) x → b ≡ cond (parens part) 41 58 → leastAxis part ≤ length (s .extents) + 1
       → InStep (withExtent (with s part) v) [] ((x ++ (b ∷ [])) ++ owing (cond (parens part) 27 0))
   extent-closed Shard i e l = record { before = strides-begun Shard i l; read = rw e (append-assoc x (41 ∷ []) (58 ∷ 40 ∷ []) ∙ strides-text Shard i) }
   extent-closed Several i e l = record { before = strides-begun Several i l; read = rw e (append-assoc x (41 ∷ []) (58 ∷ 40 ∷ []) ∙ strides-text Several i) }
@@ -286,15 +286,15 @@ module _ (s : Seen) (t : Step) (x : List ℕ) (b : ℕ) (part : Part) (i : InStr
   one-longer : length (s .steps ++ (t ∷ [])) ≡ length (s .steps) + 1
   one-longer = length-append (s .steps) (t ∷ [])
 
-  regrouped : x ≡ beforeStride part s ++ spellStep t → x ≡ ((outside ++ (extentsText ++ (58 ∷ []))) ++ (opening (parens part) ++ lead sofar)) ++ spellStep t
-  regrouped e = e ∙ ap (λ (l : List ℕ). l ++ spellStep t) (regroup outside extentsText (opening (parens part) ++ lead sofar))
+  regrouped : x ≡ beforeStride part s ++ spellStep t → x ≡ ((outside ++ (extentsText ++ (58 ∷ []))) ++ (openingBytes (parens part) ++ lead sofar)) ++ spellStep t
+  regrouped e = e ∙ ap (λ (l : List ℕ). l ++ spellStep t) (regroup outside extentsText (openingBytes (parens part) ++ lead sofar))
 
   -- the text of both lists, the last stride included
   strides-closed : x ≡ beforeStride part s ++ spellStep t → (rest : List ℕ)
       → x ++ (closing (parens part) ++ rest) ≡ outside ++ (spellLists (parens part) (here (withStep s t)) ++ rest)
   strides-closed e rest =
       let ts : List (List ℕ) = map spellStep (s .steps ++ (t ∷ [])) in
-      close-text (outside ++ (extentsText ++ (58 ∷ []))) (opening (parens part)) (closing (parens part)) sofar (spellStep t) x rest (regrouped e)
+      close-text (outside ++ (extentsText ++ (58 ∷ []))) (openingBytes (parens part)) (closing (parens part)) sofar (spellStep t) x rest (regrouped e)
       ∙ ap (λ (k : List (List ℕ)). (outside ++ (extentsText ++ (58 ∷ []))) ++ (enclosed (parens part) k ++ rest)) (sym one-step)
       ∙ sym (regroup outside extentsText (enclosed (parens part) ts ++ rest))
       ∙ ap (λ (k : List ℕ). outside ++ k) (sym (append-assoc extentsText (58 ∷ enclosed (parens part) ts) rest))
@@ -309,22 +309,22 @@ module _ (s : Seen) (t : Step) (x : List ℕ) (b : ℕ) (part : Part) (i : InStr
       let ts : List (List ℕ) = map spellStep (s .steps ++ (t ∷ [])) in (
         record {
           outer = i .outer;
-          from0 = ap (λ (c : Bool). cond c (axisOf (t .place) + 1) (s .from)) list ∙ i .from0;
+          from0 = ap (λ (c : Bool). cond c (axisMeant (t .place) + 1) (s .from)) list ∙ i .from0;
           enough = i .enough;
           few = i .few;
           room = omega (arith, one-longer);
           short = i .short;
           fine = each-append (Fine part) (s .steps) (t ∷ []) (i .fine) (f, tt);
         },
-        comma-text (outside ++ (extentsText ++ (58 ∷ []))) (opening (parens part)) sofar (spellStep t) x b (regrouped e) h
-            ∙ ap (λ (k : List (List ℕ)). ((outside ++ (extentsText ++ (58 ∷ []))) ++ (opening (parens part) ++ lead k)) ++ []) (sym one-step)
-            ∙ ap (λ (k : List ℕ). k ++ []) (sym (regroup outside extentsText (opening (parens part) ++ lead ts))),
+        comma-text (outside ++ (extentsText ++ (58 ∷ []))) (openingBytes (parens part)) sofar (spellStep t) x b (regrouped e) h
+            ∙ ap (λ (k : List (List ℕ)). ((outside ++ (extentsText ++ (58 ∷ []))) ++ (openingBytes (parens part) ++ lead k)) ++ []) (sym one-step)
+            ∙ ap (λ (k : List ℕ). k ++ []) (sym (regroup outside extentsText (openingBytes (parens part) ++ lead ts))),
       )
 
 -- a stride or an offset begins, with a minus or a digit
 stride-begun : (p : Piece) (s : Seen) (x : List ℕ) (b : ℕ) (e : Event) (P : Move → Type 0)
-    → (Shape Minus (signed p true) s ((x ++ (b ∷ [])) ++ []) → P (go Minus 0 (signed p true) e))
-    → (Shape Size (signed (number p (digitOf b)) false) s ((x ++ (b ∷ [])) ++ []) → P (go Size 0 (signed (number p (digitOf b)) false) e))
+    → (Shape Minus (withSign p true) s ((x ++ (b ∷ [])) ++ []) → P (go Minus 0 (withSign p true) e))
+    → (Shape Size (withSign (withNumber p (digitOf b)) false) s ((x ++ (b ∷ [])) ++ []) → P (go Size 0 (withSign (withNumber p (digitOf b)) false) e))
     → P (stuck p) → InStep s [] x → P (begunMove e p b)
 stride-begun p s x b e P f g h i =
     pick P (eqb b 45) (λ q. f (refl, step-more (45 ∷ []) [] b i (rw (eqb-true b 45 q))))
@@ -372,8 +372,8 @@ module _ (p : Piece) (s : Seen) (x : List ℕ) (b : ℕ) where
       (λ e. (digit-more (p .value) b e .0, extents-more (decimal (p .value * 10 + digitOf b)) b (i .1) (digit-more (p .value) b e .1)))
       (λ _. pick-both After (eqb b 44) (ltb (length (s .extents) + 1) (most (s .part)))
       (λ e l. extent-comma s (p .value) x b (i .0) (i .1) (eqb-true b 44 e) (ltb-true (length (s .extents) + 1) (most (s .part)) l))
-      (pick-both After (eqb b (cond (parens (s .part)) 41 58)) (leb (least (s .part)) (length (s .extents) + 1))
-      (λ e l. extent-closed s (p .value) x b (i .0) (s .part) (i .1) (eqb-true b (cond (parens (s .part)) 41 58) e) (leb-true (least (s .part)) (length (s .extents) + 1) l))
+      (pick-both After (eqb b (cond (parens (s .part)) 41 58)) (leb (leastAxis (s .part)) (length (s .extents) + 1))
+      (λ e l. extent-closed s (p .value) x b (i .0) (s .part) (i .1) (eqb-true b (cond (parens (s .part)) 41 58) e) (leb-true (leastAxis (s .part)) (length (s .extents) + 1) l))
       tt))
 
 each-map : {A : Type 0} (P Q : A → Type 0) (f : (a : A) → P a → Q a) (l : List A) → Each P l → Each Q l
@@ -387,7 +387,7 @@ offset-text f r ss t x e =
     ∙ ap (λ (l : List ℕ). f ++ l) (append-assoc r (spellOffsets ss) (43 ∷ spellStep t) ∙ ap (λ (l : List ℕ). r ++ l) (sym (offsets-mid ss t)))
 
 -- a byte after a stride or offset
-module _ (p : Piece) (place : Place) (x : List ℕ) (b : ℕ) where
+module _ (p : Piece) (place : NamedAxis) (x : List ℕ) (b : ℕ) where
   abbrev t : Step
   t = stepOf p place
 
@@ -404,7 +404,7 @@ module _ (p : Piece) (place : Place) (x : List ℕ) (b : ℕ) where
   replica-single : (s : Seen) → length (s .extents) ≡ 1 → 43 ∷ 82 ∷ 91 ∷ (spellLists false (lists s) ++ (93 ∷ [])) ≡ spellReplica (lists s)
   replica-single s h = rw (single-some (s .extents) h .0, single-some (s .extents) h .1)
 
-  good-follow : (part : Part) (s : Seen) → Before part (with s part) → Fine part t → x ≡ front part (with s part) ++ spellStep t → s .from ≤ axisOf place → Then (with s part) (follow part place p (spotOf (with s part)) b)
+  good-follow : (part : Part) (s : Seen) → Before part (with s part) → Fine part t → x ≡ front part (with s part) ++ spellStep t → s .from ≤ axisMeant place → Then (with s part) (follow part place p (spotOf (with s part)) b)
   good-follow Shard s₀ i f e low =
       let s : Seen = with s₀ Shard in
       pick-both (Then s) (eqb b 44) (ltb (length (s .steps) + 1) (length (s .extents)))
@@ -447,7 +447,7 @@ module _ (p : Piece) (place : Place) (x : List ℕ) (b : ℕ) where
       tt)
   good-follow Offset s₀ i f e low =
       let s : Seen = with s₀ Offset in
-      pick-both (Then s) (eqb b 43) (ltb (axisOf place) 7)
+      pick-both (Then s) (eqb b 43) (ltb (axisMeant place) 7)
       (λ q l.
       record {
         before = record {
@@ -455,7 +455,7 @@ module _ (p : Piece) (place : Place) (x : List ℕ) (b : ℕ) where
           replica = i .replica;
           fine = each-append Plain (s .steps) (t ∷ []) (i .fine) (f, tt);
           rising = rising-snoc 0 (s .steps) (s .from) t (i .rising) low;
-          low = omega (arith, ltb-true (axisOf place) 7 l);
+          low = omega (arith, ltb-true (axisMeant place) 7 l);
         };
         read =
             let f : List ℕ = spellShard (s .shard) in
@@ -466,7 +466,7 @@ module _ (p : Piece) (place : Place) (x : List ℕ) (b : ℕ) where
       })
       tt
 
-fine-plain : (part : Part) (t : Step) → Sound t → Unmarked (t .place) → Fine part t
+fine-plain : (part : Part) (t : Step) → Sound t → NoStar (t .place) → Fine part t
 fine-plain Shard t h u = h
 fine-plain Several t h u = (h, u)
 fine-plain Single t h u = (h, u)
@@ -548,22 +548,22 @@ owing-next owed e =
     let inside : i < 64 = omega arith in
     let small : i + 1 < 64 = by i inside e in
     let same : (i + 1) % 64 ≡ suc i = omega arith in
-    rw same (next words i inside e)
+    rw same (next wordsToFollow i inside e)
   where
     next : (l : List ℕ) (i : ℕ) → i < length l → eqb (getD l i 0) 0 ≡ false → upTo (drop i l) ≡ getD l i 0 ∷ upTo (drop (suc i) l)
     next l i h e = ap upTo (drop-cons l i 0 h) ∙ ap (λ (t : Bool). cond t [] (getD l i 0 ∷ upTo (drop (suc i) l))) e
 
-    by : (i : ℕ) → i < 64 → eqb (getD words i 0) 0 ≡ false → i + 1 < 64
+    by : (i : ℕ) → i < 64 → eqb (getD wordsToFollow i 0) 0 ≡ false → i + 1 < 64
     by i h e =
         ⊎-elim
-        (λ (last : i ≡ 63). absurd (false≢true (sym (subst (λ (k : ℕ). eqb (getD words k 0) 0 ≡ false) last e))))
+        (λ (last : i ≡ 63). absurd (false≢true (sym (subst (λ (k : ℕ). eqb (getD wordsToFollow k 0) 0 ≡ false) last e))))
         (λ (l : i < 63). omega arith)
         (eq-or-lt-of-le {n = i} {m = 63} (omega arith))
 
 pub owing-none : (owed : ℕ) → eqb (letter owed) 0 ≡ true → owing owed ≡ []
 owing-none owed e =
     let inside : owed % 64 < 64 = omega arith in
-    ap upTo (drop-cons words (owed % 64) 0 inside) ∙ ap (λ (t : Bool). cond t [] (letter owed ∷ upTo (drop (suc (owed % 64)) words))) e
+    ap upTo (drop-cons wordsToFollow (owed % 64) 0 inside) ∙ ap (λ (t : Bool). cond t [] (letter owed ∷ upTo (drop (suc (owed % 64)) wordsToFollow))) e
 
 pub good-step : (r : State) (t : List ℕ) (b : ℕ) → Good r t → Good (stepped r b) (t ++ (b ∷ []))
 unfolding stepped moved

@@ -12,22 +12,22 @@ use Rattle.card.specs.Lists.{padded}
 use Rattle.card.specs.Card.{none}
 use Rattle.card.specs.declared.Iter.{Iter}
 use Rattle.card.specs.declared.Iters.{Iters}
-use Rattle.notation.specs.Text.{axisOf, Lists, Notation, Correct}
-use Rattle.notation.specs.Meaning.{valueOf, isMarked, markOf, itersOf, listOf, laid, noOffset, layoutOf}
-use Rattle.notation.specs.Machine.{digitOf, continues, initialOf, letter, most, least, parens, isShard, go, stepOf, listMove, follow, phaseMove, moved, inOffset, isStuck, isWhole, ending, lastEvent, adds, nextSpot, readerOf, firstReader, nextReader, moveOf, endsWell, refusedAt, concluded, enter, stepped, start, runs, recorded, extentAdded, stepAdded, addExtent, addStep, Seen, spotOf, noLists, here, said, withExtent, withStep, asPart, seeing, State}
+use Rattle.notation.specs.Text.{axisMeant, Lists, Notation, Correct}
+use Rattle.notation.specs.Meaning.{valueOf, isMarked, markOf, itersSaid, listOf, laid, noOffset, layoutOf}
+use Rattle.notation.specs.Machine.{digitOf, continues, initialOf, letter, most, leastAxis, parens, isShard, go, stepOf, listMove, follow, phaseMove, moved, inOffset, isStuck, isWhole, ending, lastEvent, adds, nextSpot, readerOf, firstReader, nextReader, moveOf, endsWell, refusedAt, concluded, enter, stepped, start, runs, recorded, extentAdded, stepAdded, addExtent, addStep, Seen, spotOf, noLists, here, said, withExtent, withStep, asPart, seeing, State}
 use Rattle.notation.specs.declared.Layout.{Layout}
 use Rattle.notation.specs.declared.Phase.{Phase}
 use Rattle.notation.specs.declared.Phase.the-variants.{First, Extent, Begun, Minus, Size, At, Tee, Named, Starred, Closed, Plus, Opened, Ended, Stuck}
 use Rattle.notation.specs.declared.Part.{Part}
 use Rattle.notation.specs.declared.Part.the-variants.{Shard, Several, Single, Offset}
-use Rattle.notation.specs.declared.Place.{Place}
-use Rattle.notation.specs.declared.Place.the-variants.{Bare, At as OnAxis, Marked}
+use Rattle.notation.specs.declared.NamedAxis.{NamedAxis}
+use Rattle.notation.specs.declared.NamedAxis.the-variants.{Bare, At as OnAxis, Marked}
 use Rattle.notation.specs.declared.Step.{Step}
 use Rattle.notation.specs.declared.Piece.{Piece}
 use Rattle.notation.specs.declared.Event.{Event}
 use Rattle.notation.specs.declared.Event.the-variants.{Same, Extent as AnExtent, Step as AStep, Part as APart}
 use Rattle.notation.specs.declared.Move.{Move}
-use Rattle.notation.specs.declared.Spot.{Spot}
+use Rattle.notation.specs.declared.Stand.{Stand}
 use Rattle.notation.specs.declared.Reader.{Reader}
 use Rattle.notation.specs.Promise.{noLayout, Accepted, Answered}
 use Rattle.notation.specs.Beginning.{Refused}
@@ -47,34 +47,34 @@ padded-snoc z l x h =
     let one : 8 - length l ≡ suc m = omega (arith, long) in
     append-assoc l (x ∷ []) (replicate m z) ∙ sym (set-there l (replicate m z) z x) ∙ ap (λ (k : ℕ). set (l ++ replicate k z) (length l) x) (sym one)
 
-iters-length : (es : List ℕ) (ss : List Step) → length (itersOf es ss) ≡ length es
+iters-length : (es : List ℕ) (ss : List Step) → length (itersSaid es ss) ≡ length es
 iters-length [] ss = refl
 iters-length (e ∷ es) [] = ap suc (iters-length es [])
 iters-length (e ∷ es) (s ∷ ss) = ap suc (iters-length es ss)
 
-iters-snoc : (es : List ℕ) (v : ℕ) → itersOf (es ++ (v ∷ [])) [] ≡ itersOf es [] ++ (record { extent = v; stride = pos 0; axis = 0 } ∷ [])
+iters-snoc : (es : List ℕ) (v : ℕ) → itersSaid (es ++ (v ∷ [])) [] ≡ itersSaid es [] ++ (record { extent = v; stride = pos 0; axis = 0 } ∷ [])
 iters-snoc [] v = refl
 iters-snoc (e ∷ es) v = ap (λ (l : List Iter). record { extent = e; stride = pos 0; axis = 0 } ∷ l) (iters-snoc es v)
 
 abbrev stepped-iter : Iter → Step → Iter
-stepped-iter i t = record { extent = i .extent; stride = valueOf t; axis = axisOf (t .place) }
+stepped-iter i t = record { extent = i .extent; stride = valueOf t; axis = axisMeant (t .place) }
 
 iters-step : (es : List ℕ) (ss : List Step) (t : Step) (r : List Iter) → length ss < length es
-    → itersOf es (ss ++ (t ∷ [])) ++ r ≡ set (itersOf es ss ++ r) (length ss) (stepped-iter (getD (itersOf es ss ++ r) (length ss) none) t)
+    → itersSaid es (ss ++ (t ∷ [])) ++ r ≡ set (itersSaid es ss ++ r) (length ss) (stepped-iter (getD (itersSaid es ss ++ r) (length ss) none) t)
 iters-step [] ss t r h = absurd (omega arith)
 iters-step (e ∷ es) [] t r h = refl
-iters-step (e ∷ es) (s ∷ ss) t r h = ap (λ (l : List Iter). record { extent = e; stride = valueOf s; axis = axisOf (s .place) } ∷ l) (iters-step es ss t r (omega arith))
+iters-step (e ∷ es) (s ∷ ss) t r h = ap (λ (l : List Iter). record { extent = e; stride = valueOf s; axis = axisMeant (s .place) } ∷ l) (iters-step es ss t r (omega arith))
 
 list-step : (es : List ℕ) (ss : List Step) (t : Step) → length ss < length es
-    → padded none (itersOf es (ss ++ (t ∷ []))) ≡ set (padded none (itersOf es ss)) (length ss) (stepped-iter (getD (padded none (itersOf es ss)) (length ss) none) t)
+    → padded none (itersSaid es (ss ++ (t ∷ []))) ≡ set (padded none (itersSaid es ss)) (length ss) (stepped-iter (getD (padded none (itersSaid es ss)) (length ss) none) t)
 list-step es ss t h =
-    let same : 8 - length (itersOf es (ss ++ (t ∷ []))) ≡ 8 - length (itersOf es ss) = ap (λ (k : ℕ). 8 - k) (iters-length es (ss ++ (t ∷ [])) ∙ sym (iters-length es ss)) in
-    ap (λ (k : ℕ). itersOf es (ss ++ (t ∷ [])) ++ replicate k none) same ∙ iters-step es ss t (replicate (8 - length (itersOf es ss)) none) h
+    let same : 8 - length (itersSaid es (ss ++ (t ∷ []))) ≡ 8 - length (itersSaid es ss) = ap (λ (k : ℕ). 8 - k) (iters-length es (ss ++ (t ∷ [])) ∙ sym (iters-length es ss)) in
+    ap (λ (k : ℕ). itersSaid es (ss ++ (t ∷ [])) ++ replicate k none) same ∙ iters-step es ss t (replicate (8 - length (itersSaid es ss)) none) h
 
-list-extent : (es : List ℕ) (v : ℕ) → length es < 8 → padded none (itersOf (es ++ (v ∷ [])) []) ≡ set (padded none (itersOf es [])) (length es) (record { extent = v; stride = pos 0; axis = 0 })
+list-extent : (es : List ℕ) (v : ℕ) → length es < 8 → padded none (itersSaid (es ++ (v ∷ [])) []) ≡ set (padded none (itersSaid es [])) (length es) (record { extent = v; stride = pos 0; axis = 0 })
 list-extent es v h =
-    ap (λ (l : List Iter). padded none l) (iters-snoc es v) ∙ padded-snoc none (itersOf es []) (record { extent = v; stride = pos 0; axis = 0 }) (omega (arith, iters-length es []))
-    ∙ ap (λ (k : ℕ). set (padded none (itersOf es [])) k (record { extent = v; stride = pos 0; axis = 0 })) (iters-length es [])
+    ap (λ (l : List Iter). padded none l) (iters-snoc es v) ∙ padded-snoc none (itersSaid es []) (record { extent = v; stride = pos 0; axis = 0 }) (omega (arith, iters-length es []))
+    ∙ ap (λ (k : ℕ). set (padded none (itersSaid es [])) k (record { extent = v; stride = pos 0; axis = 0 })) (iters-length es [])
 
 marks-snoc : (ss : List Step) (t : Step) → length ss < 8 → padded false (map markOf (ss ++ (t ∷ []))) ≡ set (padded false (map markOf ss)) (length ss) (markOf t)
 marks-snoc ss t h =
@@ -82,9 +82,9 @@ marks-snoc ss t h =
     ap (λ (l : List Bool). padded false l) (map-append markOf ss (t ∷ [])) ∙ padded-snoc false (map markOf ss) (markOf t) (omega (arith, long))
     ∙ ap (λ (k : ℕ). set (padded false (map markOf ss)) k (markOf t)) long
 
-laid-snoc : (o : List ℤ) (ss : List Step) (t : Step) → laid o (ss ++ (t ∷ [])) ≡ set (laid o ss) (axisOf (t .place)) (valueOf t)
+laid-snoc : (o : List ℤ) (ss : List Step) (t : Step) → laid o (ss ++ (t ∷ [])) ≡ set (laid o ss) (axisMeant (t .place)) (valueOf t)
 laid-snoc o [] t = refl
-laid-snoc o (s ∷ ss) t = laid-snoc (set o (axisOf (s .place)) (valueOf s)) ss t
+laid-snoc o (s ∷ ss) t = laid-snoc (set o (axisMeant (s .place)) (valueOf s)) ss t
 
 -- what is known where an event happens
 abbrev StepFits : Part → Seen → Type 0
@@ -102,7 +102,7 @@ PartFits Offset s = said s .offsets ≡ []
 abbrev pub Fits : Event → Piece → Seen → Type 0
 Fits Same p s = Unit {0}
 Fits AnExtent p s = (s .steps ≡ []) × (length (s .extents) < 8)
-Fits (AStep place) p s = (p .value < 100000) × (axisOf place ≤ 7) × StepFits (s .part) s
+Fits (AStep place) p s = (p .value < 100000) × (axisMeant place ≤ 7) × StepFits (s .part) s
 Fits (APart part) p s = PartFits part s
 
 -- where the reader stands in the part after an event
@@ -110,7 +110,7 @@ pub spot-next : (e : Event) (p : Piece) (s : Seen) → spotOf (seeing e p s) ≡
 spot-next Same p s = refl
 spot-next AnExtent p s = ap (λ (k : ℕ). record { part = s .part; from = s .from; extents = k; steps = length (s .steps) }) (length-append (s .extents) (p .value ∷ []))
 spot-next (AStep place) p s =
-    ap (λ (k : ℕ). record { part = s .part; from = cond (inOffset (s .part)) (axisOf place + 1) (s .from); extents = length (s .extents); steps = k }) (length-append (s .steps) (stepOf p place ∷ []))
+    ap (λ (k : ℕ). record { part = s .part; from = cond (inOffset (s .part)) (axisMeant place + 1) (s .from); extents = length (s .extents); steps = k }) (length-append (s .steps) (stepOf p place ∷ []))
 spot-next (APart part) p s = refl
 
 abbrev with : Seen → Part → Seen
@@ -123,12 +123,12 @@ replicaLayout s i = record { shard = listOf (s .shard); marks = padded false (ma
 list-more : (s : Seen) (v : ℕ) → s .steps ≡ [] → length (s .extents) < 8
     → listOf (record { extents = s .extents ++ (v ∷ []); steps = s .steps }) ≡ extentAdded (listOf (here s)) (length (s .extents)) v
 list-more s v e h =
-    let at : padded none (itersOf (s .extents ++ (v ∷ [])) (s .steps)) ≡ set (padded none (itersOf (s .extents) (s .steps))) (length (s .extents)) (record { extent = v; stride = pos 0; axis = 0 })
+    let at : padded none (itersSaid (s .extents ++ (v ∷ [])) (s .steps)) ≡ set (padded none (itersSaid (s .extents) (s .steps))) (length (s .extents)) (record { extent = v; stride = pos 0; axis = 0 })
     = rw e (list-extent (s .extents) v h) in
     λ j. record { at = at j; count = length-append (s .extents) (v ∷ []) j }
 
 list-stepped : (s : Seen) (t : Step) → length (s .steps) < length (s .extents)
-    → listOf (record { extents = s .extents; steps = s .steps ++ (t ∷ []) }) ≡ stepAdded (listOf (here s)) (length (s .steps)) (valueOf t) (axisOf (t .place))
+    → listOf (record { extents = s .extents; steps = s .steps ++ (t ∷ []) }) ≡ stepAdded (listOf (here s)) (length (s .steps)) (valueOf t) (axisMeant (t .place))
 list-stepped s t h = ap (λ (l : List Iter). record { at = l; count = length (s .extents) }) (list-step (s .extents) (s .steps) t h)
 
 extent-image : (part : Part) (s : Seen) (v : ℕ) → s .steps ≡ [] → length (s .extents) < 8
@@ -175,16 +175,16 @@ module _ (p : Piece) (s : Seen) (b : ℕ) where
   step-fits Single i = list-fits Single i
   step-fits Offset i = omega (arith, rising-length 0 (s .steps) (s .from) (i .rising), i .low)
 
-  list-move-fits : (place : Place) → Fits (AStep place) p s → Fit (listMove place p (spotOf s) b)
+  list-move-fits : (place : NamedAxis) → Fits (AStep place) p s → Fit (listMove place p (spotOf s) b)
   list-move-fits place f =
       pick-both Fit (eqb b 44) (ltb (length (s .steps) + 1) (length (s .extents))) (λ _ _. f)
       (pick-both Fit (eqb b (cond (parens (s .part)) 41 93)) (eqb (length (s .steps) + 1) (length (s .extents))) (λ _ _. f) tt)
 
-  follow-fits : (part : Part) (place : Place) → Fits (AStep place) p s → Fit (follow part place p (spotOf s) b)
+  follow-fits : (part : Part) (place : NamedAxis) → Fits (AStep place) p s → Fit (follow part place p (spotOf s) b)
   follow-fits Shard place f = list-move-fits place f
   follow-fits Several place f = list-move-fits place f
   follow-fits Single place f = list-move-fits place f
-  follow-fits Offset place f = pick-both Fit (eqb b 43) (ltb (axisOf place) 7) (λ _ _. f) tt
+  follow-fits Offset place f = pick-both Fit (eqb b 43) (ltb (axisMeant place) 7) (λ _ _. f) tt
 
   size-fits : (x : List ℕ) → Shape Size p s x → Fits (AStep Bare) p s
   size-fits x i = (i .0 .0, omega arith, step-fits (s .part) (i .1 .before))
@@ -198,7 +198,7 @@ module _ (p : Piece) (s : Seen) (b : ℕ) where
       let f : Fits AnExtent p s = (i .1 .none, omega (arith, i .1 .room, most-8 (s .part))) in
       pick Fit (continues (p .value) (digitOf b)) (λ _. tt)
       (λ _. pick-both Fit (eqb b 44) (ltb (length (s .extents) + 1) (most (s .part))) (λ _ _. f)
-      (pick-both Fit (eqb b (cond (parens (s .part)) 41 58)) (leb (least (s .part)) (length (s .extents) + 1)) (λ _ _. f) tt))
+      (pick-both Fit (eqb b (cond (parens (s .part)) 41 58)) (leb (leastAxis (s .part)) (length (s .extents) + 1)) (λ _ _. f) tt))
   fits Begun x i = pick Fit (eqb b 45) (λ _. tt) (λ _. pick Fit (ltb (digitOf b) 10) (λ _. tt) (λ _. tt))
   fits Minus x i = pick-both Fit (leb 1 (digitOf b)) (ltb (digitOf b) 10) (λ _ _. tt) tt
   fits Size x i = pick Fit (continues (p .value) (digitOf b)) (λ _. tt) (λ _. pick Fit (eqb b 64) (λ _. tt) (λ _. follow-fits (s .part) Bare (size-fits x i)))
@@ -243,7 +243,7 @@ pub holds-start : Holds [] firstReader noLayout
 holds-start = record { stands = refl; holds = refl }
 
 -- a byte more
-pub record Goes (text : List ℕ) (m : Move) (s : Spot) (layout : Layout) : Type 0 where
+pub record Goes (text : List ℕ) (m : Move) (s : Stand) (layout : Layout) : Type 0 where
   pub next : Holds text (nextReader m s) (recorded (m .event) (m .piece) s layout)
 
 goes-state : (state : State) (t more : List ℕ) (b : ℕ) → Good state t → runs stepped start more ≡ stepped state b
@@ -254,7 +254,7 @@ goes-state state t more b g e =
     let f : Fits (m .event) (m .piece) (state .seen) = good-fits state t b g in
     record {
       next = record {
-        stands = ap (λ (q : Spot). record { phase = m .phase; owed = m .owed; piece = m .piece; spot = q }) (sym (spot-next (m .event) (m .piece) (state .seen))) ∙ ap readerOf (sym e);
+        stands = ap (λ (q : Stand). record { phase = m .phase; owed = m .owed; piece = m .piece; spot = q }) (sym (spot-next (m .event) (m .piece) (state .seen))) ∙ ap readerOf (sym e);
         holds = sym (image (m .event) (m .piece) (state .seen) f) ∙ ap (λ (q : State). layoutOf (said (q .seen))) (sym e);
       };
     }
@@ -301,7 +301,7 @@ answered-at-end text i e r layout h alive =
     (λ w. record { a = i; eighteen = refl; longest = subst⁻¹ (Refused Correct text) e (refused-at-end text r layout whole alive w); zeros = refl })
 
 -- an event that adds nothing leaves the layout
-pub unrecorded : (e : Event) (p : Piece) (s : Spot) (l : Layout) → adds e ≡ false → recorded e p s l ≡ l
+pub unrecorded : (e : Event) (p : Piece) (s : Stand) (l : Layout) → adds e ≡ false → recorded e p s l ≡ l
 unrecorded Same p s l n = refl
 unrecorded AnExtent p s l n = absurd (true≢false n)
 unrecorded (AStep place) p s l n = absurd (true≢false n)

@@ -19,7 +19,7 @@ use Rattle.notation.specs.Text.{Correct}
 use Rattle.notation.specs.Beginning.{Refused}
 use Rattle.notation.specs.Meaning.{layoutOf}
 use Rattle.notation.specs.Promise.{noLayout, Comes, Answered, readNumbers}
-use Rattle.notation.specs.Writing.{textOf, answerFor, writeAnswer, bytesAfter, writeNumbers}
+use Rattle.notation.specs.Writing.{textOf, answerFor, writtenAnswer, bytesAfter, writeNumbers}
 use Rattle.notation.specs.declared.Layout.{Layout}
 use Rattle.notation.specs.declared.Read.{Read}
 use Rattle.notation.specs.declared.Read.the-variants.{Done, Refused as NotRead}
@@ -84,7 +84,7 @@ writtenNumbers card lent =
     (cond (ltb lent (length (textOf card))) (answer 11 (length (textOf card)) 0 0)
     (answer 0 (length (textOf card)) 0 0))))
 
-pub write-in-numbers : (card : Card) (lent : ℕ) (r : Written) → r ≡ writeAnswer card lent → writeNumbers r ≡ writtenNumbers card lent
+pub write-in-numbers : (card : Card) (lent : ℕ) (r : Written) → r ≡ writtenAnswer card lent → writeNumbers r ≡ writtenNumbers card lent
 write-in-numbers card lent r e =
     ap writeNumbers e
     ∙ rung numbers (not (countsFit card)) refl

@@ -5,7 +5,7 @@ use mathlib.Core.Bool.{Bool, true, false, cond, _&&_, and-eq-true-iff}
 use mathlib.Core.List.{List, [], _∷_, _++_, append-nil, append-assoc, map}
 use native.Mathlib.Omega.{arith}
 use lib.ListN.{length}
-use Rattle.notation.specs.Text.{tails, joined, axisOf, spellStep, spellOffsets, Each, Rising}
+use Rattle.notation.specs.Text.{tails, joined, axisMeant, spellStep, spellOffsets, Each, Rising}
 use Rattle.notation.specs.declared.Step.{Step}
 
 -- a case of a test
@@ -52,15 +52,15 @@ pub each-append : {A : Type 0} (P : A → Type 0) (l m : List A) → Each P l �
 each-append P [] m e f = f
 each-append P (b ∷ l) m e f = (e .0, each-append P l m (e .1) f)
 
-pub rising-snoc : (from : ℕ) (ss : List Step) (end : ℕ) (s : Step) → Rising from ss end → end ≤ axisOf (s .place) → Rising from (ss ++ (s ∷ [])) (axisOf (s .place) + 1)
+pub rising-snoc : (from : ℕ) (ss : List Step) (end : ℕ) (s : Step) → Rising from ss end → end ≤ axisMeant (s .place) → Rising from (ss ++ (s ∷ [])) (axisMeant (s .place) + 1)
 rising-snoc from [] end s r h = (omega arith, omega arith)
-rising-snoc from (p ∷ ss) end s r h = (r .0, rising-snoc (axisOf (p .place) + 1) ss end s (r .1) h)
+rising-snoc from (p ∷ ss) end s r h = (r .0, rising-snoc (axisMeant (p .place) + 1) ss end s (r .1) h)
 
 pub rising-more : (from : ℕ) (ss : List Step) (end later : ℕ) → Rising from ss end → end ≤ later → Rising from ss later
 rising-more from [] end later r h = omega arith
-rising-more from (p ∷ ss) end later r h = (r .0, rising-more (axisOf (p .place) + 1) ss end later (r .1) h)
+rising-more from (p ∷ ss) end later r h = (r .0, rising-more (axisMeant (p .place) + 1) ss end later (r .1) h)
 
 -- no more axes than there are
 pub rising-length : (from : ℕ) (ss : List Step) (end : ℕ) → Rising from ss end → from + length ss ≤ end
 rising-length from [] end r = omega arith
-rising-length from (p ∷ ss) end r = omega (arith, rising-length (axisOf (p .place) + 1) ss end (r .1), r .0)
+rising-length from (p ∷ ss) end r = omega (arith, rising-length (axisMeant (p .place) + 1) ss end (r .1), r .0)

@@ -21,11 +21,11 @@ use Rattle.card.proofs.ReadBack.{OfEight}
 use Rattle.card.specs.declared.Iter.{Iter}
 use Rattle.card.specs.declared.Card.{Card}
 use Rattle.card.specs.declared.Admission.the-variants.{Admitted}
-use Rattle.notation.specs.Text.{digits, decimal, name, axisOf, spellPlace, spellSigned, spellStep, tails, joined, enclosed, Lists, spellLists, spellShard, several, spellSome, isNone, spellReplica, spellOffsets, Notation, spell, Each, Sound, Unmarked, Plain, Rising, Limits, Within, Correct}
+use Rattle.notation.specs.Text.{digits, decimal, name, axisMeant, spellPlace, spellSigned, spellStep, tails, joined, enclosed, Lists, spellLists, spellShard, several, spellSome, isNone, spellReplica, spellOffsets, Notation, spell, Each, Sound, NoStar, Plain, Rising, Limits, Within, Correct}
 use Rattle.notation.specs.Beginning.{Begins}
-use Rattle.notation.specs.Writing.{stepFor, stepsFor, written, textOf, writeAnswer, writeNumbers}
-use Rattle.notation.specs.declared.Place.{Place}
-use Rattle.notation.specs.declared.Place.the-variants.{Bare, At, Marked}
+use Rattle.notation.specs.Writing.{stepFor, stepsFor, writtenAs, textOf, writtenAnswer, writeNumbers}
+use Rattle.notation.specs.declared.NamedAxis.{NamedAxis}
+use Rattle.notation.specs.declared.NamedAxis.the-variants.{Bare, At, Marked}
 use Rattle.notation.specs.declared.Step.{Step}
 use Rattle.notation.specs.declared.Written.{Written}
 use Rattle.notation.proofs.Lists.{pick}
@@ -81,12 +81,12 @@ signed-length : (t : Bool) (n : ℕ) → length (spellSigned t n) ≤ 6
 signed-length true n = omega (arith, decimal-length n)
 signed-length false n = omega (arith, decimal-length n)
 
-place-length : (p : Place) → axisOf p ≤ 7 → length (spellPlace p) ≤ 8
+place-length : (p : NamedAxis) → axisMeant p ≤ 7 → length (spellPlace p) ≤ 8
 place-length Bare h = omega arith
 place-length (At axis) h = omega (arith, room-spent axis h .1)
 place-length (Marked axis) h = omega (arith, length-append (name axis) (42 ∷ []), room-spent axis h .1)
 
-plain-place : (p : Place) → Unmarked p → length (spellPlace p) ≤ length (name (axisOf p)) + 1
+plain-place : (p : NamedAxis) → NoStar p → length (spellPlace p) ≤ length (name (axisMeant p)) + 1
 plain-place Bare u = omega arith
 plain-place (At axis) u = omega arith
 plain-place (Marked axis) u = absurd u
@@ -131,7 +131,7 @@ lists-length most paren l same b =
 offsets-length : (from : ℕ) (ss : List Step) → Each Plain ss → Rising from ss 8 → length (spellOffsets ss) ≤ room from
 offsets-length from [] e r = omega arith
 offsets-length from (s ∷ ss) e r =
-    let axis = axisOf (s .place) in
+    let axis = axisMeant (s .place) in
     let same : from + (axis - from) ≡ axis = omega (arith, r .0) in
     let later : room axis ≤ room from = subst (λ (n : ℕ). room n ≤ room from) same (room-less from (axis - from)) in
     omega (
@@ -151,7 +151,7 @@ replica-length l w = pick (λ (t : List ℕ). length t ≤ 87) (isNone (l .exten
     paren = several (l .extents)
 
     plain : (s : Step) → Plain s → Brief spellStep 13 s
-    plain s p = omega (arith, step-length s, plain-place (s .place) (p .1), room-spent (axisOf (s .place)) (p .0 .2) .1)
+    plain s p = omega (arith, step-length s, plain-place (s .place) (p .1), room-spent (axisMeant (s .place)) (p .0 .2) .1)
 
     some : length (spellSome l) ≤ 87
     some =
@@ -216,11 +216,11 @@ module _ (card : Card) (eight : OfEight card) where
   written-length ok =
       let w = written-within card eight ok in
       let n = four-of (itersFit (card .shard)) (marksFit (marksOf card) (map strideOf (listed (card .shard)))) (itersFit (card .replica)) (all (withinZ leastStride mostStride) (card .offset)) (numbers card eight ok) in
-      spell-length 163 (written card) w
-      (omega (arith, lists-length 13 true (written card .shard) (w .shard .same) (strides-brief (marksOf card) (listed (card .shard)) (n .1) (w .shard .sound)), w .shard .few))
+      spell-length 163 (writtenAs card) w
+      (omega (arith, lists-length 13 true (writtenAs card .shard) (w .shard .same) (strides-brief (marksOf card) (listed (card .shard)) (n .1) (w .shard .sound)), w .shard .few))
 
   -- whoever lends 344 bytes is never answered 11
-  pub never-short : (lent : ℕ) → 344 ≤ lent → (r : Written) → r ≡ writeAnswer card lent → Not11 (writeNumbers r)
+  pub never-short : (lent : ℕ) → 344 ≤ lent → (r : Written) → r ≡ writtenAnswer card lent → Not11 (writeNumbers r)
   never-short lent room r e =
       rw (write-in-numbers card lent r e)
       (pick Not11 (not (countsFit card)) (λ _ n. absurd (omega (arith, n)))
@@ -243,6 +243,6 @@ longest =
       swizzle = record { m = 0; b = 0; s = 3 };
     }
 
-pub longest-written : (writeNumbers (writeAnswer longest 344) ≡ answer 0 344 0 0) × (writeNumbers (writeAnswer longest 343) ≡ answer 11 344 0 0)
+pub longest-written : (writeNumbers (writtenAnswer longest 344) ≡ answer 0 344 0 0) × (writeNumbers (writtenAnswer longest 343) ≡ answer 11 344 0 0)
 unfolding textOf decimal
 longest-written = (refl, refl)

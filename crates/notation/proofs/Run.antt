@@ -8,17 +8,17 @@ use native.Mathlib.Numerals.{add-one}
 use lib.Dec.{eqb}
 use lib.ListN.{length, getD, take}
 use lib.Seq.{take-suc, take-all}
-use Rattle.notation.specs.Text.{axisOf, spellStep, Notation, Within, Correct, spell, Plain}
+use Rattle.notation.specs.Text.{axisMeant, spellStep, Notation, Within, Correct, spell, Plain}
 use Rattle.notation.specs.Beginning.{Begins, Refused}
 use Rattle.notation.specs.Meaning.{layoutOf}
 use Rattle.notation.specs.Promise.{Accepted}
-use Rattle.notation.specs.Machine.{letter, stepOf, phaseMove, moved, isStuck, isWhole, inOffset, Seen, spotOf, said, withStep, State, at, enter, stepped, start, isEnd, ending, runs}
+use Rattle.notation.specs.Machine.{letter, stepOf, phaseMove, moved, isStuck, isWhole, inOffset, Seen, spotOf, said, withStep, State, stateAt, enter, stepped, start, isEnd, ending, runs}
 use Rattle.notation.specs.declared.Phase.{Phase}
 use Rattle.notation.specs.declared.Phase.the-variants.{First, Extent, Begun, Minus, Size, At, Tee, Named, Starred, Closed, Plus, Opened, Ended, Stuck}
 use Rattle.notation.specs.declared.Part.{Part}
 use Rattle.notation.specs.declared.Part.the-variants.{Shard, Several, Single, Offset}
-use Rattle.notation.specs.declared.Place.{Place}
-use Rattle.notation.specs.declared.Place.the-variants.{Bare, At as OnAxis}
+use Rattle.notation.specs.declared.NamedAxis.{NamedAxis}
+use Rattle.notation.specs.declared.NamedAxis.the-variants.{Bare, At as OnAxis}
 use Rattle.notation.specs.declared.Piece.{Piece}
 use Rattle.notation.specs.declared.Move.{Move}
 use Rattle.notation.proofs.Exact.{runs-append, refused-at, refused-whole}
@@ -101,7 +101,7 @@ is-offset Several e = absurd (false≢true e)
 is-offset Single e = absurd (false≢true e)
 is-offset Offset e = refl
 
-offset-says : (p : Piece) (s : Seen) (place : Place) (t : List ℕ) → inOffset (s .part) ≡ true → Before (s .part) s → Plain (stepOf p place) → s .from ≤ axisOf place
+offset-says : (p : Piece) (s : Seen) (place : NamedAxis) (t : List ℕ) → inOffset (s .part) ≡ true → Before (s .part) s → Plain (stepOf p place) → s .from ≤ axisMeant place
     → t ≡ front (s .part) s ++ spellStep (stepOf p place) → Within (said (withStep s (stepOf p place))) × (t ≡ spell (said (withStep s (stepOf p place))))
 unfolding offset-correct
 offset-says p s place t o before f low e =
@@ -111,7 +111,7 @@ offset-says p s place t o before f low e =
     let same : said (withStep s (stepOf p place)) ≡ c .says = offsets-said (s .part) (withStep s (stepOf p place)) o refl in
     (subst⁻¹ (λ (z : Notation). Within z) same (c .within), c .spelled ∙ ap spell (sym same))
 
-says : (q : Phase) (p : Piece) (s : Seen) (t : List ℕ) → isWhole q (s .part) ≡ true → Shape q p s t → Says (at q 0 p s) t
+says : (q : Phase) (p : Piece) (s : Seen) (t : List ℕ) → isWhole q (s .part) ≡ true → Shape q p s t → Says (stateAt q 0 p s) t
 unfolding closed-correct ended-correct
 says First p s t e i = absurd (false≢true e)
 says Extent p s t e i = absurd (false≢true e)

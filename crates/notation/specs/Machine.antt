@@ -8,7 +8,7 @@ use lib.ListN.{length, getD, set, replicate}
 use lib.IntN.{ℤ, pos}
 use Rattle.card.specs.Card.{none}
 use Rattle.card.specs.declared.Iters.{Iters}
-use Rattle.notation.specs.Text.{axisOf, Lists, Notation}
+use Rattle.notation.specs.Text.{axisMeant, Lists, Notation}
 use Rattle.notation.specs.Meaning.{valueOf, isMarked}
 use Rattle.notation.specs.Promise.{noLayout}
 use Rattle.answers.specs.declared.Refusal.the-variants.{Notation as NotCorrect}
@@ -19,11 +19,11 @@ use Rattle.notation.specs.declared.Phase.{Phase}
 use Rattle.notation.specs.declared.Phase.the-variants.{First, Extent, Begun, Minus, Size, At, Tee, Named, Starred, Closed, Plus, Opened, Ended, Stuck}
 use Rattle.notation.specs.declared.Part.{Part}
 use Rattle.notation.specs.declared.Part.the-variants.{Shard, Several, Single, Offset}
-use Rattle.notation.specs.declared.Place.{Place}
-use Rattle.notation.specs.declared.Place.the-variants.{Bare, At as OnAxis, Marked}
+use Rattle.notation.specs.declared.NamedAxis.{NamedAxis}
+use Rattle.notation.specs.declared.NamedAxis.the-variants.{Bare, At as OnAxis, Marked}
 use Rattle.notation.specs.declared.Step.{Step}
 use Rattle.notation.specs.declared.Piece.{Piece}
-use Rattle.notation.specs.declared.Spot.{Spot}
+use Rattle.notation.specs.declared.Stand.{Stand}
 use Rattle.notation.specs.declared.Event.{Event}
 use Rattle.notation.specs.declared.Event.the-variants.{Same, Extent as AnExtent, Step as AStep, Part as APart}
 use Rattle.notation.specs.declared.Move.{Move}
@@ -46,13 +46,13 @@ abbrev pub restOf : ℕ → ℕ
 restOf axis = cond (eqb axis 0) 1 (cond (eqb axis 1) 4 (cond (eqb axis 2) 10 0))
 
 -- words that have to follow, each up to a zero: id arpid aneid ane ol S[( :( ] [
-abbrev pub words : List ℕ
-words =
+abbrev pub wordsToFollow : List ℕ
+wordsToFollow =
     0 ∷ 105 ∷ 100 ∷ 0 ∷ 97 ∷ 114 ∷ 112 ∷ 105 ∷ 100 ∷ 0 ∷ 97 ∷ 110 ∷ 101 ∷ 105 ∷ 100 ∷ 0 ∷ 97 ∷ 110 ∷ 101 ∷ 0 ∷ 111 ∷ 108 ∷ 0 ∷
     83 ∷ 91 ∷ 40 ∷ 0 ∷ 58 ∷ 40 ∷ 0 ∷ 93 ∷ 0 ∷ 91 ∷ 0 ∷ replicate 30 0
 
 abbrev pub letter : ℕ → ℕ
-letter owed = getD words (owed % 64) 0
+letter owed = getD wordsToFollow (owed % 64) 0
 
 -- what a part of the text is like
 abbrev pub most : Part → ℕ
@@ -61,11 +61,11 @@ most Several = 4
 most Single = 1
 most Offset = 0
 
-abbrev pub least : Part → ℕ
-least Shard = 1
-least Several = 2
-least Single = 1
-least Offset = 1
+abbrev pub leastAxis : Part → ℕ
+leastAxis Shard = 1
+leastAxis Several = 2
+leastAxis Single = 1
+leastAxis Offset = 1
 
 abbrev pub parens : Part → Bool
 parens Shard = true
@@ -97,71 +97,71 @@ go phase owed piece event = record { phase = phase; owed = owed; piece = piece; 
 abbrev pub stuck : Piece → Move
 stuck piece = go Stuck 0 piece Same
 
-abbrev pub number : Piece → ℕ → Piece
-number p v = record { value = v; negative = p .negative; axis = p .axis }
+abbrev pub withNumber : Piece → ℕ → Piece
+withNumber p v = record { value = v; negative = p .negative; axis = p .axis }
 
-abbrev pub signed : Piece → Bool → Piece
-signed p n = record { value = p .value; negative = n; axis = p .axis }
+abbrev pub withSign : Piece → Bool → Piece
+withSign p n = record { value = p .value; negative = n; axis = p .axis }
 
-abbrev pub onAxis : Piece → ℕ → Piece
-onAxis p a = record { value = p .value; negative = p .negative; axis = a }
+abbrev pub withAxis : Piece → ℕ → Piece
+withAxis p a = record { value = p .value; negative = p .negative; axis = a }
 
-abbrev pub stepOf : Piece → Place → Step
+abbrev pub stepOf : Piece → NamedAxis → Step
 stepOf p place = record { negative = p .negative; size = p .value; place = place }
 
 abbrev pub firstMove : Piece → ℕ → Move
-firstMove p b = cond (ltb (digitOf b) 10) (go Extent 0 (number p (digitOf b)) Same) (stuck p)
+firstMove p b = cond (ltb (digitOf b) 10) (go Extent 0 (withNumber p (digitOf b)) Same) (stuck p)
 
-abbrev pub extentMove : Piece → Spot → ℕ → Move
+abbrev pub extentMove : Piece → Stand → ℕ → Move
 extentMove p s b =
-    cond (continues (p .value) (digitOf b)) (go Extent 0 (number p (p .value * 10 + digitOf b)) Same)
+    cond (continues (p .value) (digitOf b)) (go Extent 0 (withNumber p (p .value * 10 + digitOf b)) Same)
     (cond (eqb b 44 && ltb (s .extents + 1) (most (s .part))) (go First 0 p AnExtent)
-    (cond (eqb b (cond (parens (s .part)) 41 58) && leb (least (s .part)) (s .extents + 1)) (go Begun (cond (parens (s .part)) 27 0) p AnExtent)
+    (cond (eqb b (cond (parens (s .part)) 41 58) && leb (leastAxis (s .part)) (s .extents + 1)) (go Begun (cond (parens (s .part)) 27 0) p AnExtent)
     (stuck p)))
 
 abbrev pub begunMove : Event → Piece → ℕ → Move
 begunMove e p b =
-    cond (eqb b 45) (go Minus 0 (signed p true) e)
-    (cond (ltb (digitOf b) 10) (go Size 0 (signed (number p (digitOf b)) false) e) (stuck p))
+    cond (eqb b 45) (go Minus 0 (withSign p true) e)
+    (cond (ltb (digitOf b) 10) (go Size 0 (withSign (withNumber p (digitOf b)) false) e) (stuck p))
 
 abbrev pub minusMove : Piece → ℕ → Move
-minusMove p b = cond (leb 1 (digitOf b) && ltb (digitOf b) 10) (go Size 0 (number p (digitOf b)) Same) (stuck p)
+minusMove p b = cond (leb 1 (digitOf b) && ltb (digitOf b) 10) (go Size 0 (withNumber p (digitOf b)) Same) (stuck p)
 
 -- a byte after a stride or offset
-abbrev pub listMove : Place → Piece → Spot → ℕ → Move
+abbrev pub listMove : NamedAxis → Piece → Stand → ℕ → Move
 listMove place p s b =
     cond (eqb b 44 && ltb (s .steps + 1) (s .extents)) (go Begun 0 p (AStep place))
     (cond (eqb b (cond (parens (s .part)) 41 93) && eqb (s .steps + 1) (s .extents)) (go (after (s .part)) (cond (parens (s .part)) 30 0) p (AStep place))
     (stuck p))
 
-abbrev pub offsetMove : Place → Piece → ℕ → Move
-offsetMove place p b = cond (eqb b 43 && ltb (axisOf place) 7) (go Begun 0 p (AStep place)) (stuck p)
+abbrev pub offsetMove : NamedAxis → Piece → ℕ → Move
+offsetMove place p b = cond (eqb b 43 && ltb (axisMeant place) 7) (go Begun 0 p (AStep place)) (stuck p)
 
-abbrev pub follow : Part → Place → Piece → Spot → ℕ → Move
+abbrev pub follow : Part → NamedAxis → Piece → Stand → ℕ → Move
 follow Shard place p s b = listMove place p s b
 follow Several place p s b = listMove place p s b
 follow Single place p s b = listMove place p s b
 follow Offset place p s b = offsetMove place p b
 
-abbrev pub sizeMove : Piece → Spot → ℕ → Move
+abbrev pub sizeMove : Piece → Stand → ℕ → Move
 sizeMove p s b =
-    cond (continues (p .value) (digitOf b)) (go Size 0 (number p (p .value * 10 + digitOf b)) Same)
+    cond (continues (p .value) (digitOf b)) (go Size 0 (withNumber p (p .value * 10 + digitOf b)) Same)
     (cond (eqb b 64) (go At 0 p Same) (follow (s .part) Bare p s b))
 
-abbrev pub atMove : Piece → Spot → ℕ → Move
+abbrev pub atMove : Piece → Stand → ℕ → Move
 atMove p s b =
     cond (eqb b 84 && leb (s .from) 6) (go Tee 0 p Same)
-    (cond (ltb (initialOf b) 8 && leb (s .from) (initialOf b)) (go Named (restOf (initialOf b)) (onAxis p (initialOf b)) Same) (stuck p))
+    (cond (ltb (initialOf b) 8 && leb (s .from) (initialOf b)) (go Named (restOf (initialOf b)) (withAxis p (initialOf b)) Same) (stuck p))
 
-abbrev pub teeMove : Piece → Spot → ℕ → Move
+abbrev pub teeMove : Piece → Stand → ℕ → Move
 teeMove p s b =
-    cond (eqb b 67) (go Named 20 (onAxis p 6) Same)
-    (cond (eqb b 76 && leb (s .from) 5) (go Named 16 (onAxis p 5) Same) (stuck p))
+    cond (eqb b 67) (go Named 20 (withAxis p 6) Same)
+    (cond (eqb b 76 && leb (s .from) 5) (go Named 16 (withAxis p 5) Same) (stuck p))
 
-abbrev pub namedMove : Piece → Spot → ℕ → Move
+abbrev pub namedMove : Piece → Stand → ℕ → Move
 namedMove p s b = cond (eqb b 42 && isShard (s .part)) (go Starred 0 p Same) (follow (s .part) (OnAxis (p .axis)) p s b)
 
-abbrev pub starredMove : Piece → Spot → ℕ → Move
+abbrev pub starredMove : Piece → Stand → ℕ → Move
 starredMove p s b = follow (s .part) (Marked (p .axis)) p s b
 
 abbrev pub closedMove : Piece → ℕ → Move
@@ -173,12 +173,12 @@ plusMove p b = cond (eqb b 82) (go Opened 32 p Same) (begunMove (APart Offset) p
 abbrev pub openedMove : Piece → ℕ → Move
 openedMove p b =
     cond (eqb b 40) (go First 0 p (APart Several))
-    (cond (ltb (digitOf b) 10) (go Extent 0 (number p (digitOf b)) (APart Single)) (stuck p))
+    (cond (ltb (digitOf b) 10) (go Extent 0 (withNumber p (digitOf b)) (APart Single)) (stuck p))
 
 abbrev pub endedMove : Piece → ℕ → Move
 endedMove p b = cond (eqb b 43) (go Begun 0 p (APart Offset)) (stuck p)
 
-abbrev pub phaseMove : Phase → Piece → Spot → ℕ → Move
+abbrev pub phaseMove : Phase → Piece → Stand → ℕ → Move
 phaseMove First p s b = firstMove p b
 phaseMove Extent p s b = extentMove p s b
 phaseMove Begun p s b = begunMove Same p b
@@ -195,7 +195,7 @@ phaseMove Ended p s b = endedMove p b
 phaseMove Stuck p s b = stuck p
 
 -- bytes that are owed come first
-unfoldable pub moved : Phase → ℕ → Piece → Spot → ℕ → Move
+unfoldable pub moved : Phase → ℕ → Piece → Stand → ℕ → Move
 moved phase owed p s b =
     cond (eqb (letter owed) 0) (phaseMove phase p s b)
     (cond (eqb b (letter owed)) (go phase (owed % 64 + 1) p Same) (stuck p))
@@ -204,10 +204,10 @@ abbrev pub moveOf : Reader → ℕ → Move
 moveOf r b = moved (r .phase) (r .owed) (r .piece) (r .spot) b
 
 -- where the reader stands in the part after an event
-abbrev pub nextSpot : Event → Spot → Spot
+abbrev pub nextSpot : Event → Stand → Stand
 nextSpot Same s = s
 nextSpot AnExtent s = record { part = s .part; from = s .from; extents = s .extents + 1; steps = s .steps }
-nextSpot (AStep place) s = record { part = s .part; from = cond (inOffset (s .part)) (axisOf place + 1) (s .from); extents = s .extents; steps = s .steps + 1 }
+nextSpot (AStep place) s = record { part = s .part; from = cond (inOffset (s .part)) (axisMeant place + 1) (s .from); extents = s .extents; steps = s .steps + 1 }
 nextSpot (APart part) s = record { part = part; from = 0; extents = 0; steps = 0 }
 
 abbrev pub noPiece : Piece
@@ -280,12 +280,12 @@ addExtent Single k v l = record { shard = l .shard; marks = l .marks; replica = 
 addExtent Offset k v l = l
 
 abbrev pub addStep : Part → ℕ → Step → Layout → Layout
-addStep Shard k t l = record { shard = stepAdded (l .shard) k (valueOf t) (axisOf (t .place)); marks = set (l .marks) k (isMarked (t .place)); replica = l .replica; offset = l .offset }
-addStep Several k t l = record { shard = l .shard; marks = l .marks; replica = stepAdded (l .replica) k (valueOf t) (axisOf (t .place)); offset = l .offset }
-addStep Single k t l = record { shard = l .shard; marks = l .marks; replica = stepAdded (l .replica) k (valueOf t) (axisOf (t .place)); offset = l .offset }
-addStep Offset k t l = record { shard = l .shard; marks = l .marks; replica = l .replica; offset = set (l .offset) (axisOf (t .place)) (valueOf t) }
+addStep Shard k t l = record { shard = stepAdded (l .shard) k (valueOf t) (axisMeant (t .place)); marks = set (l .marks) k (isMarked (t .place)); replica = l .replica; offset = l .offset }
+addStep Several k t l = record { shard = l .shard; marks = l .marks; replica = stepAdded (l .replica) k (valueOf t) (axisMeant (t .place)); offset = l .offset }
+addStep Single k t l = record { shard = l .shard; marks = l .marks; replica = stepAdded (l .replica) k (valueOf t) (axisMeant (t .place)); offset = l .offset }
+addStep Offset k t l = record { shard = l .shard; marks = l .marks; replica = l .replica; offset = set (l .offset) (axisMeant (t .place)) (valueOf t) }
 
-abbrev pub recorded : Event → Piece → Spot → Layout → Layout
+abbrev pub recorded : Event → Piece → Stand → Layout → Layout
 recorded Same p s l = l
 recorded AnExtent p s l = addExtent (s .part) (s .extents) (p .value) l
 recorded (AStep place) p s l = addStep (s .part) (s .steps) (stepOf p place) l
@@ -315,7 +315,7 @@ pub record Seen : Type 0 where
   pub shard : Lists
   pub replica : Lists
 
-abbrev pub spotOf : Seen → Spot
+abbrev pub spotOf : Seen → Stand
 spotOf s = record { part = s .part; from = s .from; extents = length (s .extents); steps = length (s .steps) }
 
 abbrev pub noLists : Lists
@@ -338,7 +338,7 @@ abbrev pub withExtent : Seen → ℕ → Seen
 withExtent s v = record { part = s .part; from = s .from; extents = s .extents ++ (v ∷ []); steps = s .steps; shard = s .shard; replica = s .replica }
 
 abbrev pub withStep : Seen → Step → Seen
-withStep s t = record { part = s .part; from = cond (inOffset (s .part)) (axisOf (t .place) + 1) (s .from); extents = s .extents; steps = s .steps ++ (t ∷ []); shard = s .shard; replica = s .replica }
+withStep s t = record { part = s .part; from = cond (inOffset (s .part)) (axisMeant (t .place) + 1) (s .from); extents = s .extents; steps = s .steps ++ (t ∷ []); shard = s .shard; replica = s .replica }
 
 abbrev pub asPart : Seen → Part → Seen
 asPart s part = record { part = part; from = 0; extents = []; steps = []; shard = said s .shard; replica = said s .replica }
@@ -355,14 +355,14 @@ pub record State : Type 0 where
   pub piece : Piece
   pub seen : Seen
 
-abbrev pub at : Phase → ℕ → Piece → Seen → State
-at phase owed piece seen = record { phase = phase; owed = owed; piece = piece; seen = seen }
+abbrev pub stateAt : Phase → ℕ → Piece → Seen → State
+stateAt phase owed piece seen = record { phase = phase; owed = owed; piece = piece; seen = seen }
 
 abbrev pub readerOf : State → Reader
 readerOf r = record { phase = r .phase; owed = r .owed; piece = r .piece; spot = spotOf (r .seen) }
 
 abbrev pub enter : Seen → Move → State
-enter s m = at (m .phase) (m .owed) (m .piece) (seeing (m .event) (m .piece) s)
+enter s m = stateAt (m .phase) (m .owed) (m .piece) (seeing (m .event) (m .piece) s)
 
 unfoldable pub stepped : State → ℕ → State
 stepped r b = enter (r .seen) (moved (r .phase) (r .owed) (r .piece) (spotOf (r .seen)) b)
@@ -371,11 +371,11 @@ stepped r b = enter (r .seen) (moved (r .phase) (r .owed) (r .piece) (spotOf (r 
 abbrev pub firstReader : Reader
 firstReader = record { phase = First; owed = 23; piece = noPiece; spot = record { part = Shard; from = 0; extents = 0; steps = 0 } }
 
-abbrev pub nextReader : Move → Spot → Reader
+abbrev pub nextReader : Move → Stand → Reader
 nextReader m s = record { phase = m .phase; owed = m .owed; piece = m .piece; spot = nextSpot (m .event) s }
 
 abbrev pub start : State
-start = at First 23 noPiece (record { part = Shard; from = 0; extents = []; steps = []; shard = noLists; replica = noLists })
+start = stateAt First 23 noPiece (record { part = Shard; from = 0; extents = []; steps = []; shard = noLists; replica = noLists })
 
 abbrev pub runs : {S : Type 0} → (S → ℕ → S) → S → List ℕ → S
 runs step s [] = s

@@ -8,9 +8,9 @@ use Rattle.card.specs.Lists.{padded}
 use Rattle.card.specs.Card.{none}
 use Rattle.card.specs.declared.Iter.{Iter}
 use Rattle.card.specs.declared.Iters.{Iters}
-use Rattle.notation.specs.Text.{axisOf, Lists, Notation}
-use Rattle.notation.specs.declared.Place.{Place}
-use Rattle.notation.specs.declared.Place.the-variants.{Bare, At, Marked}
+use Rattle.notation.specs.Text.{axisMeant, Lists, Notation}
+use Rattle.notation.specs.declared.NamedAxis.{NamedAxis}
+use Rattle.notation.specs.declared.NamedAxis.the-variants.{Bare, At, Marked}
 use Rattle.notation.specs.declared.Step.{Step}
 use Rattle.notation.specs.declared.Layout.{Layout}
 
@@ -18,18 +18,18 @@ use Rattle.notation.specs.declared.Layout.{Layout}
 abbrev pub valueOf : Step → ℤ
 valueOf s = cond (s .negative) (negℤ (pos (s .size))) (pos (s .size))
 
-abbrev pub isMarked : Place → Bool
+abbrev pub isMarked : NamedAxis → Bool
 isMarked Bare = false
 isMarked (At axis) = false
 isMarked (Marked axis) = true
 
-abbrev pub itersOf : List ℕ → List Step → List Iter
-itersOf [] steps = []
-itersOf (e ∷ es) [] = record { extent = e; stride = pos 0; axis = 0 } ∷ itersOf es []
-itersOf (e ∷ es) (s ∷ ss) = record { extent = e; stride = valueOf s; axis = axisOf (s .place) } ∷ itersOf es ss
+abbrev pub itersSaid : List ℕ → List Step → List Iter
+itersSaid [] steps = []
+itersSaid (e ∷ es) [] = record { extent = e; stride = pos 0; axis = 0 } ∷ itersSaid es []
+itersSaid (e ∷ es) (s ∷ ss) = record { extent = e; stride = valueOf s; axis = axisMeant (s .place) } ∷ itersSaid es ss
 
 abbrev pub listOf : Lists → Iters
-listOf l = record { at = padded none (itersOf (l .extents) (l .steps)); count = length (l .extents) }
+listOf l = record { at = padded none (itersSaid (l .extents) (l .steps)); count = length (l .extents) }
 
 abbrev pub markOf : Step → Bool
 markOf s = isMarked (s .place)
@@ -37,7 +37,7 @@ markOf s = isMarked (s .place)
 -- each offset stands at its axis
 abbrev pub laid : List ℤ → List Step → List ℤ
 laid offset [] = offset
-laid offset (s ∷ ss) = laid (set offset (axisOf (s .place)) (valueOf s)) ss
+laid offset (s ∷ ss) = laid (set offset (axisMeant (s .place)) (valueOf s)) ss
 
 abbrev pub noOffset : List ℤ
 noOffset = replicate 8 (pos 0)

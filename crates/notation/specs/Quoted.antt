@@ -4,6 +4,6 @@ use Prim.Native.Char.{code}
 use Prim.Native.String.{String, [] as none, _∷_ as _then_}
 use mathlib.Core.List.{List, [], _∷_}
 
-abbrev pub bytes : String → List ℕ
-bytes none = []
-bytes (c then s) = code c ∷ bytes s
+abbrev pub quotedBytes : String → List ℕ
+quotedBytes none = []
+quotedBytes (c then s) = code c ∷ quotedBytes s

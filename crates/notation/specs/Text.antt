@@ -5,9 +5,9 @@ use mathlib.Core.Bool.{Bool, true, false, cond}
 use mathlib.Core.List.{List, [], _∷_, _++_, map}
 use lib.Dec.{ltb}
 use lib.ListN.{length, getD}
-use Rattle.notation.specs.Quoted.{bytes}
-use Rattle.notation.specs.declared.Place.{Place}
-use Rattle.notation.specs.declared.Place.the-variants.{Bare, At, Marked}
+use Rattle.notation.specs.Quoted.{quotedBytes}
+use Rattle.notation.specs.declared.NamedAxis.{NamedAxis}
+use Rattle.notation.specs.declared.NamedAxis.the-variants.{Bare, At, Marked}
 use Rattle.notation.specs.declared.Step.{Step}
 
 -- a number in decimal, in at most so many digits
@@ -20,26 +20,26 @@ decimal n = digits 5 n
 
 -- pid, warpid, laneid, P, F, TLane, TCol, m
 abbrev pub names : List (List ℕ)
-names = map bytes ("pid" ∷ "warpid" ∷ "laneid" ∷ "P" ∷ "F" ∷ "TLane" ∷ "TCol" ∷ "m" ∷ [])
+names = map quotedBytes ("pid" ∷ "warpid" ∷ "laneid" ∷ "P" ∷ "F" ∷ "TLane" ∷ "TCol" ∷ "m" ∷ [])
 
 abbrev pub name : ℕ → List ℕ
 name axis = getD names axis []
 
 -- a missing axis means m
-abbrev pub axisOf : Place → ℕ
-axisOf Bare = 7
-axisOf (At axis) = axis
-axisOf (Marked axis) = axis
+abbrev pub axisMeant : NamedAxis → ℕ
+axisMeant Bare = 7
+axisMeant (At axis) = axis
+axisMeant (Marked axis) = axis
 
 -- nothing, `@` and the name, or these and a star
-abbrev pub spellPlace : Place → List ℕ
+abbrev pub spellPlace : NamedAxis → List ℕ
 spellPlace Bare = []
-spellPlace (At axis) = bytes "@" ++ name axis
-spellPlace (Marked axis) = bytes "@" ++ (name axis ++ bytes "*")
+spellPlace (At axis) = quotedBytes "@" ++ name axis
+spellPlace (Marked axis) = quotedBytes "@" ++ (name axis ++ quotedBytes "*")
 
 -- a minus or nothing, the number, and the place
 abbrev pub spellSigned : Bool → ℕ → List ℕ
-spellSigned negative size = cond negative (bytes "-") [] ++ decimal size
+spellSigned negative size = cond negative (quotedBytes "-") [] ++ decimal size
 
 abbrev pub spellStep : Step → List ℕ
 spellStep s = spellSigned (s .negative) (s .size) ++ spellPlace (s .place)
@@ -47,21 +47,21 @@ spellStep s = spellSigned (s .negative) (s .size) ++ spellPlace (s .place)
 -- parted by commas
 abbrev pub tails : List (List ℕ) → List ℕ
 tails [] = []
-tails (t ∷ ts) = bytes "," ++ (t ++ tails ts)
+tails (t ∷ ts) = quotedBytes "," ++ (t ++ tails ts)
 
 abbrev pub joined : List (List ℕ) → List ℕ
 joined [] = []
 joined (t ∷ ts) = t ++ tails ts
 
 -- with parentheses or without
-abbrev pub opening : Bool → List ℕ
-opening paren = cond paren (bytes "(") []
+abbrev pub openingBytes : Bool → List ℕ
+openingBytes paren = cond paren (quotedBytes "(") []
 
 abbrev pub closing : Bool → List ℕ
-closing paren = cond paren (bytes ")") []
+closing paren = cond paren (quotedBytes ")") []
 
 abbrev pub enclosed : Bool → List (List ℕ) → List ℕ
-enclosed paren ts = opening paren ++ (joined ts ++ closing paren)
+enclosed paren ts = openingBytes paren ++ (joined ts ++ closing paren)
 
 -- extents, `:`, strides
 pub record Lists : Type 0 where
@@ -69,11 +69,11 @@ pub record Lists : Type 0 where
   pub steps : List Step
 
 abbrev pub spellLists : Bool → Lists → List ℕ
-spellLists paren l = enclosed paren (map decimal (l .extents)) ++ (bytes ":" ++ enclosed paren (map spellStep (l .steps)))
+spellLists paren l = enclosed paren (map decimal (l .extents)) ++ (quotedBytes ":" ++ enclosed paren (map spellStep (l .steps)))
 
 -- S[..]
 abbrev pub spellShard : Lists → List ℕ
-spellShard l = bytes "S[" ++ (spellLists true l ++ bytes "]")
+spellShard l = quotedBytes "S[" ++ (spellLists true l ++ quotedBytes "]")
 
 -- nothing, or +R[..]: a single iter is bare
 abbrev pub several : List ℕ → Bool
@@ -82,7 +82,7 @@ several (e ∷ []) = false
 several (e ∷ f ∷ es) = true
 
 abbrev pub spellSome : Lists → List ℕ
-spellSome l = bytes "+R[" ++ (spellLists (several (l .extents)) l ++ bytes "]")
+spellSome l = quotedBytes "+R[" ++ (spellLists (several (l .extents)) l ++ quotedBytes "]")
 
 abbrev pub isNone : List ℕ → Bool
 isNone [] = true
@@ -94,7 +94,7 @@ spellReplica l = cond (isNone (l .extents)) [] (spellSome l)
 -- each after a `+`
 abbrev pub spellOffsets : List Step → List ℕ
 spellOffsets [] = []
-spellOffsets (s ∷ ss) = (bytes "+" ++ spellStep s) ++ spellOffsets ss
+spellOffsets (s ∷ ss) = (quotedBytes "+" ++ spellStep s) ++ spellOffsets ss
 
 -- what a text says
 pub record Notation : Type 0 where
@@ -114,20 +114,20 @@ Each P [] = Unit {0}
 Each P (a ∷ l) = P a × Each P l
 
 abbrev pub Sound : Step → Type 0
-Sound s = Short (s .size) × (s .negative ≡ true → 1 ≤ s .size) × (axisOf (s .place) ≤ 7)
+Sound s = Short (s .size) × (s .negative ≡ true → 1 ≤ s .size) × (axisMeant (s .place) ≤ 7)
 
-abbrev pub Unmarked : Place → Type 0
-Unmarked Bare = Unit {0}
-Unmarked (At axis) = Unit {0}
-Unmarked (Marked axis) = ⊥
+abbrev pub NoStar : NamedAxis → Type 0
+NoStar Bare = Unit {0}
+NoStar (At axis) = Unit {0}
+NoStar (Marked axis) = ⊥
 
 abbrev pub Plain : Step → Type 0
-Plain s = Sound s × Unmarked (s .place)
+Plain s = Sound s × NoStar (s .place)
 
 -- the axes rise
 abbrev pub Rising : ℕ → List Step → ℕ → Type 0
 Rising from [] end = from ≤ end
-Rising from (s ∷ ss) end = (from ≤ axisOf (s .place)) × Rising (axisOf (s .place) + 1) ss end
+Rising from (s ∷ ss) end = (from ≤ axisMeant (s .place)) × Rising (axisMeant (s .place) + 1) ss end
 
 -- both lists equally long, at most so many
 pub record Limits (most : ℕ) (P : Step → Type 0) (l : Lists) : Type 0 where

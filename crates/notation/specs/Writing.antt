@@ -16,8 +16,8 @@ use Rattle.card.specs.declared.Card.{Card}
 use Rattle.card.specs.declared.Admission.{Admission}
 use Rattle.card.specs.declared.Admission.the-variants.{Admitted, Refused}
 use Rattle.notation.specs.Text.{Lists, Notation, spell}
-use Rattle.notation.specs.declared.Place.{Place}
-use Rattle.notation.specs.declared.Place.the-variants.{At, Marked}
+use Rattle.notation.specs.declared.NamedAxis.{NamedAxis}
+use Rattle.notation.specs.declared.NamedAxis.the-variants.{At, Marked}
 use Rattle.notation.specs.declared.Step.{Step}
 use Rattle.notation.specs.declared.Layout.{Layout}
 use Rattle.notation.specs.declared.Written.{Written}
@@ -48,19 +48,19 @@ noMarks = replicate 8 false
 abbrev pub listsFor : List Bool → Iters → Lists
 listsFor marks iters = record { extents = map extentOf (listed iters); steps = stepsFor marks (listed iters) }
 
-abbrev pub written : Card → Notation
-written card = record { shard = listsFor (marksOf card) (card .shard); replica = listsFor noMarks (card .replica); offsets = offsetsFrom 0 (card .offset) }
+abbrev pub writtenAs : Card → Notation
+writtenAs card = record { shard = listsFor (marksOf card) (card .shard); replica = listsFor noMarks (card .replica); offsets = offsetsFrom 0 (card .offset) }
 
 unfoldable pub textOf : Card → List ℕ
-textOf card = spell (written card)
+textOf card = spell (writtenAs card)
 
 -- writing refuses by checks 1 to 3, then 11 with the length needed; at 0 it gives the length
 abbrev pub answerFor : Admission → ℕ → ℕ → Written
 answerFor Admitted needed lent = cond (ltb lent needed) (NotWritten (TooShort needed)) (Length needed)
 answerFor (Refused refusal) needed lent = NotWritten refusal
 
-abbrev pub writeAnswer : Card → ℕ → Written
-writeAnswer card lent = answerFor (fieldChecks card Admitted) (length (textOf card)) lent
+abbrev pub writtenAnswer : Card → ℕ → Written
+writtenAnswer card lent = answerFor (fieldChecks card Admitted) (length (textOf card)) lent
 
 -- the lent bytes: refused they are untouched, and at 0 those past the text stay
 abbrev pub bytesAfter : Written → Card → List ℕ → List ℕ

@@ -4,7 +4,7 @@ use answers::Refusal;
 use card::Iters;
 
 // What follows the number of a stride or an offset: nothing, an axis, or an axis and a star.
-pub enum Place {
+pub enum NamedAxis {
     Bare,
     At(u64),
     Marked(u64),
@@ -14,7 +14,7 @@ pub enum Place {
 pub struct Step {
     pub negative: bool,
     pub size: u64,
-    pub place: Place,
+    pub place: NamedAxis,
 }
 
 // What a text of the notation gives of a card: all but the lengths and the swizzle.
@@ -77,7 +77,7 @@ pub struct Piece {
 }
 
 // How far the part has been read: the least axis that may follow, its extents, and its strides or offsets.
-pub struct Spot {
+pub struct Stand {
     pub part: Part,
     pub from: u64,
     pub extents: usize,
@@ -88,7 +88,7 @@ pub struct Spot {
 pub enum Event {
     Same,
     Extent,
-    Step(Place),
+    Step(NamedAxis),
     Part(Part),
 }
 
@@ -105,5 +105,5 @@ pub struct Reader {
     pub phase: Phase,
     pub owed: usize,
     pub piece: Piece,
-    pub spot: Spot,
+    pub spot: Stand,
 }

@@ -13,13 +13,13 @@ use Rattle.card.specs.Limits.{lastAxis}
 use Rattle.card.specs.Card.{elements}
 use Rattle.card.specs.Packed.{beyond, cardOf, Admits}
 use Rattle.card.proofs.Admitted.{Sized, sized}
-use Rattle.linear.specs.Leaving.{Sought, Leaves}
-use Rattle.reach.specs.Contracts.{blocksOf}
-use Rattle.reach.proofs.Packed.{length-at, spaced}
-use Rattle.extremes.specs.Straying.{Strays, beyondEnd}
-use Rattle.extremes.specs.Contracts.{Ended as EndedOn}
-use Rattle.extremes.proofs.Straying.{none-over, first-astray}
-use Rattle.doubt.specs.Contracts.{Between}
+use Rattle.rules_linear.specs.Leaving.{Sought, Leaves}
+use Rattle.outside_ends.specs.Contracts.{blocksOf}
+use Rattle.outside_ends.proofs.Packed.{length-at, spaced}
+use Rattle.outside_axis.specs.Straying.{Strays, beyondEnd}
+use Rattle.outside_axis.specs.Contracts.{AxisEnded as EndedOn}
+use Rattle.outside_axis.proofs.Straying.{none-over, first-astray}
+use Rattle.outside_swizzled.specs.Contracts.{NoneLeaving}
 use Rattle.outside.specs.Outside.{Ended}
 use Rattle.outside.proofs.Words.{strays-leaves, strays-leaves-m, leaves-strays}
 
@@ -50,7 +50,7 @@ module _ {numbers : List ℕ} {strides low high : List ℤ} (e : Ended numbers s
 
   -- and on m none leaves before the first that strays from the whole blocks
   pub none-before : (from limit : ℕ) → limit ≤ elements (cardOf numbers strides)
-      → Sought (Strays (cardOf numbers strides) lastAxis (blocksOf numbers)) (elements (cardOf numbers strides)) from → Between numbers strides from limit
+      → Sought (Strays (cardOf numbers strides) lastAxis (blocksOf numbers)) (elements (cardOf numbers strides)) from → NoneLeaving numbers strides from limit
   none-before from limit few s = record {
     most = few;
     none-before = λ f h l.

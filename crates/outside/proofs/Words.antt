@@ -18,12 +18,12 @@ use Rattle.rules.specs.declared.Spot.{Spot}
 use Rattle.rules.specs.declared.Spot.the-variants.{Inside, Outside}
 use Rattle.rules.proofs.Theorems.{coordinate-at}
 use Rattle.rules.proofs.Whole.{Lies, on-every-axis, off-smallest-axis}
-use Rattle.linear.specs.Leaving.{Sought, Leaves}
-use Rattle.linear.proofs.Leaving.{sought-alike}
+use Rattle.rules_linear.specs.Leaving.{Sought, Leaves}
+use Rattle.rules_linear.proofs.Leaving.{sought-alike}
 use Rattle.judgement.specs.Judgement.{LiesInside, AllInside, FirstOutside}
-use Rattle.reach.specs.Ends.{wholeBlocks}
-use Rattle.reach.proofs.Inside.{blocks-kept, blocks-back}
-use Rattle.extremes.specs.Straying.{Strays}
+use Rattle.outside_ends.specs.Ends.{wholeBlocks}
+use Rattle.outside_ends.proofs.Inside.{blocks-kept, blocks-back}
+use Rattle.outside_axis.specs.Straying.{Strays}
 use Rattle.outside.specs.Outside.{FirstWord}
 
 -- on an axis other than m an element leaves exactly where it strays from the length

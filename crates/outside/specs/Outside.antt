@@ -6,16 +6,16 @@ use lib.IntN.{ℤ}
 use Rattle.card.specs.Card.{elements}
 use Rattle.card.specs.Packed.{cardOf, Admits}
 use Rattle.card.specs.declared.Card.{Card}
-use Rattle.linear.specs.Leaving.{Leaves}
+use Rattle.rules_linear.specs.Leaving.{Leaves}
 use Rattle.judgement.specs.Judgement.{AllInside, FirstOutside}
-use Rattle.reach.specs.Contracts.{EndSums}
+use Rattle.outside_ends.specs.Contracts.{EndSums}
 use Rattle.outside.specs.declared.Search.{Search}
 use Rattle.outside.specs.declared.Search.the-variants.{Outside, NoneOutside}
 
 -- what a search for the first element outside finds
-abbrev pub Finds : Card → Search → Type 0
-Finds card (Outside flat axis) = FirstOutside card (flat .0) axis
-Finds card NoneOutside = AllInside card
+abbrev pub FindsOutside : Card → Search → Type 0
+FindsOutside card (Outside flat axis) = FirstOutside card (flat .0) axis
+FindsOutside card NoneOutside = AllInside card
 
 -- an element and one of eight axes as one number, the smallest of those that leave on the first so many axes: the first element, and then its smallest
 -- axis; where none leaves, past all elements

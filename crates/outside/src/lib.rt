@@ -4,9 +4,9 @@ ghost use Prim.Native.Nat.{_+_, _<_};
 ghost use lib.ListN.{getD};
 ghost use Rattle.card.specs.Card.{elements};
 ghost use Rattle.card.specs.Packed.{cardOf, Admits};
-ghost use Rattle.linear.specs.Leaving.{Sought, Leaves};
-ghost use Rattle.extremes.specs.Contracts.{Ended as EndedOn};
-ghost use Rattle.outside.specs.Outside.{Finds, FirstWord, Ended};
+ghost use Rattle.rules_linear.specs.Leaving.{Sought, Leaves};
+ghost use Rattle.outside_axis.specs.Contracts.{AxisEnded as EndedOn};
+ghost use Rattle.outside.specs.Outside.{FindsOutside, FirstWord, Ended};
 
 // What a search for the first element outside finds.
 pub enum Search {
@@ -27,7 +27,7 @@ fn first_on_axis(numbers: &[u64; 56], strides: &[i64; 24], axis: usize, low: i64
     if (0 <= low) & (high < length as i64) {
         return Flat(numbers[card::ELEMENTS]);
     }
-    extremes::first_astray(numbers, strides, axis as u64, length, low, high)
+    outside_axis::first_astray(numbers, strides, axis as u64, length, low, high)
 }
 
 // The first element that leaves on an axis other than m, and the smallest such axis for it, as one number.
@@ -39,7 +39,7 @@ fn first_on_axes(numbers: &[u64; 56], strides: &[i64; 24], low: &[i64; 8], high:
     let mut axis: usize = 0;
     while axis < M {
         let flat = first_on_axis(numbers, strides, axis, low[axis], high[axis]);
-        word = extremes::smaller(word, copies::AXES * flat.0 + axis as u64);
+        word = outside_axis::smaller(word, copies::AXES * flat.0 + axis as u64);
         axis += 1;
     }
     word
@@ -52,25 +52,32 @@ fn first_of_all(numbers: &[u64; 56], strides: &[i64; 24], low: &[i64; 8], high: 
     ensures { λ r. ⌜ FirstWord (cardOf (now (numbers .entry)) (now (strides .entry))) 8 r ⌝ }
 {
     let word = first_on_axes(numbers, strides, low, high);
-    let whole = reach::whole_blocks(numbers);
-    let from = extremes::first_astray(numbers, strides, card::LAST_AXIS, whole, low[M], high[M]);
+    let whole = outside_ends::whole_blocks(numbers);
+    let from = outside_axis::first_astray(
+        numbers,
+        strides,
+        card::LAST_AXIS,
+        whole,
+        low[M],
+        high[M],
+    );
     if whole == numbers[card::LENGTHS + M] {
-        return extremes::smaller(word, copies::AXES * from.0 + card::LAST_AXIS);
+        return outside_axis::smaller(word, copies::AXES * from.0 + card::LAST_AXIS);
     }
-    let flat = doubt::first_leaving(numbers, strides, from, Flat(word / copies::AXES));
-    extremes::smaller(word, copies::AXES * flat.0 + card::LAST_AXIS)
+    let flat = outside_swizzled::first_leaving(numbers, strides, from, Flat(word / copies::AXES));
+    outside_axis::smaller(word, copies::AXES * flat.0 + card::LAST_AXIS)
 }
 
 // What lies outside the space: nothing where the card's far ends lie inside, and else the first element
 // that leaves. Public, with a requires, for the crate above.
 pub fn find_outside(numbers: &[u64; 56], strides: &[i64; 24]) -> Search
     requires { ⌜ Admits (now numbers) (now strides) ⌝ }
-    ensures { λ r. ⌜ Finds (cardOf (now (numbers .entry)) (now (strides .entry))) r ⌝ }
+    ensures { λ r. ⌜ FindsOutside (cardOf (now (numbers .entry)) (now (strides .entry))) r ⌝ }
 {
     let mut low = copies::offset(strides);
     let mut high = copies::offset(strides);
-    reach::ends(numbers, strides, &mut low, &mut high);
-    if reach::between(&low, &high, numbers) {
+    outside_ends::ends(numbers, strides, &mut low, &mut high);
+    if outside_ends::between(&low, &high, numbers) {
         return Search::NoneOutside;
     }
     let word = first_of_all(numbers, strides, &low, &high);

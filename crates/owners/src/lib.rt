@@ -8,7 +8,7 @@ ghost use mathlib.Core.Path.{_≡_};
 ghost use Prim.Native.Nat.{_+_, _<_};
 ghost use lib.ListN.{length, replicate};
 ghost use Rattle.claims.specs.Claims.{taken, occupied};
-ghost use Rattle.claims.specs.Rows.{Within, minSome, entryMet, cellWith, cellMet, rowWritten, RowClaim};
+ghost use Rattle.claims.specs.Rows.{RowWithin, minSome, entryMet, cellWith, cellMet, rowWritten, RowClaim};
 ghost use Rattle.owners.specs.Owners.{entryLimit, clashOf};
 
 // Every cell is nobody's. Public for the crates above.
@@ -35,7 +35,7 @@ fn min_some(best: u64, found: u64) -> u64
 
 // The smallest entry that a row meets, 0 where all its cells are nobody's.
 fn entry_met(table: &[u32], row: &[u32]) -> u64
-    requires { ⌜ Within (now row) (now table) ⌝ }
+    requires { ⌜ RowWithin (now row) (now table) ⌝ }
     ensures { λ r. ⌜ r ≡ entryMet (now (table .entry)) (now (row .entry)) ⌝ }
 {
     let mut best: u64 = 0;
@@ -58,7 +58,7 @@ fn cell_with(found: u64, wanted: u64, cell: Cell) -> u64
 
 // The smallest cell of a row that has this entry, plus 1, and 0 where none has.
 fn cell_met(table: &[u32], row: &[u32], entry: u64) -> u64
-    requires { ⌜ Within (now row) (now table) ⌝ }
+    requires { ⌜ RowWithin (now row) (now table) ⌝ }
     ensures { λ r. ⌜ r ≡ cellMet (now (table .entry)) entry (now (row .entry)) ⌝ }
 {
     let mut best: u64 = 0;
@@ -83,7 +83,7 @@ fn free(entry: u32) -> u64
 
 // Writes an element's entry to each cell of its row, and says how many were nobody's.
 fn write_row(table: &mut [u32], row: &[u32], flat: Flat) -> u64
-    requires { ⌜ Within (now row) (now table) ⌝ }
+    requires { ⌜ RowWithin (now row) (now table) ⌝ }
     requires { ⌜ flat .0 + 1 < entryLimit ⌝ }
     ensures { λ r. ⌜ now (table .exit) ≡ rowWritten (flat .0 + 1) (now (row .entry)) (now (table .entry)) ⌝ }
     ensures { λ r. ⌜ r + occupied (now (table .entry)) ≡ occupied (now (table .exit)) ⌝ }
@@ -103,7 +103,7 @@ fn write_row(table: &mut [u32], row: &[u32], flat: Flat) -> u64
 // Claims a row for an element and says how many cells it occupies newly. Where a cell of the row has
 // an owner already, it claims none. Public, with a requires, for the crates above.
 pub fn claim_row(table: &mut [u32], row: &[u32], flat: Flat) -> u64
-    requires { ⌜ Within (now row) (now table) ⌝ }
+    requires { ⌜ RowWithin (now row) (now table) ⌝ }
     requires { ⌜ 0 < length (now row) ⌝ }
     requires { ⌜ flat .0 + 1 < entryLimit ⌝ }
     ensures { λ r. ⌜ RowClaim (now (row .entry)) (flat .0) r (now (table .entry)) (now (table .exit)) ⌝ }
@@ -117,7 +117,7 @@ pub fn claim_row(table: &mut [u32], row: &[u32], flat: Flat) -> u64
 // Why an element's row can not be claimed: the smallest owner that it meets, and the smallest cell
 // that it shares with that owner. Public, with a requires, for the crates above.
 pub fn find_clash(table: &[u32], row: &[u32], flat: Flat) -> Refusal
-    requires { ⌜ Within (now row) (now table) ⌝ }
+    requires { ⌜ RowWithin (now row) (now table) ⌝ }
     requires { ⌜ 0 < entryMet (now table) (now row) ⌝ }
     ensures { λ r. ⌜ r ≡ clashOf (now (table .entry)) (now (row .entry)) flat ⌝ }
 {

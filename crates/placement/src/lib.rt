@@ -32,7 +32,7 @@ fn is_admitted(shape: Tuple, elements: u64) -> bool
     let at = shape.at;
     let count = shape.count;
     if (1 <= count) & (count <= MOST_DIMENSIONS) {
-        products::product(at, count) == elements
+        card_products::product(at, count) == elements
     } else {
         false
     }
@@ -147,7 +147,7 @@ pub fn place_packed(
 pub fn place(card: Card, shape: Tuple, coordinates: Tuple, memory: &mut [u32]) -> Placement
     ensures { λ r. ⌜ Placing card shape coordinates (now (memory .entry)) (now (memory .exit)) r ⌝ }
 {
-    let packed = packed::pack(card);
+    let packed = card_packed::pack(card);
     let numbers = packed.numbers;
     let strides = packed.strides;
     place_packed(&numbers, &strides, shape, coordinates, memory)

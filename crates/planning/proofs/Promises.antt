@@ -13,7 +13,7 @@ use Rattle.card.specs.declared.Card.{Card}
 use Rattle.claims.specs.Claims.{occupied}
 use Rattle.plans.specs.Plans.{Matched}
 use Rattle.plans_judged.specs.Pair.{Opening, Untouched, Emptied, Ready, opening}
-use Rattle.plans_judged.specs.Endings.{Held, Ending, Left, answerOf, firstAfter, secondAfter, endingOf, PairPromise, planWritten, memoryIn, memoryAfter, PlanPromise}
+use Rattle.plans_judged.specs.Endings.{CellsHeld, Ending, Left, answerOf, firstAfter, secondAfter, endingOf, PairPromise, planWritten, memoryIn, memoryAfter, PlanPromise}
 use Rattle.plans_judged.specs.declared.Planning.{Planning}
 use Rattle.plans_judged.specs.declared.Planning.the-variants.{Refused as NoPlan}
 use Rattle.plans_judged.proofs.Theorems.{first-long, second-long, matched}
@@ -44,7 +44,7 @@ record LeaveAlike {A : Type 0} (cells : ℕ) (one : Ending Pairing) (two : Endin
   pub first : (table : List ℕ) → firstAfter cells one table ≡ firstAfter cells two table
   pub second : (table : List ℕ) → secondAfter cells one table ≡ secondAfter cells two table
 
-module _ {A : Type 0} (refused : Refusal → A) (ready : List ℕ → List ℕ → Held A) where
+module _ {A : Type 0} (refused : Refusal → A) (ready : List ℕ → List ℕ → CellsHeld A) where
   turned-down : (cells : ℕ) (o : Opening) (r : Refusal) → Refused r ≡ answerOf (handedOn cells o)
       → (refused r ≡ answerOf (endingOf cells refused ready o)) × LeaveAlike cells (handedOn cells o) (endingOf cells refused ready o)
   turned-down cells (Untouched refusal) r e =
@@ -119,7 +119,7 @@ module _ {one two : Card} {first second f s : List ℕ} {p : Pairing} (q : OpenP
     long-second = omega (arith, ap length (b .holds-other), length-append (b .others) (drop (cells one) second), b .others-long, b .whole)
 
     -- a question that ends in the cells by the owners of both
-    pub out : {A : Type 0} (refused : Refusal → A) (ready : List ℕ → List ℕ → Held A) (made : ℕ → List ℕ → List ℕ → Held A) {a : A} {f′ s′ : List ℕ}
+    pub out : {A : Type 0} (refused : Refusal → A) (ready : List ℕ → List ℕ → CellsHeld A) (made : ℕ → List ℕ → List ℕ → CellsHeld A) {a : A} {f′ s′ : List ℕ}
         → ((l r : List ℕ) → made (cells one) l r ≡ ready l r) → Ends (made (length (take n f)) (take n f) (take n s)) a f′ s′
         → PairPromise one two refused ready first second (f′ ++ drop n f) (s′ ++ drop n s) a
     out {A} refused ready made {a} {f′} {s′} by ended =
@@ -134,9 +134,9 @@ module _ {one two : Card} {first second f s : List ℕ} {p : Pairing} (q : OpenP
           comes-other = q .comes-other;
           ending = Left (ready (b .owners) (b .others));
           follows = ap (endingOf (cells one) refused ready) (sym (b .is));
-          answers = ended .0 ∙ ap (λ (h : Held A). h .answer) same;
-          leaves = ap₂ (λ (l r : List ℕ). l ++ r) (ended .1 ∙ ap (λ (h : Held A). h .first) same) drop-first;
-          leaves-other = ap₂ (λ (l r : List ℕ). l ++ r) (ended .2 ∙ ap (λ (h : Held A). h .second) same) drop-second;
+          answers = ended .0 ∙ ap (λ (h : CellsHeld A). h .answer) same;
+          leaves = ap₂ (λ (l r : List ℕ). l ++ r) (ended .1 ∙ ap (λ (h : CellsHeld A). h .first) same) drop-first;
+          leaves-other = ap₂ (λ (l r : List ℕ). l ++ r) (ended .2 ∙ ap (λ (h : CellsHeld A). h .second) same) drop-second;
         }
 
     -- the same of a plan that is written, with its memory
@@ -151,11 +151,11 @@ module _ {one two : Card} {first second f s : List ℕ} {p : Pairing} (q : OpenP
         ∙ ap (λ (k : ℕ). planWritten k (length memory) (b .owners) (b .others)) (b .owners-long) in
         record {
           pair = out NoPlan (planWritten (cells one) (length memory)) (λ (k : ℕ) (l r : List ℕ). planWritten k (length memory) l r) (λ l r. refl) ended;
-          writes = em ∙ ap (λ (h : Held Planning). memoryIn h memory) same;
+          writes = em ∙ ap (λ (h : CellsHeld Planning). memoryIn h memory) same;
         }
 
   -- refused before
-  pub refused-before : {A : Type 0} (refused : Refusal → A) (ready : List ℕ → List ℕ → Held A) {r : Refusal} → p ≡ Refused r
+  pub refused-before : {A : Type 0} (refused : Refusal → A) (ready : List ℕ → List ℕ → CellsHeld A) {r : Refusal} → p ≡ Refused r
       → PairPromise one two refused ready first second f s (refused r)
   refused-before {A} refused ready {r} e =
       let d = turned-down refused ready (cells one) start r (sym e ∙ answered) in

@@ -12,7 +12,7 @@ use lib.Seq.{getD-set-other}
 use borrow.Author.Tests.{eq-eqb, eqb-true, eqb-false, ne-eqb, lt-ltb, ltb-true, ltb-false}
 use Rattle.laws.proofs.Order.{le-or-lt}
 use Rattle.laws.proofs.Rungs.{apart}
-use Rattle.claims.specs.Claims.{Layout, Owners, taken, occupied}
+use Rattle.claims.specs.Claims.{CopiesAt, Owners, taken, occupied}
 use Rattle.plans.specs.Plans.{carried, outsideFrom, firstOutside, firstFrom, wrong, firstWrong, Carries, both, firstShared, cellHolding, planFrom, planned, Complete}
 use Rattle.plans.proofs.Search.{Found, first-found, first-none, none-first}
 use Rattle.plans.proofs.Plans.{Sources, carried-right, plan-inside, plan-length, NamesCells, none-outside}
@@ -256,7 +256,7 @@ pub elements-counted : (n : ℕ) (table : List ℕ) → Complete n table → n �
 elements-counted n table o = each-counted n table (o .each)
 
 -- the owners of elements of which each has a copy are an owner table
-pub owners-complete : (p : Layout) (n : ℕ) (table : List ℕ) → Owners p n table → ((f : ℕ) → f < n → 0 < p .copies f) → Complete n table
+pub owners-complete : (p : CopiesAt) (n : ℕ) (table : List ℕ) → Owners p n table → ((f : ℕ) → f < n → 0 < p .copies f) → Complete n table
 owners-complete p n table owners some = record {
   entries = λ c. split c (getD table c 0) refl;
   each = λ f h. (p .at f 0, owners f (p .at f 0) .1 (h, record { copy = 0; below = some f h; there = refl }));

@@ -9,7 +9,7 @@ use Rattle.answers.specs.declared.Cell.{Cell}
 use Rattle.answers.specs.declared.Refusal.the-variants.{TooShort, Plan, Overlap}
 use Rattle.claims.specs.Claims.{occupied}
 use Rattle.plans.specs.Plans.{carried, firstOutside, firstWrong, firstShared, planned}
-use Rattle.plans_judged.specs.Endings.{Held, emptying, checkedBy, planChecked, writtenBy, planWritten, memoryIn}
+use Rattle.plans_judged.specs.Endings.{CellsHeld, emptying, checkedBy, planChecked, writtenBy, planWritten, memoryIn}
 use Rattle.plans_judged.specs.declared.Checked.{Checked}
 use Rattle.plans_judged.specs.declared.Checked.the-variants.{Accepted, Refused}
 use Rattle.plans_judged.specs.declared.Planning.{Planning}
@@ -36,7 +36,7 @@ right-checked cells held second zero zero e h = refl
 right-checked cells held second zero (suc w) e h = absurd (omega arith)
 
 module _ (plan first second : List ℕ) (alike : length first ≡ length second) where
-  abbrev checked : Held Checked
+  abbrev checked : CellsHeld Checked
   checked = planChecked (length first) plan first second
 
   pub copy-outside : {f s : List ℕ} {copy : ℕ} → copy ≡ firstOutside (length first) plan → 0 < copy → f ≡ replicate (length first) 0
@@ -79,7 +79,7 @@ all-written cells room first second zero e h = rw (le-ltb room (2 * occupied sec
 all-written cells room first second (suc n) e h = absurd (omega arith)
 
 module _ (memory first second : List ℕ) (alike : length first ≡ length second) where
-  abbrev fills : Held Planning
+  abbrev fills : CellsHeld Planning
   fills = planWritten (length first) (length memory) first second
 
   pub overlaps : {f s : List ℕ} {n : ℕ} → n ≡ firstShared first second → 0 < n → f ≡ replicate (length first) 0 → s ≡ replicate (length second) 0

@@ -33,7 +33,7 @@ use Rattle.judgement.proofs.Leaves.{front-long, front-past}
 use Rattle.plans.specs.Plans.{carried, firstOutside, firstWrong, firstShared, planned}
 use Rattle.plans.proofs.Plans.{carried-length}
 use Rattle.plans_judged.specs.Pair.{oneSpace, marked, Opening, Untouched, Emptied, Ready, afterVerdict, afterBoth, opening}
-use Rattle.plans_judged.specs.Endings.{Held, emptying, Ending, Kept, Left, answerOf, firstAfter, secondAfter, endingOf, PairPromise, checkedBy, planChecked, CheckPromise, writtenBy, planWritten, withPlan, memoryAfter, PlanPromise, checkedNumbers, planningNumbers}
+use Rattle.plans_judged.specs.Endings.{CellsHeld, emptying, Ending, Kept, Left, answerOf, firstAfter, secondAfter, endingOf, PairPromise, checkedBy, planChecked, CheckPromise, writtenBy, planWritten, withPlan, memoryAfter, PlanPromise, checkedNumbers, planningNumbers}
 use Rattle.plans_judged.specs.declared.Checked.{Checked}
 use Rattle.plans_judged.specs.declared.Checked.the-variants.{Accepted, Refused}
 use Rattle.plans_judged.specs.declared.Planning.{Planning}
@@ -137,14 +137,14 @@ pub record TablesAfter (one : Card) (first second f s : List ℕ) (number : ℕ)
   pub emptied : 0 < number → (number ≡ 4 → ⊥) → cells one ≤ length first → cells one ≤ length second → (stands → ⊥) → (c : ℕ) → c < cells one
       → (getD f c 0 ≡ 0) × (getD s c 0 ≡ 0)
 
-module _ (one two : Card) (first second : List ℕ) {A : Type 0} (refused : Refusal → A) (ready : List ℕ → List ℕ → Held A) (numbers : A → Numbers)
+module _ (one two : Card) (first second : List ℕ) {A : Type 0} (refused : Refusal → A) (ready : List ℕ → List ℕ → CellsHeld A) (numbers : A → Numbers)
     (as-refused : (r : Refusal) → numbers (refused r) ≡ refusalNumbers r) (stands : Numbers → Type 0) (own : ℕ) where
   -- the numbers that the question can answer: those before the plan is looked at, and its own
   abbrev pub Answers : A → Type 0
   Answers a = among (numbers a .number) (0 ∷ 4 ∷ 11 ∷ own ∷ ofPair) ≡ true
 
   -- what is asked of the question itself, where both cards are ready
-  record Own (held : Held A) : Type 0 where
+  record Own (held : CellsHeld A) : Type 0 where
     pub size : length (held .first) ≡ cells one
     pub size-other : length (held .second) ≡ cells one
     pub answers : Answers (held .answer)
@@ -259,7 +259,7 @@ module _ (one two : Card) (first second : List ℕ) (j k : Judgement) (h : Comes
 
   -- a plan that is checked
   module _ (plan : List ℕ) where
-    abbrev OwnCheck : Held Checked → Type 0
+    abbrev OwnCheck : CellsHeld Checked → Type 0
     OwnCheck held = Own one two first second Refused (planChecked (cells one) plan) checkedNumbers (λ r. refl) EndsWrong 21 held
 
     own-check : (f s : List ℕ) → start ≡ Ready f s → OwnCheck (planChecked (cells one) plan f s)
@@ -293,7 +293,7 @@ module _ (one two : Card) (first second : List ℕ) (j k : Judgement) (h : Comes
 
   -- a plan that is written
   module _ (memory : List ℕ) where
-    abbrev OwnPlan : Held Planning → Type 0
+    abbrev OwnPlan : CellsHeld Planning → Type 0
     OwnPlan held = Own one two first second NoPlan (planWritten (cells one) (length memory)) planningNumbers (λ r. refl) (λ n. ⊥) 23 held
 
     own-plan : (f s : List ℕ) → start ≡ Ready f s → OwnPlan (planWritten (cells one) (length memory) f s)

@@ -8,14 +8,14 @@ use Rattle.card.specs.Card.{cells}
 use Rattle.card.specs.declared.Card.{Card}
 use Rattle.judgement.specs.Run.{judge}
 use Rattle.judgement.proofs.Run.{judge-comes}
-use Rattle.plans_judged.specs.Endings.{Held, Ending, answerOf, firstAfter, secondAfter, endingOf, PairPromise, planChecked, CheckPromise, planWritten, memoryAfter, PlanPromise}
+use Rattle.plans_judged.specs.Endings.{CellsHeld, Ending, answerOf, firstAfter, secondAfter, endingOf, PairPromise, planChecked, CheckPromise, planWritten, memoryAfter, PlanPromise}
 use Rattle.plans_judged.specs.Run.{openRun, checkRun, planRun}
 use Rattle.plans_judged.specs.declared.Checked.{Checked}
 use Rattle.plans_judged.specs.declared.Planning.{Planning}
 use Rattle.plans_judged.proofs.Theorems.{check-settled, plan-settled}
 
 module _ (one two : Card) (first second : List ℕ) where
-  by-run : {A : Type 0} (refused : Refusal → A) (ready : List ℕ → List ℕ → Held A) →
+  by-run : {A : Type 0} (refused : Refusal → A) (ready : List ℕ → List ℕ → CellsHeld A) →
       let run = endingOf (cells one) refused ready (openRun one two (length first) (length second)) in
       PairPromise one two refused ready first second (firstAfter (cells one) run first) (secondAfter (cells one) run second) (answerOf run)
   by-run refused ready = record {

@@ -33,7 +33,7 @@ use Rattle.plans.specs.Plans.{Carries, carried, firstOutside, firstWrong, first
 use Rattle.plans.proofs.Plans.{plan-length, NamesCells}
 use Rattle.plans.proofs.Theorems.{owners-complete, plan-accepted, apart-exactly, right-exactly, inside-exactly}
 use Rattle.plans_judged.specs.Pair.{oneSpace, anyMark, marked, Opening, Untouched, Emptied, Ready, afterBoth, opening}
-use Rattle.plans_judged.specs.Endings.{Held, emptying, Ending, Kept, Left, answerOf, firstAfter, secondAfter, endingOf, PairPromise, checkedBy, planChecked, CheckPromise, writtenBy, planWritten, memoryAfter, PlanPromise, checkedNumbers, planningNumbers}
+use Rattle.plans_judged.specs.Endings.{CellsHeld, emptying, Ending, Kept, Left, answerOf, firstAfter, secondAfter, endingOf, PairPromise, checkedBy, planChecked, CheckPromise, writtenBy, planWritten, memoryAfter, PlanPromise, checkedNumbers, planningNumbers}
 use Rattle.plans_judged.specs.declared.Checked.{Checked}
 use Rattle.plans_judged.specs.declared.Checked.the-variants.{Accepted, Refused}
 use Rattle.plans_judged.specs.declared.Planning.{Planning}
@@ -45,7 +45,7 @@ module _ (one two : Card) (first second : List ℕ) where
   started j k = opening one two (length first) (length second) j k
 
   -- what a question on two cards promises is settled: how it ends, and with it the answer and both tables
-  module _ {A : Type 0} (refused : Refusal → A) (ready : List ℕ → List ℕ → Held A) where
+  module _ {A : Type 0} (refused : Refusal → A) (ready : List ℕ → List ℕ → CellsHeld A) where
     pub ending-settled : (f s f′ s′ : List ℕ) (a a′ : A) (p : PairPromise one two refused ready first second f s a)
         → (q : PairPromise one two refused ready first second f′ s′ a′) → p .ending ≡ q .ending
     ending-settled f s f′ s′ a a′ p q =
@@ -200,7 +200,7 @@ pub record Wrote (memory : List ℕ) (o : Opening) (e : Ending Planning) (n : �
   pub ends : e ≡ Left (record { answer = Written (2 * occupied second); first = first; second = second })
   pub memory-is : memoryAfter e memory ≡ planned first second ++ drop n memory
 
-abbrev inRoom : ℕ → List ℕ → List ℕ → Bool → Held Planning
+abbrev inRoom : ℕ → List ℕ → List ℕ → Bool → CellsHeld Planning
 inRoom c f s short =
     cond short (emptying c (NoPlan (TooShort (2 * occupied s)))) (record { answer = Written (2 * occupied s); first = f; second = s })
 

@@ -21,19 +21,19 @@ use Rattle.plans_judged.specs.declared.Planning.{Planning}
 use Rattle.plans_judged.specs.declared.Planning.the-variants.{Written, Refused as NoPlan}
 
 -- an answer, and what the cells of the two tables then hold
-pub record Held (A : Type 0) : Type 0 where
+pub record CellsHeld (A : Type 0) : Type 0 where
   pub answer : A
   pub first : List ℕ
   pub second : List ℕ
 
 -- an answer with the cells of both tables emptied
-abbrev pub emptying : {A : Type 0} → ℕ → A → Held A
+abbrev pub emptying : {A : Type 0} → ℕ → A → CellsHeld A
 emptying size answer = record { answer = answer; first = replicate size 0; second = replicate size 0 }
 
 -- how a question ends: with nothing touched, or with the cells of both tables so
 pub data Ending (A : Type 0) : Type 0 where
   Kept : (answer : A) → Ending A
-  Left : (held : Held A) → Ending A
+  Left : (held : CellsHeld A) → Ending A
 
 abbrev pub answerOf : {A : Type 0} → Ending A → A
 answerOf (Kept answer) = answer
@@ -49,13 +49,13 @@ secondAfter size (Kept answer) table = table
 secondAfter size (Left held) table = held .second ++ drop size table
 
 -- a refusal of the two cards is the question's own; where both are ready it goes by their owners
-abbrev pub endingOf : {A : Type 0} → ℕ → (Refusal → A) → (List ℕ → List ℕ → Held A) → Opening → Ending A
+abbrev pub endingOf : {A : Type 0} → ℕ → (Refusal → A) → (List ℕ → List ℕ → CellsHeld A) → Opening → Ending A
 endingOf size refused ready (Untouched refusal) = Kept (refused refusal)
 endingOf size refused ready (Emptied refusal) = Left (emptying size (refused refusal))
 endingOf size refused ready (Ready first second) = Left (ready first second)
 
 -- the promise of a question on two cards: what each comes to, how the question then ends, and the answer and the tables that follow from it
-pub record PairPromise {A : Type 0} (one two : Card) (refused : Refusal → A) (ready : List ℕ → List ℕ → Held A)
+pub record PairPromise {A : Type 0} (one two : Card) (refused : Refusal → A) (ready : List ℕ → List ℕ → CellsHeld A)
     (first second first-after second-after : List ℕ) (answer : A) : Type 0 where
   pub judgement : Judgement
   pub other : Judgement
@@ -68,13 +68,13 @@ pub record PairPromise {A : Type 0} (one two : Card) (refused : Refusal → A) (
   pub leaves-other : second-after ≡ secondAfter (cells one) ending second
 
 -- a plan between two tables of owners: all its copies are judged for being outside before any is run; then the first wrong cell is looked for
-abbrev pub checkedBy : ℕ → List ℕ → List ℕ → ℕ → ℕ → Held Checked
+abbrev pub checkedBy : ℕ → List ℕ → List ℕ → ℕ → ℕ → CellsHeld Checked
 checkedBy size held second (suc copy) wrong = emptying size (Refused (Plan (suc copy) (record { 0 = 0 })))
 checkedBy size held second zero (suc cell) =
     record { answer = Refused (Plan 0 (record { 0 = cell })); first = held; second = second }
 checkedBy size held second zero zero = record { answer = Accepted; first = held; second = second }
 
-abbrev pub planChecked : ℕ → List ℕ → List ℕ → List ℕ → Held Checked
+abbrev pub planChecked : ℕ → List ℕ → List ℕ → List ℕ → CellsHeld Checked
 planChecked size plan first second =
     checkedBy size (carried plan first) second (firstOutside size plan) (firstWrong (carried plan first) second)
 
@@ -83,13 +83,13 @@ abbrev pub CheckPromise : Card → Card → (plan first second first-after secon
 CheckPromise one two plan = PairPromise one two Refused (planChecked (cells one) plan)
 
 -- a plan written between two tables of owners, in memory of so many numbers: 23, then 11
-abbrev pub writtenBy : ℕ → ℕ → List ℕ → List ℕ → ℕ → Held Planning
+abbrev pub writtenBy : ℕ → ℕ → List ℕ → List ℕ → ℕ → CellsHeld Planning
 writtenBy size room first second (suc cell) = emptying size (NoPlan (Overlap (record { 0 = cell })))
 writtenBy size room first second zero =
     cond (ltb room (2 * occupied second)) (emptying size (NoPlan (TooShort (2 * occupied second))))
     (record { answer = Written (2 * occupied second); first = first; second = second })
 
-abbrev pub planWritten : ℕ → ℕ → List ℕ → List ℕ → Held Planning
+abbrev pub planWritten : ℕ → ℕ → List ℕ → List ℕ → CellsHeld Planning
 planWritten size room first second = writtenBy size room first second (firstShared first second)
 
 -- the plan's memory: it begins with what is written, and later numbers stay; every refusal leaves it untouched
@@ -97,7 +97,7 @@ abbrev pub withPlan : Planning → List ℕ → List ℕ → List ℕ
 withPlan (Written numbers) plan memory = plan ++ drop numbers memory
 withPlan (NoPlan refusal) plan memory = memory
 
-abbrev pub memoryIn : Held Planning → List ℕ → List ℕ
+abbrev pub memoryIn : CellsHeld Planning → List ℕ → List ℕ
 memoryIn held memory = withPlan (held .answer) (planned (held .first) (held .second)) memory
 
 abbrev pub memoryAfter : Ending Planning → List ℕ → List ℕ

@@ -12,7 +12,7 @@ use Rattle.judgement.specs.Verdict.{verdictOf, tableAfter}
 use Rattle.judgement.specs.declared.Verdict.{Verdict}
 use Rattle.judgement.specs.declared.Verdict.the-variants.{Approved, Refused as NotApproved}
 use Rattle.plans_judged.specs.Pair.{marked}
-use Rattle.plans_judged.specs.Endings.{Held, PairPromise}
+use Rattle.plans_judged.specs.Endings.{CellsHeld, PairPromise}
 use Rattle.plans_second.specs.Contracts.{pairedBy}
 use Rattle.plans_second.specs.declared.Pairing.{Pairing}
 use Rattle.plans_second.specs.declared.Pairing.the-variants.{Matching, Refused}
@@ -37,7 +37,7 @@ pub record BothPromise (one two : Card) (first second first-after second-after :
   pub leaves-other : second-after ≡ ifApproved (verdictOf one judgement) (tableAfter two other second) second
 
 -- both cards are ready, in tables that begin with their owners
-abbrev pub bothReady : ℕ → List ℕ → List ℕ → Held Pairing
+abbrev pub bothReady : ℕ → List ℕ → List ℕ → CellsHeld Pairing
 bothReady size first second = record { answer = Matching size (occupied second); first = first; second = second }
 
 abbrev pub OpenPromise : Card → Card → (first second first-after second-after : List ℕ) → Pairing → Type 0

@@ -63,7 +63,7 @@ pub fn open_pair(one: Card, two: Card, first: &mut [u32], second: &mut [u32]) ->
     if !(plans_second::same_lengths(lengths, others) & admission::space_fits(lengths)) {
         return Pairing::Refused(Refusal::Space);
     }
-    let cells = products::product(lengths, 8);
+    let cells = card_products::product(lengths, 8);
     if ((first.len() as u64) < cells) | ((second.len() as u64) < cells) {
         return Pairing::Refused(Refusal::TooShort { needed: cells });
     }

@@ -11,8 +11,8 @@ use Rattle.notation.specs.declared.Layout.{Layout}
 use Rattle.notation.specs.declared.Reading.{Reading}
 use Rattle.notation.specs.declared.Phase.the-variants.{First, Plus, Opened, Ended}
 use Rattle.notation.specs.declared.Part.the-variants.{Several}
-use Rattle.notation.specs.declared.Spot.{Spot}
-use Rattle.reading_lists.specs.Lists.{spotIn, Standing, Rising}
+use Rattle.notation.specs.declared.Stand.{Stand}
+use Rattle.reading_lists.specs.Lists.{spotIn, Standing, AxesRise}
 
 -- no offset yet; no replica either
 abbrev pub Still : Layout → Type 0
@@ -22,16 +22,16 @@ abbrev pub Alone : Layout → Type 0
 Alone l = (l .replica ≡ noIters) × Still l
 
 abbrev pub OffsetsAnswered : List ℕ → ℕ → Layout → Reading → Type 0
-OffsetsAnswered t from l r = Still l → Rising t from 0 l → Answered t r
+OffsetsAnswered t from l r = Still l → AxesRise t from 0 l → Answered t r
 
 abbrev pub ReplicaAnswered : List ℕ → ℕ → Layout → Reading → Type 0
-ReplicaAnswered t from l r = Still l → (s : Spot) → Standing t from Ended s l → Answered t r
+ReplicaAnswered t from l r = Still l → (s : Stand) → Standing t from Ended s l → Answered t r
 
 abbrev pub SeveralAnswered : List ℕ → ℕ → Layout → Reading → Type 0
 SeveralAnswered t from l r = Alone l → Standing t from First (spotIn Several 0 0) l → Answered t r
 
 abbrev pub SingleAnswered : List ℕ → ℕ → Layout → Reading → Type 0
-SingleAnswered t from l r = Alone l → (from < length t → eqb (getD t from 0) 40 ≡ false) → (s : Spot) → Standing t from Opened s l → Answered t r
+SingleAnswered t from l r = Alone l → (from < length t → eqb (getD t from 0) 40 ≡ false) → (s : Stand) → Standing t from Opened s l → Answered t r
 
 abbrev pub PlusAnswered : List ℕ → ℕ → Layout → Reading → Type 0
-PlusAnswered t from l r = Alone l → (s : Spot) → Standing t from Plus s l → Answered t r
+PlusAnswered t from l r = Alone l → (s : Stand) → Standing t from Plus s l → Answered t r

@@ -9,7 +9,7 @@ use lib.ListN.{getD}
 use Rattle.laws.proofs.Order.{le-or-lt}
 use mathlib.Core.Logic.{⊎-elim}
 use Rattle.notation.proofs.Lists.{both}
-use Rattle.notation.specs.Machine.{words}
+use Rattle.notation.specs.Machine.{wordsToFollow}
 
 -- the letters as the arms of the code have them
 abbrev chain : ℕ → ℕ
@@ -21,7 +21,7 @@ chain o =
 
 -- the test of one place, and of all below one
 abbrev right : ℕ → Bool
-right o = eqb (getD words o 0) (chain o)
+right o = eqb (getD wordsToFollow o 0) (chain o)
 
 abbrev allBelow : ℕ → Bool
 allBelow zero = true
@@ -33,15 +33,15 @@ each (suc n) o h l =
     let b = both (allBelow n) (right n) h in
     ⊎-elim (λ (ge : n ≤ o). let same : n ≡ o = omega arith in subst (λ (k : ℕ). right k ≡ true) same (b .1)) (λ (lt : o < n). each n o (b .0) lt) (le-or-lt n o)
 
-pub letters : (o : ℕ) → o < 64 → getD words o 0 ≡ chain o
-letters o l = eqb-true (getD words o 0) (chain o) (each 64 o refl l)
+pub letters : (o : ℕ) → o < 64 → getD wordsToFollow o 0 ≡ chain o
+letters o l = eqb-true (getD wordsToFollow o 0) (chain o) (each 64 o refl l)
 
 -- what none of the arms names
 pub no-letter : (o : ℕ) → o < 64
     → (o ≡ 1 → ⊥) → (o ≡ 2 → ⊥) → (o ≡ 4 → ⊥) → (o ≡ 5 → ⊥) → (o ≡ 6 → ⊥) → (o ≡ 7 → ⊥) → (o ≡ 8 → ⊥) → (o ≡ 10 → ⊥)
     → (o ≡ 11 → ⊥) → (o ≡ 12 → ⊥) → (o ≡ 13 → ⊥) → (o ≡ 14 → ⊥) → (o ≡ 16 → ⊥) → (o ≡ 17 → ⊥) → (o ≡ 18 → ⊥) → (o ≡ 20 → ⊥)
     → (o ≡ 21 → ⊥) → (o ≡ 23 → ⊥) → (o ≡ 24 → ⊥) → (o ≡ 25 → ⊥) → (o ≡ 27 → ⊥) → (o ≡ 28 → ⊥) → (o ≡ 30 → ⊥) → (o ≡ 32 → ⊥)
-    → getD words o 0 ≡ 0
+    → getD wordsToFollow o 0 ≡ 0
 no-letter o l h1 h2 h4 h5 h6 h7 h8 h10 h11 h12 h13 h14 h16 h17 h18 h20 h21 h23 h24 h25 h27 h28 h30 h32 =
     letters o l ∙ rw (
       ne-eqb o 1 h1,

@@ -1,10 +1,10 @@
 // The bytes of the layout notation: digits, the beginnings of names, and the letters that have to follow. Public only for the crates above, which
 // read texts and lines of lengths.
-use notation::Place;
+use notation::NamedAxis;
 ghost use mathlib.Core.Path.{_≡_};
 ghost use mathlib.Core.Bool.{true};
 ghost use Prim.Native.Nat.{_+_, _*_};
-ghost use Rattle.notation.specs.Text.{axisOf};
+ghost use Rattle.notation.specs.Text.{axisMeant};
 ghost use Rattle.notation.specs.Machine.{digitOf, continues, initialOf, restOf, letter};
 
 // The digit that a byte is, 10 for none.
@@ -98,12 +98,12 @@ pub fn longer(value: u64, d: u64) -> u64
 }
 
 // The axis of a stride or an offset; a missing axis means m.
-pub fn axis_of(place: Place) -> u64
-    ensures { λ r. ⌜ r ≡ axisOf place ⌝ }
+pub fn axis_of(place: NamedAxis) -> u64
+    ensures { λ r. ⌜ r ≡ axisMeant place ⌝ }
 {
     match place {
-        Place::Bare => 7,
-        Place::At(axis) => axis,
-        Place::Marked(axis) => axis,
+        NamedAxis::Bare => 7,
+        NamedAxis::At(axis) => axis,
+        NamedAxis::Marked(axis) => axis,
     }
 }

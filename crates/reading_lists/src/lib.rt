@@ -2,17 +2,17 @@
 // Public only for the crate above, which reads texts.
 use card::Iter;
 use card::Iters;
-use notation::Place;
+use notation::NamedAxis;
 use notation::Step;
 ghost use mathlib.Core.Path.{_≡_};
 ghost use mathlib.Core.Bool.{cond, false};
 ghost use Prim.Native.Nat.{_<_, _≤_};
 ghost use lib.IntN.{pos, negℤ};
 ghost use lib.ListN.{replicate};
-ghost use Rattle.notation.specs.Text.{axisOf};
+ghost use Rattle.notation.specs.Text.{axisMeant};
 ghost use Rattle.card.specs.Card.{none};
 ghost use Rattle.notation.specs.Meaning.{valueOf, isMarked};
-ghost use Rattle.reading_lists.specs.Lists.{Extended, Paced, Listed, Singled, Offsets};
+ghost use Rattle.reading_lists.specs.Lists.{ExtentsFrom, Paced, Listed, Singled, Offsets};
 
 // The places of what stands between two lists and of what closes them among the words of `reading_letters::expected`.
 const BETWEEN: usize = 27;
@@ -31,13 +31,13 @@ fn value(negative: bool, size: u64) -> i64
 }
 
 // Whether a star stands after the axis.
-fn is_marked(place: Place) -> bool
+fn is_marked(place: NamedAxis) -> bool
     ensures { λ r. ⌜ r ≡ isMarked place ⌝ }
 {
     match place {
-        Place::Bare => false,
-        Place::At(_) => false,
-        Place::Marked(_) => true,
+        NamedAxis::Bare => false,
+        NamedAxis::At(_) => false,
+        NamedAxis::Marked(_) => true,
     }
 }
 
@@ -68,7 +68,7 @@ fn no_extents(next: usize) -> Extents
 // The extents of a list in parentheses, at least and at most so many, up to the strides.
 fn read_extents(text: &[u8], from: usize, least: usize, most: usize) -> Extents
     requires { ⌜ (1 ≤ most) × (most ≤ 8) ⌝ }
-    ensures { λ r. ⌜ Extended (now (text .entry)) from least most r ⌝ }
+    ensures { λ r. ⌜ ExtentsFrom (now (text .entry)) from least most r ⌝ }
 {
     let none = Iter {
         extent: 0,
@@ -109,7 +109,7 @@ fn read_extents(text: &[u8], from: usize, least: usize, most: usize) -> Extents
 // An iter with its stride and its axis, in the place of none.
 fn with_step(iter: Iter, step: Step) -> Iter
     requires { ⌜ step .size < 100000 ⌝ }
-    ensures { λ r. ⌜ r ≡ record { extent = iter .extent; stride = valueOf step; axis = axisOf (step .place) } ⌝ }
+    ensures { λ r. ⌜ r ≡ record { extent = iter .extent; stride = valueOf step; axis = axisMeant (step .place) } ⌝ }
 {
     let place = step.place;
     let axis = reading_letters::axis_of(place);
@@ -122,14 +122,14 @@ fn with_step(iter: Iter, step: Step) -> Iter
 }
 
 // The iters with their strides and the marks, and where the list ends; or where the text goes wrong.
-pub struct Steps {
+pub struct StepsRead {
     pub fits: bool,
     pub next: usize,
     pub at: [Iter; 8],
     pub marks: [bool; 8],
 }
 
-fn no_steps(next: usize) -> Steps
+fn no_steps(next: usize) -> StepsRead
     ensures { λ r. ⌜ r ≡ record { fits = false; next = next; at = replicate 8 none; marks = replicate 8 false } ⌝ }
 {
     let none = Iter {
@@ -137,7 +137,7 @@ fn no_steps(next: usize) -> Steps
         stride: 0,
         axis: 0,
     };
-    Steps {
+    StepsRead {
         fits: false,
         next,
         at: [none; 8],
@@ -146,7 +146,7 @@ fn no_steps(next: usize) -> Steps
 }
 
 // As many strides as there are extents, up to the end of the list. Only the shard's may have stars.
-fn read_steps(text: &[u8], from: usize, iters: [Iter; 8], count: usize, shard: bool) -> Steps
+fn read_steps(text: &[u8], from: usize, iters: [Iter; 8], count: usize, shard: bool) -> StepsRead
     requires { ⌜ (1 ≤ count) × (count ≤ 8) ⌝ }
     ensures { λ r. ⌜ Paced (now (text .entry)) from iters count shard r ⌝ }
 {
@@ -168,7 +168,7 @@ fn read_steps(text: &[u8], from: usize, iters: [Iter; 8], count: usize, shard: b
         if !(reading_tokens::stands(text, next, b',') & (k < count)) {
             if reading_tokens::stands(text, next, b')') & (k == count) {
                 let shut = reading_tokens::word(text, next + 1, CLOSE, 0);
-                return Steps {
+                return StepsRead {
                     fits: shut.fits,
                     next: shut.next,
                     at,

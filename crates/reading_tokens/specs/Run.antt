@@ -7,14 +7,14 @@ use mathlib.Core.List.{List}
 use lib.Dec.{leb, ltb}
 use lib.ListN.{length, getD, take}
 use Rattle.notation.specs.Promise.{Answered}
-use Rattle.notation.specs.Text.{axisOf}
+use Rattle.notation.specs.Text.{axisMeant}
 use Rattle.notation.specs.Meaning.{isMarked, layoutOf}
-use Rattle.notation.specs.Machine.{digitOf, continues, letter, go, number, signed, onAxis, stepOf, isShard, inOffset, begunMove, follow, lastEvent, moveOf, nextSpot, adds, isStuck, endsWell, refusedAt, readerOf, runs, stepped, start, said}
+use Rattle.notation.specs.Machine.{digitOf, continues, letter, go, withNumber, withSign, withAxis, stepOf, isShard, inOffset, begunMove, follow, lastEvent, moveOf, nextSpot, adds, isStuck, endsWell, refusedAt, readerOf, runs, stepped, start, said}
 use Rattle.notation.specs.declared.Layout.{Layout}
 use Rattle.notation.specs.declared.Phase.{Phase}
 use Rattle.notation.specs.declared.Phase.the-variants.{First, Extent, Begun, Minus, Size, At, Tee, Named, Starred, Closed, Plus, Opened, Ended, Stuck}
 use Rattle.notation.specs.declared.Piece.{Piece}
-use Rattle.notation.specs.declared.Spot.{Spot}
+use Rattle.notation.specs.declared.Stand.{Stand}
 use Rattle.notation.specs.declared.Event.{Event}
 use Rattle.notation.specs.declared.Reader.{Reader}
 use Rattle.notation.specs.declared.Event.the-variants.{Step as AStep}
@@ -24,8 +24,8 @@ use Rattle.reading_tokens.specs.declared.Measure.{Measure}
 use Rattle.reading_tokens.specs.declared.Spotted.{Spotted}
 use Rattle.reading_tokens.specs.declared.Stride.{Stride}
 
-abbrev pub place : Phase → ℕ → Piece → Spot → Reader
-place q o p s = record { phase = q; owed = o; piece = p; spot = s }
+abbrev pub readerAt : Phase → ℕ → Piece → Stand → Reader
+readerAt q o p s = record { phase = q; owed = o; piece = p; spot = s }
 
 -- after so many bytes of a text the reader stands here, not stuck, and holds this layout
 pub record Stands (t : List ℕ) (i : ℕ) (r : Reader) (l : Layout) : Type 0 where
@@ -54,7 +54,7 @@ counts Stuck = false
 -- digits that go on a number, up to one that does not
 abbrev pub DigitRun : List ℕ → ℕ → ℕ → ℕ → ℕ → Type 0
 DigitRun t from first i v =
-    (q : Phase) (p : Piece) (s : Spot) (l : Layout) → counts q ≡ true → Stands t from (place q 0 (number p first) s) l → Stands t i (place q 0 (number p v) s) l
+    (q : Phase) (p : Piece) (s : Stand) (l : Layout) → counts q ≡ true → Stands t from (readerAt q 0 (withNumber p first) s) l → Stands t i (readerAt q 0 (withNumber p v) s) l
 
 pub record Digits (t : List ℕ) (from first : ℕ) (k : Token) : Type 0 where
   pub fit : k .fits ≡ true
@@ -68,8 +68,8 @@ between least d = leb least d && ltb d 10
 -- a number from a least digit on
 pub record Numbered (t : List ℕ) (from least : ℕ) (k : Token) : Type 0 where
   pub runs-to : k .fits ≡ true → (r : Reader) (q : Phase) (p : Piece) (e : Event) (l : Layout) → counts q ≡ true → adds e ≡ false → Stands t from r l
-      → (from < length t → between least (digitOf (getD t from 0)) ≡ true → moveOf r (getD t from 0) ≡ go q 0 (number p (digitOf (getD t from 0))) e)
-      → Stands t (k .next) (place q 0 (number p (k .value)) (nextSpot e (r .spot))) l
+      → (from < length t → between least (digitOf (getD t from 0)) ≡ true → moveOf r (getD t from 0) ≡ go q 0 (withNumber p (digitOf (getD t from 0))) e)
+      → Stands t (k .next) (readerAt q 0 (withNumber p (k .value)) (nextSpot e (r .spot))) l
   pub stops : k .fits ≡ true → k .next < length t → continues (k .value) (digitOf (getD t (k .next) 0)) ≡ false
   pub small : k .fits ≡ true → k .value < 100000
   pub fails : k .fits ≡ false → (r : Reader) (l : Layout) → Stands t from r l → endsWell r ≡ false
@@ -78,24 +78,24 @@ pub record Numbered (t : List ℕ) (from least : ℕ) (k : Token) : Type 0 where
 
 -- the letters that are owed
 abbrev pub WordRun : List ℕ → ℕ → ℕ → ℕ → ℕ → Type 0
-WordRun t from owed i o = (q : Phase) (p : Piece) (s : Spot) (l : Layout) → Stands t from (place q owed p s) l → Stands t i (place q o p s) l
+WordRun t from owed i o = (q : Phase) (p : Piece) (s : Stand) (l : Layout) → Stands t from (readerAt q owed p s) l → Stands t i (readerAt q o p s) l
 
 pub record Worded (t : List ℕ) (from owed value : ℕ) (k : Token) : Type 0 where
   pub runs-to : k .fits ≡ true → WordRun t from owed (k .next) (k .owed)
   pub paid : k .fits ≡ true → letter (k .owed) ≡ 0
   pub same : k .fits ≡ true → k .value ≡ value
-  pub fails : k .fits ≡ false → (q : Phase) (p : Piece) (s : Spot) (l : Layout) → Stands t from (place q owed p s) l → Answered t (refusedAt (k .next))
+  pub fails : k .fits ≡ false → (q : Phase) (p : Piece) (s : Stand) (l : Layout) → Stands t from (readerAt q owed p s) l → Answered t (refusedAt (k .next))
 
 -- an axis from one on, after `@` or `@T`
 pub record Axised (q : Phase) (t : List ℕ) (from least : ℕ) (k : Token) : Type 0 where
-  pub runs-to : k .fits ≡ true → (p : Piece) (s : Spot) (l : Layout) → s .from ≡ least → Stands t from (place q 0 p s) l → Stands t (k .next) (place Named (k .owed) (onAxis p (k .value)) s) l
+  pub runs-to : k .fits ≡ true → (p : Piece) (s : Stand) (l : Layout) → s .from ≡ least → Stands t from (readerAt q 0 p s) l → Stands t (k .next) (readerAt Named (k .owed) (withAxis p (k .value)) s) l
   pub paid : k .fits ≡ true → letter (k .owed) ≡ 0
   pub known : k .fits ≡ true → k .value ≤ 7
   pub low : k .fits ≡ true → least ≤ k .value
-  pub fails : k .fits ≡ false → (p : Piece) (s : Spot) (l : Layout) → s .from ≡ least → Stands t from (place q 0 p s) l → Answered t (refusedAt (k .next))
+  pub fails : k .fits ≡ false → (p : Piece) (s : Stand) (l : Layout) → s .from ≡ least → Stands t from (readerAt q 0 p s) l → Answered t (refusedAt (k .next))
 
 -- a place where a stride or an offset may begin, and no text ends
-pub record Ready (t : List ℕ) (i : ℕ) (s : Spot) (l : Layout) : Type 0 where
+pub record StepMayBegin (t : List ℕ) (i : ℕ) (s : Stand) (l : Layout) : Type 0 where
   pub reader : Reader
   pub piece : Piece
   pub event : Event
@@ -106,42 +106,42 @@ pub record Ready (t : List ℕ) (i : ℕ) (s : Spot) (l : Layout) : Type 0 where
   pub open-end : endsWell reader ≡ false
 
 -- the sign and the number of a stride or an offset
-pub record InSize (t : List ℕ) (i : ℕ) (n : Bool) (v : ℕ) (s : Spot) (l : Layout) : Type 0 where
+pub record InSize (t : List ℕ) (i : ℕ) (n : Bool) (v : ℕ) (s : Stand) (l : Layout) : Type 0 where
   pub piece : Piece
-  pub here : Stands t i (place Size 0 (signed (number piece v) n) s) l
+  pub here : Stands t i (readerAt Size 0 (withSign (withNumber piece v) n) s) l
   pub stops : i < length t → continues v (digitOf (getD t i 0)) ≡ false
 
 pub record Sized (t : List ℕ) (from : ℕ) (k : Measure) : Type 0 where
-  pub runs-to : k .fits ≡ true → (s : Spot) (l : Layout) → Ready t from s l → InSize t (k .next) (k .negative) (k .size) s l
+  pub runs-to : k .fits ≡ true → (s : Stand) (l : Layout) → StepMayBegin t from s l → InSize t (k .next) (k .negative) (k .size) s l
   pub small : k .fits ≡ true → k .size < 100000
-  pub fails : k .fits ≡ false → (s : Spot) (l : Layout) → Ready t from s l → Answered t (refusedAt (k .next))
+  pub fails : k .fits ≡ false → (s : Stand) (l : Layout) → StepMayBegin t from s l → Answered t (refusedAt (k .next))
 
 -- a place after a whole stride or offset
-pub record Finished (t : List ℕ) (i : ℕ) (step : Step) (s : Spot) (l : Layout) : Type 0 where
+pub record Finished (t : List ℕ) (i : ℕ) (step : Step) (s : Stand) (l : Layout) : Type 0 where
   pub phase : Phase
   pub owed : ℕ
   pub piece : Piece
-  pub here : Stands t i (place phase owed piece s) l
+  pub here : Stands t i (readerAt phase owed piece s) l
   pub is : stepOf piece (step .place) ≡ step
-  pub follows : i < length t → moveOf (place phase owed piece s) (getD t i 0) ≡ follow (s .part) (step .place) piece s (getD t i 0)
-  pub open-end : inOffset (s .part) ≡ false → endsWell (place phase owed piece s) ≡ false
-  pub ends : inOffset (s .part) ≡ true → isMarked (step .place) ≡ false → (endsWell (place phase owed piece s) ≡ true) × (lastEvent phase piece ≡ AStep (step .place))
+  pub follows : i < length t → moveOf (readerAt phase owed piece s) (getD t i 0) ≡ follow (s .part) (step .place) piece s (getD t i 0)
+  pub open-end : inOffset (s .part) ≡ false → endsWell (readerAt phase owed piece s) ≡ false
+  pub ends : inOffset (s .part) ≡ true → isMarked (step .place) ≡ false → (endsWell (readerAt phase owed piece s) ≡ true) × (lastEvent phase piece ≡ AStep (step .place))
 
 -- where it stands: nothing, an axis, or an axis and a star
-pub record Placed (t : List ℕ) (from least : ℕ) (marks : Bool) (k : Spotted) : Type 0 where
-  pub runs-to : k .fits ≡ true → (p : Piece) (s : Spot) (l : Layout) → s .from ≡ least → isShard (s .part) ≡ marks → Stands t from (place Size 0 p s) l
+pub record AxisRead (t : List ℕ) (from least : ℕ) (marks : Bool) (k : Spotted) : Type 0 where
+  pub runs-to : k .fits ≡ true → (p : Piece) (s : Stand) (l : Layout) → s .from ≡ least → isShard (s .part) ≡ marks → Stands t from (readerAt Size 0 p s) l
       → (from < length t → continues (p .value) (digitOf (getD t from 0)) ≡ false) → Finished t (k .next) (stepOf p (k .place)) s l
-  pub known : k .fits ≡ true → axisOf (k .place) ≤ 7
-  pub low : k .fits ≡ true → least ≤ 7 → least ≤ axisOf (k .place)
+  pub known : k .fits ≡ true → axisMeant (k .place) ≤ 7
+  pub low : k .fits ≡ true → least ≤ 7 → least ≤ axisMeant (k .place)
   pub plain : k .fits ≡ true → marks ≡ false → isMarked (k .place) ≡ false
-  pub fails : k .fits ≡ false → (p : Piece) (s : Spot) (l : Layout) → s .from ≡ least → Stands t from (place Size 0 p s) l
+  pub fails : k .fits ≡ false → (p : Piece) (s : Stand) (l : Layout) → s .from ≡ least → Stands t from (readerAt Size 0 p s) l
       → (from < length t → continues (p .value) (digitOf (getD t from 0)) ≡ false) → Answered t (refusedAt (k .next))
 
 -- a stride or an offset
 pub record Strided (t : List ℕ) (from least : ℕ) (marks : Bool) (k : Stride) : Type 0 where
-  pub runs-to : k .fits ≡ true → (s : Spot) (l : Layout) → s .from ≡ least → isShard (s .part) ≡ marks → Ready t from s l → Finished t (k .next) (k .step) s l
+  pub runs-to : k .fits ≡ true → (s : Stand) (l : Layout) → s .from ≡ least → isShard (s .part) ≡ marks → StepMayBegin t from s l → Finished t (k .next) (k .step) s l
   pub small : k .fits ≡ true → k .step .size < 100000
-  pub known : k .fits ≡ true → axisOf (k .step .place) ≤ 7
-  pub low : k .fits ≡ true → least ≤ 7 → least ≤ axisOf (k .step .place)
+  pub known : k .fits ≡ true → axisMeant (k .step .place) ≤ 7
+  pub low : k .fits ≡ true → least ≤ 7 → least ≤ axisMeant (k .step .place)
   pub plain : k .fits ≡ true → marks ≡ false → isMarked (k .step .place) ≡ false
-  pub fails : k .fits ≡ false → (s : Spot) (l : Layout) → s .from ≡ least → Ready t from s l → Answered t (refusedAt (k .next))
+  pub fails : k .fits ≡ false → (s : Stand) (l : Layout) → s .from ≡ least → StepMayBegin t from s l → Answered t (refusedAt (k .next))

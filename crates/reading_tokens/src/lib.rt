@@ -1,7 +1,7 @@
 // Tokens of the layout notation: numbers, words, axes, strides and offsets, each read in one go. What a token promises is a run of the notation's machine
 // over its bytes: where the machine stands at its beginning it comes to stand at its end, or the text goes wrong where the token says. Public only for
 // the crates above, which read lists and texts.
-use notation::Place;
+use notation::NamedAxis;
 use notation::Step;
 ghost use mathlib.Core.Path.{_≡_};
 ghost use mathlib.Core.Bool.{true, false, _&&_};
@@ -9,7 +9,7 @@ ghost use Prim.Native.Nat.{_≤_};
 ghost use lib.Dec.{ltb, eqb};
 ghost use lib.ListN.{length, getD};
 ghost use Rattle.notation.specs.declared.Phase.the-variants.{At, Tee};
-ghost use Rattle.reading_tokens.specs.Run.{Digits, Numbered, Worded, Axised, Sized, Placed, Strided};
+ghost use Rattle.reading_tokens.specs.Run.{Digits, Numbered, Worded, Axised, Sized, AxisRead, Strided};
 
 // The places of the rest of TLane and of TCol among the words of `reading_letters::expected`.
 const LANE: usize = 16;
@@ -183,18 +183,18 @@ fn size(text: &[u8], from: usize) -> Measure
 pub struct Spotted {
     pub fits: bool,
     pub next: usize,
-    pub place: Place,
+    pub place: NamedAxis,
 }
 
 // A star stands only where marks may, in the shard.
 fn spot(text: &[u8], from: usize, least: u64, marks: bool) -> Spotted
-    ensures { λ r. ⌜ Placed (now (text .entry)) from least marks r ⌝ }
+    ensures { λ r. ⌜ AxisRead (now (text .entry)) from least marks r ⌝ }
 {
     if !stands(text, from, b'@') {
         return Spotted {
             fits: true,
             next: from,
-            place: Place::Bare,
+            place: NamedAxis::Bare,
         };
     }
     let name = axis(text, from + 1, least);
@@ -203,20 +203,20 @@ fn spot(text: &[u8], from: usize, least: u64, marks: bool) -> Spotted
         return Spotted {
             fits: false,
             next: at,
-            place: Place::Bare,
+            place: NamedAxis::Bare,
         };
     }
     if stands(text, at, b'*') & marks {
         return Spotted {
             fits: true,
             next: at + 1,
-            place: Place::Marked(name.value),
+            place: NamedAxis::Marked(name.value),
         };
     }
     Spotted {
         fits: true,
         next: at,
-        place: Place::At(name.value),
+        place: NamedAxis::At(name.value),
     }
 }
 

@@ -14,7 +14,7 @@ use Rattle.swizzle.specs.Swizzle.{swizzled}
 use Rattle.swizzle.specs.Mode.{bitLength}
 use Rattle.fragment.specs.Kinds.{computation, registers, place}
 use Rattle.descriptor.specs.Descriptor.{descriptorOf}
-use Rattle.pattern.specs.Pattern.{column, number, bytes, zeroed, firstUsed}
+use Rattle.mask_pattern.specs.Pattern.{column, columnsNumber, maskBytes, zeroed, firstUsed}
 use Rattle.card.specs.Admission.{admission}
 use Rattle.rules.specs.RowMajor.{position}
 use Rattle.rules.specs.Rules.{coordinates, spot}
@@ -33,7 +33,7 @@ use Rattle.plans_judged.specs.Endings.{CheckPromise, PlanPromise, checkedNumber
 use Rattle.plans_judged.specs.declared.Checked.{Checked}
 use Rattle.plans_judged.specs.declared.Planning.{Planning}
 use Rattle.plans_judged.proofs.Run.{check-is-run, plan-is-run}
-use Rattle.sheet.specs.Questions.{verdict, owner, carry, plan, Reply, reply, asked}
+use Rattle.sheet.specs.Questions.{verdict, owner, carry, plan, Reply, reply, repliedTo}
 use Rattle.sheet.specs.Loads.{Load, loads}
 
 -- two replies are the same, tested
@@ -72,7 +72,7 @@ reply-same p q e =
     let a = both (eqb (m .number) (n .number)) (eqb (m .a) (n .a)) (b .0) in
     λ i. record {
       numbers = record {
-        number = eqb-true (m .number) (n .number) (a .0) i;
+        columnsNumber = eqb-true (m .number) (n .number) (a .0) i;
         a = eqb-true (m .a) (n .a) (a .1) i;
         b = eqb-true (m .b) (n .b) (b .1) i;
         c = eqb-true (m .c) (n .c) (c .1) i;
@@ -81,48 +81,48 @@ reply-same p q e =
     }
 
 meets : ℕ → Load → Bool
-meets k load = same (asked (load .question)) (load .stated)
+meets k load = same (repliedTo (load .question)) (load .stated)
 
 -- the computed test
 test : every meets 0 loads ≡ true
-unfolding meets asked loads swizzled bitLength leadingZeros computation registers place descriptorOf column number bytes zeroed firstUsed admission pairOf fullAdmission position coordinates spot leader copyCells outsideAxis placementAnswer placementMemory
+unfolding meets repliedTo loads swizzled bitLength leadingZeros computation registers place descriptorOf column columnsNumber maskBytes zeroed firstUsed admission pairOf fullAdmission position coordinates spot leader copyCells outsideAxis placementAnswer placementMemory
 test = refl
 
 -- every load of the sheet has its stated answer
-pub sheet-holds : (other : Load) (k : ℕ) → k < length loads → asked (getD loads k other .question) ≡ getD loads k other .stated
+pub sheet-holds : (other : Load) (k : ℕ) → k < length loads → repliedTo (getD loads k other .question) ≡ getD loads k other .stated
 unfolding meets
 sheet-holds other k h =
     let load = getD loads k other in
-    reply-same (asked (load .question)) (load .stated) (every-at meets loads other test k h)
+    reply-same (repliedTo (load .question)) (load .stated) (every-at meets loads other test k h)
 
 -- a load of the verdict is a load of its promise: whatever the promise allows has the numbers that the run computes, and leaves its table
 pub verdict-carried : (card : Card) (before after : List ℕ) (v : Verdict) → VerdictPromise card before after v
-    → (asked (verdict card before) ≡ reply (verdictNumbers v) []) × (after ≡ tableAfter card (judge card (length before)) before)
-unfolding asked
+    → (repliedTo (verdict card before) ≡ reply (verdictNumbers v) []) × (after ≡ tableAfter card (judge card (length before)) before)
+unfolding repliedTo
 verdict-carried card before after v p =
     let run = verdict-is-run card before after v p in
     (ap (λ (w : Verdict). reply (verdictNumbers w) []) (sym (run .0)), run .1)
 
 -- and so is one of the owner
 pub owner-carried : (card : Card) (coordinates before after : List ℕ) (o : Owner) → OwnerPromise card coordinates before after o
-    → (asked (owner card coordinates before) ≡ reply (ownerNumbers o) [])
+    → (repliedTo (owner card coordinates before) ≡ reply (ownerNumbers o) [])
     × (after ≡ ownerTableAfter card (ownerRun card coordinates (length before)) before)
-unfolding asked
+unfolding repliedTo
 owner-carried card coordinates before after o p =
     let run = owner-is-run card coordinates before after o p in
     (ap (λ (w : Owner). reply (ownerNumbers w) []) (sym (run .0)), run .1)
 
 -- and so is one of a plan that is checked, or written
 pub check-carried : (one two : Card) (moves first second f s : List ℕ) (a : Checked) → CheckPromise one two moves first second f s a
-    → asked (carry one two moves first second) ≡ reply (checkedNumbers a) (f ++ s)
-unfolding asked
+    → repliedTo (carry one two moves first second) ≡ reply (checkedNumbers a) (f ++ s)
+unfolding repliedTo
 check-carried one two moves first second f s a p =
     let run = check-is-run one two first second moves f s a p in
     ap₂ reply (ap checkedNumbers (sym (run .0))) (ap₂ (λ (l r : List ℕ). l ++ r) (sym (run .1)) (sym (run .2)))
 
 pub plan-carried : (one two : Card) (memory first second m f s : List ℕ) (a : Planning) → PlanPromise one two memory first second m f s a
-    → asked (plan one two memory first second) ≡ reply (planningNumbers a) (m ++ (f ++ s))
-unfolding asked
+    → repliedTo (plan one two memory first second) ≡ reply (planningNumbers a) (m ++ (f ++ s))
+unfolding repliedTo
 plan-carried one two memory first second m f s a p =
     let run = plan-is-run one two first second memory m f s a p in
     ap₂ reply (ap planningNumbers (sym (run .0)))

@@ -48,19 +48,19 @@ swizzle M B S = record { m = M; b = B; s = S }
 abbrev pub unswizzled : Swizzle
 unswizzled = swizzle 0 0 3
 
-abbrev pub none : List ℤ
-none = replicate 8 (pos 0)
+abbrev pub zeroOffsets : List ℤ
+zeroOffsets = replicate 8 (pos 0)
 
 -- no iter is marked
-abbrev pub noMarks : List Bool
-noMarks = replicate 8 false
+abbrev pub unmarkedIters : List Bool
+unmarkedIters = replicate 8 false
 
 -- tile X with a length of warpid and a replica stride: its own are 11 and 4
 abbrev pub tile : ℕ → ℕ → Card
 tile warps stride =
     record {
       shard = iters (8 by 4 on laneid ∷ 2 by 1 on warpid ∷ 4 by 1 on laneid ∷ 2 by 1 on m ∷ []);
-      marks = noMarks;
+      marks = unmarkedIters;
       replica = iters (2 by stride on warpid ∷ []);
       offset = map pos (0 ∷ 5 ∷ 0 ∷ 0 ∷ 0 ∷ 0 ∷ 0 ∷ 0 ∷ []);
       lengths = 1 ∷ warps ∷ 32 ∷ 1 ∷ 1 ∷ 1 ∷ 1 ∷ 2 ∷ [];
@@ -75,7 +75,7 @@ abbrev pub fromM : List Iter → List Iter → ℤ → ℕ → Swizzle → Card
 fromM shard replica offset long w =
     record {
       shard = iters shard;
-      marks = noMarks;
+      marks = unmarkedIters;
       replica = iters replica;
       offset = pos 0 ∷ pos 0 ∷ pos 0 ∷ pos 0 ∷ pos 0 ∷ pos 0 ∷ pos 0 ∷ offset ∷ [];
       lengths = 1 ∷ 1 ∷ 1 ∷ 1 ∷ 1 ∷ 1 ∷ 1 ∷ long ∷ [];
@@ -83,8 +83,8 @@ fromM shard replica offset long w =
     }
 
 -- iters on m alone, in a length of m, with a swizzle
-abbrev pub onM : List Iter → ℕ → Swizzle → Card
-onM shard = fromM shard [] (pos 0)
+abbrev pub onlyOnM : List Iter → ℕ → Swizzle → Card
+onlyOnM shard = fromM shard [] (pos 0)
 
 -- one element at an offset on m
 abbrev pub atM : ℤ → ℕ → Swizzle → Card
@@ -107,9 +107,9 @@ abbrev pub inTensorMemory : List Iter → List Iter → ℕ → ℕ → Card
 inTensorMemory shard replica lanes columns =
     record {
       shard = iters shard;
-      marks = noMarks;
+      marks = unmarkedIters;
       replica = iters replica;
-      offset = none;
+      offset = zeroOffsets;
       lengths = 1 ∷ 1 ∷ 1 ∷ 1 ∷ 1 ∷ lanes ∷ columns ∷ 1 ∷ [];
       swizzle = unswizzled;
     }
@@ -123,8 +123,8 @@ abbrev pub doubled : ℕ → Swizzle → Card
 doubled = fromM (2 by 1 on m ∷ []) (2 by 0 on m ∷ []) (pos 0)
 
 -- one element with these copies, from an offset on m
-abbrev pub copied : List Iter → ℕ → Card
-copied replica offset = fromM (1 by 0 on m ∷ []) replica (pos offset) 3 unswizzled
+abbrev pub elementCopied : List Iter → ℕ → Card
+elementCopied replica offset = fromM (1 by 0 on m ∷ []) replica (pos offset) 3 unswizzled
 
 -- one element in tensor memory with copies to both sides, by the same stride
 abbrev pub bothSides : Card
@@ -135,8 +135,8 @@ abbrev pub scaleFactors : Card
 scaleFactors = inTensorMemory (32 by 1 on TLane ∷ 4 by 1 on TCol ∷ []) (4 by 32 on TLane ∷ []) 128 4
 
 -- a card with reuse marks on its first iters
-abbrev pub marked : List Bool → Card → Card
-marked marks card =
+abbrev pub withMarks : List Bool → Card → Card
+withMarks marks card =
     record {
       shard = card .shard;
       marks = padded false marks;
@@ -156,15 +156,15 @@ fourEach stride long = fromM (2 by 0 on m ∷ 3 by 1 on m ∷ 2 by 0 on m ∷ []
 
 -- 65 elements in a row, swizzled
 abbrev pub sixtyFive : ℕ → Card
-sixtyFive long = onM (65 by 1 on m ∷ []) long (swizzle 3 3 3)
+sixtyFive long = onlyOnM (65 by 1 on m ∷ []) long (swizzle 3 3 3)
 
 -- Figure 189's layout as printed
 abbrev pub figure189 : Card
-figure189 = onM (2 by 64 on m ∷ 8 by 8 on m ∷ 4 by 4 on m ∷ 4 by 1 on m ∷ []) 256 (swizzle 2 1 3)
+figure189 = onlyOnM (2 by 64 on m ∷ 8 by 8 on m ∷ 4 by 4 on m ∷ 4 by 1 on m ∷ []) 256 (swizzle 2 1 3)
 
 -- a card that says to have so many shard and replica iters, whatever stands in their slots
-abbrev pub saying : ℕ → ℕ → Card → Card
-saying shards replicas card =
+abbrev pub sayingCounts : ℕ → ℕ → Card → Card
+sayingCounts shards replicas card =
     record {
       shard = record { at = card .shard .at; count = shards };
       marks = card .marks;

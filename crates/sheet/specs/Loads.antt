@@ -9,7 +9,7 @@ use Rattle.answers.specs.Refusals.{answer}
 use Rattle.descriptor.specs.Descriptor.{descriptorOf}
 use Rattle.descriptor.specs.declared.Fields.{Fields}
 use Rattle.sheet.specs.Questions.{Question, swizzle, mode, bank, fragment, descriptor, mask, place, verdict, owner, stretch, carry, plan, Reply, reply}
-use Rattle.sheet.specs.Cards.{tuple, tile, tileX, unswizzled, onM, atM, backwards, lastRowFirst, copiesBack, _by_on_, _back_on_, m, TLane, inTensorMemory, wideTile, doubled, copied, bothSides, scaleFactors, marked, reusedFactors, fourEach, sixtyFive, figure189, saying, inARow, fullCard, twoFrom, twoTurned, twoTwice}
+use Rattle.sheet.specs.Cards.{tuple, tile, tileX, unswizzled, onlyOnM, atM, backwards, lastRowFirst, copiesBack, _by_on_, _back_on_, m, TLane, inTensorMemory, wideTile, doubled, elementCopied, bothSides, scaleFactors, withMarks, reusedFactors, fourEach, sixtyFive, figure189, sayingCounts, inARow, fullCard, twoFrom, twoTurned, twoTwice}
 use Rattle.sheet.specs.Cards.{swizzle as swizzleBy}
 
 pub record Load : Type 0 where
@@ -33,15 +33,15 @@ fields counts spans non-zero skip used shift =
     }
 
 -- no start count, and first span 0 as given
-abbrev pub plain : Bool → Bool → ℕ → ℕ → ℕ → Fields
-plain span non-zero = fields (0 ∷ 0 ∷ 0 ∷ 0 ∷ []) (span ∷ false ∷ false ∷ false ∷ []) non-zero
+abbrev pub plainFields : Bool → Bool → ℕ → ℕ → ℕ → Fields
+plainFields span non-zero = fields (0 ∷ 0 ∷ 0 ∷ 0 ∷ []) (span ∷ false ∷ false ∷ false ∷ []) non-zero
 
 -- two and four lent bytes
 abbrev pub two : List ℕ
 two = 165 ∷ 165 ∷ []
 
-abbrev pub four : List ℕ
-four = 165 ∷ 165 ∷ 165 ∷ 165 ∷ []
+abbrev pub fourEntries : List ℕ
+fourEntries = 165 ∷ 165 ∷ 165 ∷ 165 ∷ []
 
 -- tile X's element (i, j) of its (8, 16) tile, in two lent entries
 abbrev pub elementX : ℕ → ℕ → Question
@@ -50,7 +50,7 @@ elementX i j = place tileX (tuple (8 ∷ 16 ∷ [])) (tuple (i ∷ j ∷ [])) (1
 -- element (i, j) of source document 004's (8, 64) tile under the 128B swizzle
 abbrev pub element128 : ℕ → ℕ → Question
 element128 i j =
-    place (onM (8 by 64 on m ∷ 64 by 1 on m ∷ []) 512 (swizzleBy 3 3 3)) (tuple (8 ∷ 64 ∷ [])) (tuple (i ∷ j ∷ [])) (1000000 ∷ [])
+    place (onlyOnM (8 by 64 on m ∷ 64 by 1 on m ∷ []) 512 (swizzleBy 3 3 3)) (tuple (8 ∷ 64 ∷ [])) (tuple (i ∷ j ∷ [])) (1000000 ∷ [])
 
 -- a table of so many entries
 abbrev pub table : ℕ → List ℕ
@@ -125,32 +125,32 @@ loads =
     ∷ (fragment 7 22 0 is reply (answer 0 0 2 5) [])
     ∷ (fragment 8 21 1 is reply (answer 0 0 5 3) [])
     -- masks, with source document 003's four examples: its example 4, and with sub-masks as long as printed
-    ∷ (mask 32 32 0x0203028301020100 four is reply (answer 0 14 3 0) (0x87 ∷ 0xc3 ∷ 0x1c ∷ 0x38 ∷ []))
+    ∷ (mask 32 32 0x0203028301020100 fourEntries is reply (answer 0 14 3 0) (0x87 ∷ 0xc3 ∷ 0x1c ∷ 0x38 ∷ []))
     ∷ (mask 32 64 0x0203028301020100 (replicate 8 165)
     is reply (answer 0 28 3 0) (0x87 ∷ 0xc3 ∷ 0xc3 ∷ 0xe1 ∷ 0x1c ∷ 0x0e ∷ 0x38 ∷ 0x1c ∷ []))
     -- example 1: the non-zero mask is 0
-    ∷ (mask 128 16 (descriptorOf (plain false false 4 3 0)) two is reply (answer 0 0 0 0) (0 ∷ 0 ∷ []))
+    ∷ (mask 128 16 (descriptorOf (plainFields false false 4 3 0)) two is reply (answer 0 0 0 0) (0 ∷ 0 ∷ []))
     -- example 2, and with the shift at its limit and past it
-    ∷ (mask 128 16 (descriptorOf (plain false true 2 3 0)) two is reply (answer 0 6 0 0) (0x70 ∷ 0x38 ∷ []))
-    ∷ (mask 128 16 (descriptorOf (plain false true 2 3 32)) two is reply (answer 0 6 0 0) (0x70 ∷ 0x38 ∷ []))
-    ∷ (mask 128 16 (descriptorOf (plain false true 2 3 33)) two is reply (answer 16 32 0 0) two)
+    ∷ (mask 128 16 (descriptorOf (plainFields false true 2 3 0)) two is reply (answer 0 6 0 0) (0x70 ∷ 0x38 ∷ []))
+    ∷ (mask 128 16 (descriptorOf (plainFields false true 2 3 32)) two is reply (answer 0 6 0 0) (0x70 ∷ 0x38 ∷ []))
+    ∷ (mask 128 16 (descriptorOf (plainFields false true 2 3 33)) two is reply (answer 16 32 0 0) two)
     -- a shift's limit is 16 for M = 32 and 32 otherwise, in a mask
-    ∷ (mask 64 16 (descriptorOf (plain false true 2 3 32)) two is reply (answer 0 6 0 0) (0x70 ∷ 0x70 ∷ []))
-    ∷ (mask 64 16 (descriptorOf (plain false true 2 3 33)) two is reply (answer 16 32 0 0) two)
-    ∷ (mask 32 8 (descriptorOf (plain false true 2 3 16)) two is reply (answer 0 0 0 0) (0 ∷ 165 ∷ []))
-    ∷ (mask 32 8 (descriptorOf (plain false true 2 3 17)) two is reply (answer 16 16 0 0) two)
+    ∷ (mask 64 16 (descriptorOf (plainFields false true 2 3 32)) two is reply (answer 0 6 0 0) (0x70 ∷ 0x70 ∷ []))
+    ∷ (mask 64 16 (descriptorOf (plainFields false true 2 3 33)) two is reply (answer 16 32 0 0) two)
+    ∷ (mask 32 8 (descriptorOf (plainFields false true 2 3 16)) two is reply (answer 0 0 0 0) (0 ∷ 165 ∷ []))
+    ∷ (mask 32 8 (descriptorOf (plainFields false true 2 3 17)) two is reply (answer 16 16 0 0) two)
     -- and in a written descriptor, where a wrong M comes first
-    ∷ (descriptor 128 (plain false true 2 3 32) is reply (answer 0 2306690182922895360 0 0) [])
-    ∷ (descriptor 128 (plain false true 2 3 33) is reply (answer 16 32 0 0) [])
-    ∷ (descriptor 64 (plain false true 2 3 32) is reply (answer 0 2306690182922895360 0 0) [])
-    ∷ (descriptor 64 (plain false true 2 3 33) is reply (answer 16 32 0 0) [])
-    ∷ (descriptor 32 (plain false true 2 3 16) is reply (answer 0 1153768678316048384 0 0) [])
-    ∷ (descriptor 32 (plain false true 2 3 17) is reply (answer 16 16 0 0) [])
-    ∷ (descriptor 16 (plain false true 2 3 16) is reply (answer 13 0 0 0) [])
-    ∷ (descriptor 96 (plain false true 2 3 33) is reply (answer 13 0 0 0) [])
+    ∷ (descriptor 128 (plainFields false true 2 3 32) is reply (answer 0 2306690182922895360 0 0) [])
+    ∷ (descriptor 128 (plainFields false true 2 3 33) is reply (answer 16 32 0 0) [])
+    ∷ (descriptor 64 (plainFields false true 2 3 32) is reply (answer 0 2306690182922895360 0 0) [])
+    ∷ (descriptor 64 (plainFields false true 2 3 33) is reply (answer 16 32 0 0) [])
+    ∷ (descriptor 32 (plainFields false true 2 3 16) is reply (answer 0 1153768678316048384 0 0) [])
+    ∷ (descriptor 32 (plainFields false true 2 3 17) is reply (answer 16 16 0 0) [])
+    ∷ (descriptor 16 (plainFields false true 2 3 16) is reply (answer 13 0 0 0) [])
+    ∷ (descriptor 96 (plainFields false true 2 3 33) is reply (answer 13 0 0 0) [])
     -- example 3
-    ∷ (mask 64 32 (descriptorOf (plain true true 2 3 0)) four is reply (answer 0 14 3 0) (0x87 ∷ 0xc3 ∷ 0x70 ∷ 0x38 ∷ []))
-    ∷ (mask 64 40 (descriptorOf (plain true true 2 3 0)) (replicate 5 165)
+    ∷ (mask 64 32 (descriptorOf (plainFields true true 2 3 0)) fourEntries is reply (answer 0 14 3 0) (0x87 ∷ 0xc3 ∷ 0x70 ∷ 0x38 ∷ []))
+    ∷ (mask 64 40 (descriptorOf (plainFields true true 2 3 0)) (replicate 5 165)
     is reply (answer 0 17 3 0) (0x87 ∷ 0xc3 ∷ 0x01 ∷ 0x87 ∷ 0xc3 ∷ []))
     -- placement: element 127 of tile X, then the table of source document 004
     ∷ (elementX 7 15 is reply (answer 0 2 0 0) (447 ∷ 703 ∷ []))
@@ -166,7 +166,7 @@ loads =
     -- source document 004's accumulator of 224 columns: its last element
     ∷ (place wideTile (tuple (2 ∷ 128 ∷ 112 ∷ [])) (tuple (1 ∷ 127 ∷ 111 ∷ [])) (1000000 ∷ []) is reply (answer 0 1 0 0) (28671 ∷ []))
     -- the last of 65,536
-    ∷ (place (onM (65536 by 1 on m ∷ []) 65536 unswizzled) (tuple (65536 ∷ [])) (tuple (65535 ∷ [])) (1000000 ∷ []) is reply (answer 0 1 0 0) (65535 ∷ []))
+    ∷ (place (onlyOnM (65536 by 1 on m ∷ []) 65536 unswizzled) (tuple (65536 ∷ [])) (tuple (65535 ∷ [])) (1000000 ∷ []) is reply (answer 0 1 0 0) (65535 ∷ []))
     -- verdicts: tile X, with warpid 10, with replica stride 1
     ∷ (verdict tileX (table 704) is reply (answer 0 128 256 704) [])
     ∷ (verdict (tile 10 4) (table 704) is reply (answer 7 8 1 0) [])
@@ -179,9 +179,9 @@ loads =
     ∷ (verdict (doubled 1 unswizzled) (table 1) is reply (answer 17 0 1 0) [])
     ∷ (verdict (doubled 2 (swizzleBy 3 3 2)) (table 2) is reply (answer 6 0 0 0) [])
     -- the smallest second first: 1 and 2, although 0 and 4 give the same sums too
-    ∷ (verdict (copied (2 by 0 on m ∷ 2 by 1 on m ∷ 2 by 1 on m ∷ []) 0) (table 3) is reply (answer 17 1 2 0) [])
+    ∷ (verdict (elementCopied (2 by 0 on m ∷ 2 by 1 on m ∷ 2 by 1 on m ∷ []) 0) (table 3) is reply (answer 17 1 2 0) [])
     -- one copy forwards and one backwards meet where they began; tile X, above, has no such pair, nor have equal strides on different axes
-    ∷ (verdict (copied (2 by 1 on m ∷ 2 back 1 on m ∷ []) 1) (table 3) is reply (answer 17 0 3 0) [])
+    ∷ (verdict (elementCopied (2 by 1 on m ∷ 2 back 1 on m ∷ []) 1) (table 3) is reply (answer 17 0 3 0) [])
     ∷ (verdict bothSides (table 4) is reply (answer 0 1 4 4) [])
     -- the scale factors: TLane 37 and TCol 2 is cell 150, and belongs to element 22, which has four copies
     ∷ (stretch (scaleFactors .lengths) 7 (0 ∷ 0 ∷ 0 ∷ 0 ∷ 0 ∷ 37 ∷ 2 ∷ 0 ∷ []) (table 512) is reply (answer 0 150 1 0) (1000000 ∷ []))
@@ -208,10 +208,10 @@ loads =
     -- a swizzled card with an m of -1
     ∷ (verdict (atM (negℤ (pos 1)) 65 (swizzleBy 3 3 3)) (table 65) is reply (answer 7 0 7 0) [])
     -- both ends of the limits of a stride, and of an offset, which within them only leaves the space
-    ∷ (verdict (onM (1 back 65536 on m ∷ []) 1 unswizzled) (table 1) is reply (answer 0 1 1 1) [])
-    ∷ (verdict (onM (1 back 65537 on m ∷ []) 1 unswizzled) (table 1) is reply (answer 2 0 0 0) [])
-    ∷ (verdict (onM (1 by 65535 on m ∷ []) 1 unswizzled) (table 1) is reply (answer 0 1 1 1) [])
-    ∷ (verdict (onM (1 by 65536 on m ∷ []) 1 unswizzled) (table 1) is reply (answer 2 0 0 0) [])
+    ∷ (verdict (onlyOnM (1 back 65536 on m ∷ []) 1 unswizzled) (table 1) is reply (answer 0 1 1 1) [])
+    ∷ (verdict (onlyOnM (1 back 65537 on m ∷ []) 1 unswizzled) (table 1) is reply (answer 2 0 0 0) [])
+    ∷ (verdict (onlyOnM (1 by 65535 on m ∷ []) 1 unswizzled) (table 1) is reply (answer 0 1 1 1) [])
+    ∷ (verdict (onlyOnM (1 by 65536 on m ∷ []) 1 unswizzled) (table 1) is reply (answer 2 0 0 0) [])
     ∷ (verdict (atM (negℤ (pos 65536)) 65 unswizzled) (table 65) is reply (answer 7 0 7 0) [])
     ∷ (verdict (atM (negℤ (pos 65537)) 65 unswizzled) (table 65) is reply (answer 2 0 0 0) [])
     ∷ (verdict (atM (pos 65535) 65 unswizzled) (table 65) is reply (answer 7 0 7 0) [])
@@ -219,38 +219,38 @@ loads =
     -- reuse marks (document 02): scale factors used twice are refused without the mark and approved with it; the owner is the smallest of its class;
     -- a follower is placed with its leader
     ∷ (verdict reusedFactors (table 512) is reply (answer 8 0 128 0) [])
-    ∷ (verdict (marked (true ∷ []) reusedFactors) (table 512) is reply (answer 0 256 512 512) [])
-    ∷ (owner (marked (true ∷ []) reusedFactors) (0 ∷ 0 ∷ 0 ∷ 0 ∷ 0 ∷ 37 ∷ 2 ∷ 0 ∷ []) (table 512) is reply (answer 0 23 0 0) [])
-    ∷ (place (marked (true ∷ []) reusedFactors) (tuple (2 ∷ 32 ∷ 4 ∷ [])) (tuple (1 ∷ 5 ∷ 2 ∷ [])) (table 4)
+    ∷ (verdict (withMarks (true ∷ []) reusedFactors) (table 512) is reply (answer 0 256 512 512) [])
+    ∷ (owner (withMarks (true ∷ []) reusedFactors) (0 ∷ 0 ∷ 0 ∷ 0 ∷ 0 ∷ 37 ∷ 2 ∷ 0 ∷ []) (table 512) is reply (answer 0 23 0 0) [])
+    ∷ (place (withMarks (true ∷ []) reusedFactors) (tuple (2 ∷ 32 ∷ 4 ∷ [])) (tuple (1 ∷ 5 ∷ 2 ∷ [])) (table 4)
     is reply (answer 0 4 0 0) (22 ∷ 150 ∷ 278 ∷ 406 ∷ []))
     -- two marks; one of them missing; two classes that meet, x and y the smallest of theirs
-    ∷ (verdict (marked (true ∷ false ∷ true ∷ []) (fourEach 3 6)) (table 6) is reply (answer 0 12 6 6) [])
-    ∷ (verdict (marked (false ∷ false ∷ true ∷ []) (fourEach 3 6)) (table 6) is reply (answer 8 0 6 0) [])
-    ∷ (verdict (marked (true ∷ false ∷ true ∷ []) (fourEach 2 5)) (table 5) is reply (answer 8 0 4 2) [])
+    ∷ (verdict (withMarks (true ∷ false ∷ true ∷ []) (fourEach 3 6)) (table 6) is reply (answer 0 12 6 6) [])
+    ∷ (verdict (withMarks (false ∷ false ∷ true ∷ []) (fourEach 3 6)) (table 6) is reply (answer 8 0 6 0) [])
+    ∷ (verdict (withMarks (true ∷ false ∷ true ∷ []) (fourEach 2 5)) (table 5) is reply (answer 8 0 4 2) [])
     -- a marked stride of 1; a mark past the count
-    ∷ (verdict (marked (true ∷ []) (onM (4 by 1 on m ∷ []) 4 unswizzled)) (table 4) is reply (answer 2 0 0 0) [])
-    ∷ (verdict (marked (false ∷ true ∷ []) (onM (4 by 1 on m ∷ []) 4 unswizzled)) (table 4) is reply (answer 0 4 4 4) [])
+    ∷ (verdict (withMarks (true ∷ []) (onlyOnM (4 by 1 on m ∷ []) 4 unswizzled)) (table 4) is reply (answer 2 0 0 0) [])
+    ∷ (verdict (withMarks (false ∷ true ∷ []) (onlyOnM (4 by 1 on m ∷ []) 4 unswizzled)) (table 4) is reply (answer 0 4 4 4) [])
     -- Figure 189's layout
     ∷ (verdict figure189 (table 256) is reply (answer 8 8 16 8) [])
     -- the accumulator of 224 columns: 28,672 cells, more than are lent
     ∷ (verdict wideTile (table 704) is reply (answer 11 28672 0 0) [])
     -- limits of document 02, at each and past it: an extent, a length, the cells, the elements; a product of 2^32
-    ∷ (verdict (onM (65536 by 0 on m ∷ []) 1 unswizzled) [] is reply (answer 11 1 0 0) [])
-    ∷ (verdict (onM (65537 by 0 on m ∷ []) 1 unswizzled) [] is reply (answer 2 0 0 0) [])
-    ∷ (verdict (onM (1 by 0 on m ∷ []) 65536 unswizzled) [] is reply (answer 11 65536 0 0) [])
-    ∷ (verdict (onM (1 by 0 on m ∷ []) 65537 unswizzled) [] is reply (answer 4 0 0 0) [])
+    ∷ (verdict (onlyOnM (65536 by 0 on m ∷ []) 1 unswizzled) [] is reply (answer 11 1 0 0) [])
+    ∷ (verdict (onlyOnM (65537 by 0 on m ∷ []) 1 unswizzled) [] is reply (answer 2 0 0 0) [])
+    ∷ (verdict (onlyOnM (1 by 0 on m ∷ []) 65536 unswizzled) [] is reply (answer 11 65536 0 0) [])
+    ∷ (verdict (onlyOnM (1 by 0 on m ∷ []) 65537 unswizzled) [] is reply (answer 4 0 0 0) [])
     ∷ (verdict (inTensorMemory (1 by 0 on TLane ∷ []) [] 256 256) [] is reply (answer 11 65536 0 0) [])
     ∷ (verdict (inTensorMemory (1 by 0 on TLane ∷ []) [] 256 257) [] is reply (answer 4 0 0 0) [])
     ∷ (verdict (inTensorMemory (1 by 0 on TLane ∷ []) [] 65536 65536) [] is reply (answer 4 0 0 0) [])
-    ∷ (verdict (onM (32768 by 0 on m ∷ 2 by 0 on m ∷ []) 1 unswizzled) [] is reply (answer 11 1 0 0) [])
-    ∷ (verdict (onM (32769 by 0 on m ∷ 2 by 0 on m ∷ []) 1 unswizzled) [] is reply (answer 5 0 0 0) [])
-    ∷ (verdict (onM (65536 by 0 on m ∷ 65536 by 0 on m ∷ []) 1 unswizzled) [] is reply (answer 5 0 0 0) [])
+    ∷ (verdict (onlyOnM (32768 by 0 on m ∷ 2 by 0 on m ∷ []) 1 unswizzled) [] is reply (answer 11 1 0 0) [])
+    ∷ (verdict (onlyOnM (32769 by 0 on m ∷ 2 by 0 on m ∷ []) 1 unswizzled) [] is reply (answer 5 0 0 0) [])
+    ∷ (verdict (onlyOnM (65536 by 0 on m ∷ 65536 by 0 on m ∷ []) 1 unswizzled) [] is reply (answer 5 0 0 0) [])
     -- the copies, the iters and the swizzle's numbers at their limits and past them
     ∷ (verdict (inARow 64) (table 64) is reply (answer 0 1 64 64) [])
     ∷ (verdict (inARow 65) (table 65) is reply (answer 5 0 0 0) [])
     ∷ (verdict fullCard (table 1) is reply (answer 0 1 1 1) [])
-    ∷ (verdict (saying 9 4 fullCard) (table 1) is reply (answer 1 0 0 0) [])
-    ∷ (verdict (saying 8 5 fullCard) (table 1) is reply (answer 1 0 0 0) [])
+    ∷ (verdict (sayingCounts 9 4 fullCard) (table 1) is reply (answer 1 0 0 0) [])
+    ∷ (verdict (sayingCounts 8 5 fullCard) (table 1) is reply (answer 1 0 0 0) [])
     ∷ (verdict (atM (pos 0) 1 (swizzleBy 8 4 8)) (table 1) is reply (answer 0 1 1 1) [])
     ∷ (verdict (atM (pos 0) 1 (swizzleBy 9 4 8)) (table 1) is reply (answer 6 0 0 0) [])
     ∷ (verdict (atM (pos 0) 1 (swizzleBy 8 5 8)) (table 1) is reply (answer 6 0 0 0) [])
@@ -264,8 +264,8 @@ loads =
     ∷ (stretch (replicate 7 1 ++ 65536 ∷ []) 0 (replicate 8 0) [] is reply (answer 11 65536 0 0) [])
     ∷ (stretch (replicate 7 1 ++ 65537 ∷ []) 0 (replicate 8 0) [] is reply (answer 4 0 0 0) [])
     -- the rows of document 01's refusal table that no load above meets: no iter, an axis above 7
-    ∷ (verdict (onM [] 1 unswizzled) [] is reply (answer 1 0 0 0) [])
-    ∷ (verdict (onM (1 by 0 on 8 ∷ []) 1 unswizzled) [] is reply (answer 3 0 0 0) [])
+    ∷ (verdict (onlyOnM [] 1 unswizzled) [] is reply (answer 1 0 0 0) [])
+    ∷ (verdict (onlyOnM (1 by 0 on 8 ∷ []) 1 unswizzled) [] is reply (answer 3 0 0 0) [])
     -- a shape of other than the elements, a coordinate that equals its dimension
     ∷ (place tileX (tuple (8 ∷ 15 ∷ [])) (tuple (0 ∷ 0 ∷ [])) [] is reply (answer 9 0 0 0) [])
     ∷ (place tileX (tuple (8 ∷ 16 ∷ [])) (tuple (8 ∷ 0 ∷ [])) [] is reply (answer 10 0 0 0) [])
@@ -294,7 +294,7 @@ loads =
     -- the first card refused, then the second, then a reuse mark, then other elements: each empties both tables
     ∷ (carry (twoFrom 5) (twoFrom 6) [] (table 6) (table 6) is reply (answer 7 1 7 0) (replicate 12 0))
     ∷ (carry (twoFrom 0) (twoFrom 6) [] (table 6) (table 6) is reply (answer 7 0 7 0) (replicate 12 0))
-    ∷ (carry (twoFrom 0) (marked (true ∷ []) (atM (pos 4) 6 unswizzled)) [] (table 6) (table 6) is reply (answer 2 0 0 0) (replicate 12 0))
+    ∷ (carry (twoFrom 0) (withMarks (true ∷ []) (atM (pos 4) 6 unswizzled)) [] (table 6) (table 6) is reply (answer 2 0 0 0) (replicate 12 0))
     ∷ (carry (twoFrom 0) (atM (pos 4) 6 unswizzled) [] (table 6) (table 6) is reply (answer 9 0 0 0) (replicate 12 0))
     -- the plain plan: from the smaller of an element's two cells; the fifth number stays
     ∷ (plan twoTwice (twoFrom 4) (table 5) (table 6) (table 6)

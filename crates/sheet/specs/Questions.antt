@@ -7,7 +7,7 @@ use Rattle.swizzle.specs.Swizzle.{swizzleAnswer, swizzleNumbers}
 use Rattle.swizzle.specs.Mode.{modeAnswer, modeNumbers}
 use Rattle.banks_judged.specs.Bank.{bankAnswer, bankNumbers}
 use Rattle.fragment.specs.Fragment.{heldAnswer, heldNumbers}
-use Rattle.descriptor.specs.Descriptor.{shiftLimit, writeAnswer, writeNumbers}
+use Rattle.descriptor.specs.Descriptor.{shiftLimit, descriptorAnswer, descriptorNumbers}
 use Rattle.mask.specs.Mask.{maskAnswer, maskMemory, maskNumbers}
 use Rattle.descriptor.specs.declared.Fields.{Fields}
 use Rattle.card.specs.Card.{cells}
@@ -55,26 +55,26 @@ pub record Reply : Type 0 where
 abbrev pub reply : Numbers → List ℕ → Reply
 reply n v = record { numbers = n; values = v }
 
-unfoldable pub asked : Question → Reply
-asked (swizzle M B S m) = reply (swizzleNumbers (swizzleAnswer M B S m)) []
-asked (mode bits n) = reply (modeNumbers (modeAnswer bits n)) []
-asked (bank bits address) = reply (bankNumbers (bankAnswer bits address)) []
-asked (fragment kind lane i) = reply (heldNumbers (heldAnswer kind lane i)) []
-asked (descriptor M fields) = reply (writeNumbers (writeAnswer (shiftLimit M) M fields)) []
-asked (mask M N d lent) =
+unfoldable pub repliedTo : Question → Reply
+repliedTo (swizzle M B S m) = reply (swizzleNumbers (swizzleAnswer M B S m)) []
+repliedTo (mode bits n) = reply (modeNumbers (modeAnswer bits n)) []
+repliedTo (bank bits address) = reply (bankNumbers (bankAnswer bits address)) []
+repliedTo (fragment kind lane i) = reply (heldNumbers (heldAnswer kind lane i)) []
+repliedTo (descriptor M fields) = reply (descriptorNumbers (descriptorAnswer (shiftLimit M) M fields)) []
+repliedTo (mask M N d lent) =
     let generated = maskAnswer (shiftLimit M) M N d (length lent) in
     reply (maskNumbers generated) (maskMemory generated M N d lent)
-asked (place card shape coordinates lent) =
+repliedTo (place card shape coordinates lent) =
     reply (placementNumbers (placementAnswer card shape coordinates (length lent))) (placementMemory card shape coordinates lent)
-asked (verdict card table) = reply (verdictNumbers (verdictOf card (judge card (length table)))) []
-asked (owner card coordinates table) =
+repliedTo (verdict card table) = reply (verdictNumbers (verdictOf card (judge card (length table)))) []
+repliedTo (owner card coordinates table) =
     reply (ownerNumbers (ownerOf card coordinates (ownerRun card coordinates (length table)) table)) []
-asked (stretch lengths axis coordinates table) =
+repliedTo (stretch lengths axis coordinates table) =
     let located = stretchAnswer lengths axis coordinates (length table) in
     reply (stretchNumbers located) (stretchOf located table)
-asked (carry one two moves first second) =
+repliedTo (carry one two moves first second) =
     let run = checkRun one two moves (length first) (length second) in
     reply (checkedNumbers (answerOf run)) (firstAfter (cells one) run first ++ secondAfter (cells one) run second)
-asked (plan one two memory first second) =
+repliedTo (plan one two memory first second) =
     let run = planRun one two (length memory) (length first) (length second) in
     reply (planningNumbers (answerOf run)) (memoryAfter run memory ++ (firstAfter (cells one) run first ++ secondAfter (cells one) run second))

@@ -6,7 +6,7 @@ use rules::Position;
 use stretch_judged::Located;
 ghost use mathlib.Core.Path.{_≡_};
 ghost use lib.ListN.{length};
-ghost use Rattle.stretch_judged.specs.Stretch.{stretchAnswer, stretchOf, Begins, stretchNumbers};
+ghost use Rattle.stretch_judged.specs.Stretch.{stretchAnswer, stretchOf, StretchBegins, stretchNumbers};
 
 // Where a stretch of the table lies: the cells under the coordinates of all axes up to and with the
 // asked one. No coordinate past it is looked at.
@@ -25,12 +25,12 @@ pub fn locate_stretch(table: &[u32], lengths: [u64; 8], axis: u64, coordinates: 
             return Located::Refused(Refusal::CellOutside { axis: outside });
         }
     };
-    let cells = products::product(lengths, 8);
+    let cells = card_products::product(lengths, 8);
     if (table.len() as u64) < cells {
         return Located::Refused(Refusal::TooShort { needed: cells });
     }
     // each prefix has equally many cells under it
-    let length = cells / products::product(lengths, axis + 1);
+    let length = cells / card_products::product(lengths, axis + 1);
     Located::Stretch {
         first: Cell(number * length),
         length,
@@ -41,7 +41,7 @@ pub fn locate_stretch(table: &[u32], lengths: [u64; 8], axis: u64, coordinates: 
 // table. Refused, it is empty, at the table's start.
 pub fn stretch(table: &[u32], lengths: [u64; 8], axis: u64, coordinates: [u64; 8]) -> &[u32]
     ensures { λ r. ⌜ now r ≡ stretchOf (stretchAnswer lengths axis coordinates (length (now (table .entry)))) (now (table .entry)) ⌝ }
-    ensures { λ r. ⌜ Begins (stretchAnswer lengths axis coordinates (length (now (table .entry)))) (table .entry .ptr) (r .ptr) ⌝ }
+    ensures { λ r. ⌜ StretchBegins (stretchAnswer lengths axis coordinates (length (now (table .entry)))) (table .entry .ptr) (r .ptr) ⌝ }
 {
     let located = locate_stretch(table, lengths, axis, coordinates);
     match located {

@@ -21,7 +21,7 @@ use Rattle.card.specs.Admission.{spaceFits}
 use Rattle.rules.specs.RowMajor.{rowMajor, components, inside, firstPast}
 use Rattle.rules.proofs.RowMajor.{components-inside, components-give-back, FirstPast, first-past}
 use Rattle.rules.proofs.Prefixes.{prefix-under}
-use Rattle.stretch_judged.specs.Stretch.{asked, stretchAnswer, stretchOf, Begins, stretchNumbers}
+use Rattle.stretch_judged.specs.Stretch.{asked, stretchAnswer, stretchOf, StretchBegins, stretchNumbers}
 use Rattle.stretch_judged.specs.declared.Located.{Located}
 use Rattle.stretch_judged.specs.declared.Located.the-variants.{Stretch, Refused}
 use Rattle.stretch_judged.proofs.Checks.{answer-passed, answer-within}
@@ -34,9 +34,9 @@ locate-settled lengths axis coordinates entries p q e f = e ∙ sym f
 -- and so are two that the promise of the stretch itself allows, in their entries and in their place
 pub stretch-settled : (table lengths : List ℕ) (axis : ℕ) (coordinates : List ℕ) (start : ℕ × ℕ) (p q : List ℕ) (a b : ℕ × ℕ)
     → p ≡ stretchOf (stretchAnswer lengths axis coordinates (length table)) table
-    → Begins (stretchAnswer lengths axis coordinates (length table)) start a
+    → StretchBegins (stretchAnswer lengths axis coordinates (length table)) start a
     → q ≡ stretchOf (stretchAnswer lengths axis coordinates (length table)) table
-    → Begins (stretchAnswer lengths axis coordinates (length table)) start b
+    → StretchBegins (stretchAnswer lengths axis coordinates (length table)) start b
     → (p ≡ q) × (a .0 ≡ b .0) × (a .1 ≡ b .1)
 stretch-settled table lengths axis coordinates start p q a b e s f t = (e ∙ sym f, s .0 ∙ sym (t .0), s .1 ∙ sym (t .1))
 
@@ -124,7 +124,7 @@ locate-in-numbers lengths axis coordinates entries r e =
 
 -- and the stretch itself, by the numbers that the companion question gives: at 0 so many entries from the first cell on, four bytes a cell
 -- into the table, and else empty
-pub stretch-in-numbers : (table : List ℕ) (r : Located) (part : List ℕ) (start place : ℕ × ℕ) → part ≡ stretchOf r table → Begins r start place
+pub stretch-in-numbers : (table : List ℕ) (r : Located) (part : List ℕ) (start place : ℕ × ℕ) → part ≡ stretchOf r table → StretchBegins r start place
     → let n = stretchNumbers r in
     (part ≡ cond (eqb (n .number) 0) (take (n .b) (drop (n .a) table)) [])
     × (place .0 ≡ start .0) × (place .1 ≡ start .1 + 4 * cond (eqb (n .number) 0) (n .a) 0)

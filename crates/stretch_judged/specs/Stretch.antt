@@ -42,8 +42,8 @@ abbrev pub cellsBefore : Located → ℕ
 cellsBefore (Stretch first long) = first .0
 cellsBefore (Refused refusal) = 0
 
-abbrev pub Begins : Located → ℕ × ℕ → ℕ × ℕ → Type 0
-Begins located table part = (part .0 ≡ table .0) × (part .1 ≡ table .1 + 4 * cellsBefore located)
+abbrev pub StretchBegins : Located → ℕ × ℕ → ℕ × ℕ → Type 0
+StretchBegins located table part = (part .0 ≡ table .0) × (part .1 ≡ table .1 + 4 * cellsBefore located)
 
 -- at number 0 its first cell and length
 abbrev pub stretchNumbers : Located → Numbers

@@ -19,9 +19,9 @@ use Rattle.canonical.specs.Canonical.{checked, inElements, canonicalCard, built
 use Rattle.canonical.specs.declared.Canonical.{Canonical}
 use Rattle.canonical.specs.declared.Reported.{Reported}
 use Rattle.canonical.proofs.Theorems.{canonical-settled, checks-passed}
-use Rattle.canonical_build.specs.Contracts.{Sound, longest}
+use Rattle.canonical_build.specs.Contracts.{PassedChecks, longest}
 use Rattle.canonical_build.proofs.Laws.{sound, elements-short, T-few, wide-short}
-use Rattle.c_card.specs.Card.{signed, cardFrom, four}
+use Rattle.c_card.specs.Card.{signed64, cardFrom, four}
 use Rattle.urszovely.specs.Answers.{AsVerdict}
 use Rattle.urszovely.specs.Canonical.{cardNumbers, AsCanonical}
 
@@ -34,7 +34,7 @@ as-canonical-settled q before a b e f x y h k =
     )
 
 -- a stride that is not too long reads back
-signed-short : (n : ℕ) → n ≤ longest → signed n ≡ pos n
+signed-short : (n : ℕ) → n ≤ longest → signed64 n ≡ pos n
 signed-short n h = rw (lt-ltb n (2 ^ 63) (omega (arith, h)))
 
 -- the card of a canonical layout, whatever its strides: four iters where K-major, five where MN-major
@@ -77,7 +77,7 @@ columns-short true k T lbo sbo l s t = l refl
 columns-short false true T lbo sbo l s t = t
 columns-short false false T lbo sbo l s t = s
 
-module _ (q : Canonical) (so : Sound q) where
+module _ (q : Canonical) (so : PassedChecks q) where
   abbrev T : ℕ
   T = 128 / q .bits
 

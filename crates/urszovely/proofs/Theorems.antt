@@ -16,11 +16,11 @@ use Rattle.judgement.specs.Verdict.{verdictNumbers, ownerNumbers}
 use Rattle.judgement.specs.declared.Verdict.{Verdict}
 use Rattle.judgement.specs.declared.Owner.{Owner}
 use Rattle.judgement.proofs.Theorems.{verdict-settled, owner-settled}
-use Rattle.bits.specs.declared.Bits.{Bits}
+use Rattle.c_bits.specs.declared.Bits.{Bits}
 use Rattle.c_card.specs.Card.{cardFrom, four}
 use Rattle.c_tuple.specs.Tuple.{tupleFrom}
 use Rattle.c_layout.specs.Layout.{cardWith, markBits}
-use Rattle.urszovely.specs.Answers.{AsHolder, AsReading, AsPlacement, AsVerdict, AsOwner, Written}
+use Rattle.urszovely.specs.Answers.{AsHolder, AsReading, AsPlacement, AsVerdict, AsOwner, RegistersWritten}
 
 pub as-holder-settled : (kind : ℕ) (place : Place) (x y : List ℕ) → AsHolder kind place x → AsHolder kind place y → x ≡ y
 as-holder-settled kind place x y h k =
@@ -52,5 +52,5 @@ as-owner-settled card marks coordinates before a b x y h k =
     (same .0, h .numbers ∙ ap (λ (v : Owner). four (ownerNumbers v)) (same .1) ∙ sym (k .numbers))
 
 pub written-settled : (registers : List (List Bits)) (sorts singles doubles s t x y v w : List ℕ)
-    → Written registers sorts singles doubles s x v → Written registers sorts singles doubles t y w → (s ≡ t) × (x ≡ y) × (v ≡ w)
+    → RegistersWritten registers sorts singles doubles s x v → RegistersWritten registers sorts singles doubles t y w → (s ≡ t) × (x ≡ y) × (v ≡ w)
 written-settled registers sorts singles doubles s t x y v w h k = (h .of-sorts ∙ sym (k .of-sorts), h .of-singles ∙ sym (k .of-singles), h .of-doubles ∙ sym (k .of-doubles))

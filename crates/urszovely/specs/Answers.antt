@@ -13,8 +13,8 @@ use Rattle.notation.specs.declared.Reading.{Reading}
 use Rattle.judgement.specs.Verdict.{VerdictPromise, OwnerPromise, verdictNumbers, ownerNumbers}
 use Rattle.judgement.specs.declared.Verdict.{Verdict}
 use Rattle.judgement.specs.declared.Owner.{Owner}
-use Rattle.bits.specs.declared.Bits.{Bits}
-use Rattle.bits.specs.Bits.{sortAfter, singleAfter, doubleAfter, after}
+use Rattle.c_bits.specs.declared.Bits.{Bits}
+use Rattle.c_bits.specs.Bits.{sortAfter, singleAfter, doubleAfter, entriesAfter}
 use Rattle.c_card.specs.Card.{cardFrom, four}
 use Rattle.c_tuple.specs.Tuple.{tupleFrom}
 use Rattle.c_layout.specs.Layout.{cardWith, markBits}
@@ -32,23 +32,23 @@ pub record AsReading (text before card marks answer : List ℕ) : Type 0 where
   pub of-marks : marks ≡ markBits (reading .layout .marks) ∷ []
   pub numbers : answer ≡ four (readNumbers (reading .answer))
 
-pub record AsPlacement (card : List ℕ) (marks : ℕ) (shape coordinates before after answer : List ℕ) : Type 0 where
+pub record AsPlacement (card : List ℕ) (marks : ℕ) (shape coordinates before entriesAfter answer : List ℕ) : Type 0 where
   pub placement : Placement
-  pub allowed : Placing (cardFrom card marks) (tupleFrom shape) (tupleFrom coordinates) before after placement
+  pub allowed : Placing (cardFrom card marks) (tupleFrom shape) (tupleFrom coordinates) before entriesAfter placement
   pub numbers : answer ≡ four (placementNumbers placement)
 
-pub record AsVerdict (card : List ℕ) (marks : ℕ) (before after answer : List ℕ) : Type 0 where
+pub record AsVerdict (card : List ℕ) (marks : ℕ) (before entriesAfter answer : List ℕ) : Type 0 where
   pub verdict : Verdict
-  pub allowed : VerdictPromise (cardFrom card marks) before after verdict
+  pub allowed : VerdictPromise (cardFrom card marks) before entriesAfter verdict
   pub numbers : answer ≡ four (verdictNumbers verdict)
 
-pub record AsOwner (card : List ℕ) (marks : ℕ) (coordinates before after answer : List ℕ) : Type 0 where
+pub record AsOwner (card : List ℕ) (marks : ℕ) (coordinates before entriesAfter answer : List ℕ) : Type 0 where
   pub owner : Owner
-  pub allowed : OwnerPromise (cardFrom card marks) coordinates before after owner
+  pub allowed : OwnerPromise (cardFrom card marks) coordinates before entriesAfter owner
   pub numbers : answer ≡ four (ownerNumbers owner)
 
 -- registers written back to three arrays, as they were and as they are after
-pub record Written (registers : List (List Bits)) (sorts singles doubles sorts′ singles′ doubles′ : List ℕ) : Type 0 where
-  pub of-sorts : sorts′ ≡ after sortAfter registers sorts
-  pub of-singles : singles′ ≡ after singleAfter registers singles
-  pub of-doubles : doubles′ ≡ after doubleAfter registers doubles
+pub record RegistersWritten (registers : List (List Bits)) (sorts singles doubles sorts′ singles′ doubles′ : List ℕ) : Type 0 where
+  pub of-sorts : sorts′ ≡ entriesAfter sortAfter registers sorts
+  pub of-singles : singles′ ≡ entriesAfter singleAfter registers singles
+  pub of-doubles : doubles′ ≡ entriesAfter doubleAfter registers doubles

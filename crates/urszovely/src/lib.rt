@@ -11,20 +11,20 @@ ghost use Rattle.swizzle.specs.Swizzle.{swizzleAnswer, swizzleNumbers};
 ghost use Rattle.swizzle.specs.Mode.{modeAnswer, modeNumbers};
 ghost use Rattle.banks_judged.specs.Bank.{bankAnswer, bankNumbers};
 ghost use Rattle.fragment.specs.Fragment.{heldAnswer, heldNumbers};
-ghost use Rattle.descriptor.specs.Descriptor.{readAnswer, readNumbers, shiftLimit, writeAnswer, writeNumbers};
+ghost use Rattle.descriptor.specs.Descriptor.{fieldsAnswer, fieldsNumbers, shiftLimit, descriptorAnswer, descriptorNumbers};
 ghost use Rattle.mask.specs.Mask.{maskAnswer, maskMemory, maskNumbers};
 ghost use Rattle.card.specs.Admission.{admissionNumbers};
 ghost use Rattle.idle.specs.Admission.{fullAdmission};
 ghost use Rattle.stretch_judged.specs.Stretch.{stretchAnswer, stretchNumbers};
 ghost use Rattle.values.specs.Registers.{dealAnswer, collectAnswer, movedNumbers};
 ghost use Rattle.values.specs.Holdings.{dealHoldingsAnswer, collectHoldingsAnswer};
-ghost use Rattle.bits.specs.Bits.{rowsFrom, registers, dealtBits, collectedBits, dealtNumbers, collectedFromNumbers};
-ghost use Rattle.notation.specs.Writing.{writeAnswer as textAnswer, bytesAfter, writeNumbers as textNumbers};
+ghost use Rattle.c_bits.specs.Bits.{rowsFrom, registersHeld, dealtBits, collectedBits, dealtNumbers, collectedFromNumbers};
+ghost use Rattle.notation.specs.Writing.{writtenAnswer as textAnswer, bytesAfter, writeNumbers as textNumbers};
 ghost use Rattle.c_card.specs.Card.{cardFrom, four};
 ghost use Rattle.c_fields.specs.Fields.{fieldsFrom, bytesOf};
 ghost use Rattle.canonical.specs.Canonical.{built};
 ghost use Rattle.book.specs.Book.{readAnswer as blockAnswer};
-ghost use Rattle.urszovely.specs.Answers.{AsHolder, AsReading, AsPlacement, AsVerdict, AsOwner, Written};
+ghost use Rattle.urszovely.specs.Answers.{AsHolder, AsReading, AsPlacement, AsVerdict, AsOwner, RegistersWritten};
 ghost use Rattle.urszovely.specs.Canonical.{cardNumbers, AsCanonical};
 ghost use Rattle.urszovely.specs.Book.{notePlace, AsBlock, AsPage};
 ghost use Rattle.urszovely.specs.Plans.{AsCheck, AsPlan};
@@ -100,10 +100,10 @@ pub extern "C" fn urszovely_deal(
     doubles: &mut [u64; 256],
     answer: &mut [u64; 4],
 )
-    ensures { λ r. ⌜ now (answer .exit) ≡ four (movedNumbers (dealAnswer kind computation (registers (rowsFrom 8 (now («tile_sorts» .entry)) (now («tile_singles» .entry)) (now («tile_doubles» .entry)))))) ⌝ }
-    ensures { λ r. ⌜ Written (dealtBits kind computation (rowsFrom 8 (now («tile_sorts» .entry)) (now («tile_singles» .entry)) (now («tile_doubles» .entry))) (rowsFrom 32 (now (sorts .entry)) (now (singles .entry)) (now (doubles .entry)))) (now (sorts .entry)) (now (singles .entry)) (now (doubles .entry)) (now (sorts .exit)) (now (singles .exit)) (now (doubles .exit)) ⌝ }
+    ensures { λ r. ⌜ now (answer .exit) ≡ four (movedNumbers (dealAnswer kind computation (registersHeld (rowsFrom 8 (now («tile_sorts» .entry)) (now («tile_singles» .entry)) (now («tile_doubles» .entry)))))) ⌝ }
+    ensures { λ r. ⌜ RegistersWritten (dealtBits kind computation (rowsFrom 8 (now («tile_sorts» .entry)) (now («tile_singles» .entry)) (now («tile_doubles» .entry))) (rowsFrom 32 (now (sorts .entry)) (now (singles .entry)) (now (doubles .entry)))) (now (sorts .entry)) (now (singles .entry)) (now (doubles .entry)) (now (sorts .exit)) (now (singles .exit)) (now (doubles .exit)) ⌝ }
 {
-    let told = lent_judged::judge_dealing(
+    let told = c_registers_judged::judge_dealing(
         kind,
         computation,
         tile_sorts,
@@ -115,7 +115,7 @@ pub extern "C" fn urszovely_deal(
     let Moved::Done = told else {
         return;
     };
-    lent::deal(
+    c_registers::deal(
         kind,
         computation,
         tile_sorts,
@@ -140,10 +140,10 @@ pub extern "C" fn urszovely_collect(
     doubles: &mut [u64; 64],
     answer: &mut [u64; 4],
 )
-    ensures { λ r. ⌜ now (answer .exit) ≡ four (movedNumbers (collectAnswer kind computation (registers (rowsFrom 32 (now («lane_sorts» .entry)) (now («lane_singles» .entry)) (now («lane_doubles» .entry)))))) ⌝ }
-    ensures { λ r. ⌜ Written (collectedBits kind computation (rowsFrom 32 (now («lane_sorts» .entry)) (now («lane_singles» .entry)) (now («lane_doubles» .entry))) (rowsFrom 8 (now (sorts .entry)) (now (singles .entry)) (now (doubles .entry)))) (now (sorts .entry)) (now (singles .entry)) (now (doubles .entry)) (now (sorts .exit)) (now (singles .exit)) (now (doubles .exit)) ⌝ }
+    ensures { λ r. ⌜ now (answer .exit) ≡ four (movedNumbers (collectAnswer kind computation (registersHeld (rowsFrom 32 (now («lane_sorts» .entry)) (now («lane_singles» .entry)) (now («lane_doubles» .entry)))))) ⌝ }
+    ensures { λ r. ⌜ RegistersWritten (collectedBits kind computation (rowsFrom 32 (now («lane_sorts» .entry)) (now («lane_singles» .entry)) (now («lane_doubles» .entry))) (rowsFrom 8 (now (sorts .entry)) (now (singles .entry)) (now (doubles .entry)))) (now (sorts .entry)) (now (singles .entry)) (now (doubles .entry)) (now (sorts .exit)) (now (singles .exit)) (now (doubles .exit)) ⌝ }
 {
-    let told = lent_judged::judge_collecting(
+    let told = c_registers_judged::judge_collecting(
         kind,
         computation,
         lane_sorts,
@@ -155,7 +155,7 @@ pub extern "C" fn urszovely_collect(
     let Moved::Done = told else {
         return;
     };
-    lent::collect(
+    c_registers::collect(
         kind,
         computation,
         lane_sorts,
@@ -178,12 +178,12 @@ pub extern "C" fn urszovely_deal_f64(
     holdings: &mut [u64; 128],
     answer: &mut [u64; 4],
 )
-    ensures { λ r. ⌜ now (answer .exit) ≡ four (movedNumbers (dealHoldingsAnswer kind computation (registers (rowsFrom 8 (now («tile_sorts» .entry)) (now («tile_singles» .entry)) (now («tile_doubles» .entry)))))) ⌝ }
+    ensures { λ r. ⌜ now (answer .exit) ≡ four (movedNumbers (dealHoldingsAnswer kind computation (registersHeld (rowsFrom 8 (now («tile_sorts» .entry)) (now («tile_singles» .entry)) (now («tile_doubles» .entry)))))) ⌝ }
     ensures { λ r. ⌜ now (holdings .exit) ≡ dealtNumbers kind computation (rowsFrom 8 (now («tile_sorts» .entry)) (now («tile_singles» .entry)) (now («tile_doubles» .entry))) (now (holdings .entry)) ⌝ }
 {
     // as a slice, whose length the proof knows where refused too
     let fields: &mut [u64] = holdings;
-    let told = lent_judged::judge_dealing_holdings(
+    let told = c_registers_judged::judge_dealing_holdings(
         kind,
         computation,
         tile_sorts,
@@ -195,7 +195,7 @@ pub extern "C" fn urszovely_deal_f64(
     let Moved::Done = told else {
         return;
     };
-    lent_holdings::deal_holdings(
+    c_holdings::deal_holdings(
         kind,
         computation,
         tile_sorts,
@@ -217,22 +217,22 @@ pub extern "C" fn urszovely_collect_f64(
     answer: &mut [u64; 4],
 )
     ensures { λ r. ⌜ now (answer .exit) ≡ four (movedNumbers (collectHoldingsAnswer kind computation)) ⌝ }
-    ensures { λ r. ⌜ Written (collectedFromNumbers kind computation (now (holdings .entry)) (rowsFrom 8 (now (sorts .entry)) (now (singles .entry)) (now (doubles .entry)))) (now (sorts .entry)) (now (singles .entry)) (now (doubles .entry)) (now (sorts .exit)) (now (singles .exit)) (now (doubles .exit)) ⌝ }
+    ensures { λ r. ⌜ RegistersWritten (collectedFromNumbers kind computation (now (holdings .entry)) (rowsFrom 8 (now (sorts .entry)) (now (singles .entry)) (now (doubles .entry)))) (now (sorts .entry)) (now (singles .entry)) (now (doubles .entry)) (now (sorts .exit)) (now (singles .exit)) (now (doubles .exit)) ⌝ }
 {
-    let told = holdings::judge_collecting(kind, computation);
+    let told = dealing_holdings::judge_collecting(kind, computation);
     let numbers = dealing::moved_numbers(told);
     *answer = c_card::four(numbers);
     let Moved::Done = told else {
         return;
     };
-    lent_holdings::collect_holdings(kind, computation, holdings, sorts, singles, doubles);
+    c_holdings::collect_holdings(kind, computation, holdings, sorts, singles, doubles);
 }
 
 // The fields of a descriptor, read.
 #[no_mangle]
 pub extern "C" fn urszovely_fields(descriptor: u64, fields: &mut [u8; 12], answer: &mut [u64; 4])
-    ensures { λ r. ⌜ now (answer .exit) ≡ four (readNumbers (readAnswer descriptor .answer)) ⌝ }
-    ensures { λ r. ⌜ now (fields .exit) ≡ bytesOf (readAnswer descriptor .fields) ⌝ }
+    ensures { λ r. ⌜ now (answer .exit) ≡ four (fieldsNumbers (fieldsAnswer descriptor .answer)) ⌝ }
+    ensures { λ r. ⌜ now (fields .exit) ≡ bytesOf (fieldsAnswer descriptor .fields) ⌝ }
 {
     let reading = descriptor_bits::read_descriptor(descriptor);
     let read = reading.fields;
@@ -245,7 +245,7 @@ pub extern "C" fn urszovely_fields(descriptor: u64, fields: &mut [u8; 12], answe
 // And written, for M.
 #[no_mangle]
 pub extern "C" fn urszovely_descriptor(m: u64, fields: &[u8; 11], shift: u64, answer: &mut [u64; 4])
-    ensures { λ r. ⌜ now (answer .exit) ≡ four (writeNumbers (writeAnswer (shiftLimit m) m (fieldsFrom (now (fields .entry)) shift))) ⌝ }
+    ensures { λ r. ⌜ now (answer .exit) ≡ four (descriptorNumbers (descriptorAnswer (shiftLimit m) m (fieldsFrom (now (fields .entry)) shift))) ⌝ }
 {
     let written = descriptor_bits::write_descriptor(m, c_fields::fields(fields, shift));
     let numbers = descriptor_bits::write_numbers(written);

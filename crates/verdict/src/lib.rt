@@ -26,7 +26,7 @@ fn judge_cells(numbers: &[u64; 56], strides: &[i64; 24], table: &mut [u32]) -> V
     let copies = numbers[card::COPIES] as usize;
     let elements = numbers[card::ELEMENTS];
     let mut row = [0u32; card::MOST_COPIES as usize];
-    passes::judge_passes(numbers, strides, elements, &mut row[..copies], table)
+    claiming::judge_passes(numbers, strides, elements, &mut row[..copies], table)
 }
 
 // The verdict on an admitted card: room for its cells, then the owners in them.
@@ -59,7 +59,7 @@ pub fn judge_packed(numbers: &[u64; 56], strides: &[i64; 24], table: &mut [u32])
 pub fn judge(card: Card, table: &mut [u32]) -> Verdict
     ensures { λ r. ⌜ VerdictPromise card (now (table .entry)) (now (table .exit)) r ⌝ }
 {
-    let packed = packed::pack(card);
+    let packed = card_packed::pack(card);
     let numbers = packed.numbers;
     let strides = packed.strides;
     judge_packed(&numbers, &strides, table)
@@ -107,7 +107,7 @@ fn owner_packed(
 pub fn owner_of(card: Card, coordinates: [u64; 8], table: &mut [u32]) -> Owner
     ensures { λ r. ⌜ OwnerPromise card coordinates (now (table .entry)) (now (table .exit)) r ⌝ }
 {
-    let packed = packed::pack(card);
+    let packed = card_packed::pack(card);
     let numbers = packed.numbers;
     let strides = packed.strides;
     owner_packed(&numbers, &strides, &coordinates, table)

@@ -17,7 +17,7 @@ ghost use Rattle.card.specs.Card.{listed, extentOf};
 ghost use Rattle.card.specs.Admission.{fieldChecks};
 ghost use Rattle.card.specs.declared.Admission.the-variants.{Admitted};
 ghost use Rattle.notation.specs.Text.{digits, decimal, name, spellSigned, spellStep, joined, spellLists, spellShard, spellReplica, spellOffsets};
-ghost use Rattle.notation.specs.Writing.{isBelow, stepFor, stepsFor, offsetsFrom, noMarks, listsFor, textOf, writeAnswer, bytesAfter, writeNumbers};
+ghost use Rattle.notation.specs.Writing.{isBelow, stepFor, stepsFor, offsetsFrom, noMarks, listsFor, textOf, writtenAnswer, bytesAfter, writeNumbers};
 ghost use Rattle.writing.specs.Out.{wrote, Free, noText, joint, words};
 
 // The text so far.
@@ -311,9 +311,9 @@ fn copy(text: Out, bytes: &mut [u8])
 
 // Writes a card into lent bytes: the length of its text, or why not.
 pub fn write(card: Card, bytes: &mut [u8]) -> Written
-    ensures { λ r. ⌜ (r ≡ writeAnswer card (length (now (bytes .entry)))) × (now (bytes .exit) ≡ bytesAfter r card (now (bytes .entry))) ⌝ }
+    ensures { λ r. ⌜ (r ≡ writtenAnswer card (length (now (bytes .entry)))) × (now (bytes .exit) ≡ bytesAfter r card (now (bytes .entry))) ⌝ }
 {
-    let packed = packed::pack(card);
+    let packed = card_packed::pack(card);
     let numbers = packed.numbers;
     let strides = packed.strides;
     let fields = admission::check_fields(&numbers, &strides);

@@ -4,13 +4,13 @@ use mathlib.Core.Path.{_≡_, refl, subst}
 use mathlib.Core.Bool.{true}
 use mathlib.Core.Logic.{_↔_}
 use native.Mathlib.Omega.{arith}
-use Rattle.book_unused.specs.Unused.{Ends}
+use Rattle.book_unused.specs.Unused.{SlotsEnd}
 use Rattle.book_unused.proofs.Laws.{ends-none, ends-more}
 use Rattle.book_unused.proofs.are_ends.Statement.{statement}
 use Rattle.book_unused.proofs.are_ends.Tie as tie
 
 abbrev Inv-loop : tie.InvT-loop
-Inv-loop block from most count fine₀ k₀ fine k = (k ≤ count) × ((fine ≡ true) ↔ Ends block from most k)
+Inv-loop block from most count fine₀ k₀ fine k = (k ≤ count) × ((fine ≡ true) ↔ SlotsEnd block from most k)
 
 abbrev μ-loop : tie.MeasureT-loop
 μ-loop block from most count fine₀ k₀ fine k = count - k
@@ -30,7 +30,7 @@ returns c =
     let l = c .before in
     let s = l .before in
     let end : l .loop .k ≡ s .args .count = omega (arith, l .loop .inv .0) in
-    subst (λ (x : ℕ). (l .loop .fine ≡ true) ↔ Ends (s .args .block .now) (s .args .from) (s .args .most) x) end (l .loop .inv .1)
+    subst (λ (x : ℕ). (l .loop .fine ≡ true) ↔ SlotsEnd (s .args .block .now) (s .args .from) (s .args .most) x) end (l .loop .inv .1)
 
 pub are-ends-spec : {M : Type 1} → statement M
 are-ends-spec =

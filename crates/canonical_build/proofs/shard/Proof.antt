@@ -5,7 +5,7 @@ use native.Mathlib.Omega.{arith}
 use borrow.Author.Needs.{needs}
 use borrow.Author.Tests.{eq-eqb, ne-eqb}
 use Rattle.swizzle.proofs.Widths.{bits-positive}
-use Rattle.canonical_build.specs.Contracts.{longest, Short}
+use Rattle.canonical_build.specs.Contracts.{longest, StridesShort}
 use Rattle.canonical_build.proofs.Laws.{T-few, pieces-few, wide-short}
 use Rattle.canonical_build.proofs.shard.Statement.{statement}
 use Rattle.canonical_build.proofs.shard.Tie as tie
@@ -18,7 +18,7 @@ mul-wide : tie.Need-mul-wide
 mul-wide c = omega (arith, wide (c .before .before))
 
 short : (s : tie.Start) (rows columns : ℕ) → rows ≤ longest → columns ≤ longest
-    → Short (s .args .a .k) (128 / s .args .a .bits) ((1 * 2 ^ (s .args .a .mode) % 2 ^ 64) * (128 / s .args .a .bits)) rows columns
+    → StridesShort (s .args .a .k) (128 / s .args .a .bits) ((1 * 2 ^ (s .args .a .mode) % 2 ^ 64) * (128 / s .args .a .bits)) rows columns
 short s rows columns r c =
     record {
       few = s .pre .few-columns;

@@ -15,9 +15,9 @@ use Rattle.card.specs.Card.{copies, cells}
 use Rattle.card.specs.Packed.{swizzleOf, cardOf}
 use Rattle.card.specs.declared.Card.{Card}
 use Rattle.card.proofs.Admitted.{sized}
-use Rattle.runs.proofs.Cells.{sum-fits, sum-back}
-use Rattle.runs.specs.Contracts.{roomy}
-use Rattle.runs.specs.declared.Place.{Place}
+use Rattle.copies_runs.proofs.Cells.{sum-fits, sum-back}
+use Rattle.copies_runs.specs.Contracts.{roomyLevel}
+use Rattle.copies_runs.specs.declared.LevelAndM.{LevelAndM}
 use Rattle.claims.specs.Claims.{occupied}
 use Rattle.claims.proofs.Rows.{occupied-most}
 use Rattle.claiming_lines.specs.Lines.{Lined, Partly, lineCell, LineThere}
@@ -61,15 +61,15 @@ module _ (t : tie.In-loop Inv-loop μ-loop) where
   size : length (t .before .loop .table) ≡ cells (card s)
   size = t .before .loop .inv .1 ∙ s .pre .0 .0 .owned .size
 
-  abbrev here : Place
+  abbrev here : LevelAndM
   here =
       place (s .args .numbers .now) (s .args .strides .now) (s .args .start) (s .args .step) (s .args .run) (s .args .table .now) (s .pre .0 .0) (s .args .levels .now) (s .args .ms .now)
       (s .pre .1) copy few
 
-  near : (natAbs (s .args .start .level) ≤ roomy) × (natAbs (s .args .start .m) ≤ roomy)
+  near : (natAbs (s .args .start .level) ≤ roomyLevel) × (natAbs (s .args .start .m) ≤ roomyLevel)
   near = start-near (s .args .numbers .now) (s .args .strides .now) (s .args .start) (s .args .step) (s .args .run) (s .args .table .now) (s .pre .0 .0) (s .pre .0 .1)
 
-  copies-near : (natAbs (getD (s .args .levels .now) copy (pos 0)) ≤ roomy) × (natAbs (getD (s .args .ms .now) copy (pos 0)) ≤ roomy)
+  copies-near : (natAbs (getD (s .args .levels .now) copy (pos 0)) ≤ roomyLevel) × (natAbs (getD (s .args .ms .now) copy (pos 0)) ≤ roomyLevel)
   copies-near =
       copy-near (s .args .numbers .now) (s .args .strides .now) (s .pre .0 .0 .admits) (s .pre .1) copy few
 

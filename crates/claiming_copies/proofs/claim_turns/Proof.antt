@@ -12,11 +12,11 @@ use Rattle.card.specs.Packed.{cardOf}
 use Rattle.card.specs.declared.Card.{Card}
 use Rattle.card.proofs.Admitted.{sized}
 use Rattle.rules.proofs.Reuse.{leads-itself}
-use Rattle.linear.specs.Levels.{base}
+use Rattle.rules_linear.specs.Levels.{base}
 use Rattle.claims.specs.Claims.{OwnedTable, occupied}
 use Rattle.claims.proofs.Rows.{occupied-most}
-use Rattle.runs.specs.Contracts.{Adds}
-use Rattle.claiming_turns.specs.Turns.{iters, extents, indexOf, sizeFrom, DigitsAt}
+use Rattle.copies_runs.specs.Contracts.{Adds}
+use Rattle.claiming_turns.specs.Turns.{shardIters, iterExtents, indexOf, sizeFrom, DigitsAt}
 use Rattle.judgement.specs.Judgement.{placed}
 use Rattle.claiming_runs.specs.Contracts.{Running, RunsBy}
 use Rattle.claiming_runs.proofs.Laws.{claims-none, cleared-size, owned-as}
@@ -34,7 +34,7 @@ Inv-loop numbers strides all by many step from lifts moves levels ms table₀ di
     × OwnedTable (placed card) flat (cells card) table count
     × DigitsAt numbers strides digits start
     × (length digits ≡ 8)
-    × (flat < all → indexOf (iters numbers strides) digits ≡ flat)
+    × (flat < all → indexOf (shardIters numbers strides) digits ≡ flat)
 
 abbrev μ-loop : tie.MeasureT-loop
 μ-loop numbers strides all by many step from lifts moves levels ms table₀ digits₀ start₀ occupied₀ flat₀ table digits start count flat = all - flat
@@ -89,7 +89,7 @@ loop-holds c =
       rw (s .pre .0 .0 .cleared) (claims-none (card s)),
       digits-none (s .args .numbers .now) (s .args .strides .now) (s .pre .0 .0 .admits) (c .begin .ensures),
       refl,
-      λ some. zeros-index (extents (iters (s .args .numbers .now) (s .args .strides .now))) 8,
+      λ some. zeros-index (iterExtents (shardIters (s .args .numbers .now) (s .args .strides .now))) 8,
     )
 
 claim-copies-requires : tie.Need-claim-copies-requires Inv-loop μ-loop
@@ -131,7 +131,7 @@ loop-again c =
     let e = c .before .before in
     let t = turn (claimed e) in
     let l = t .before .loop in
-    let its = iters (s t .args .numbers .now) (s t .args .strides .now) in
+    let its = shardIters (s t .args .numbers .now) (s t .args .strides .now) in
     let run-is : sizeFrom (s t .args .from) its ≡ many t = s t .pre .1 .slower .a-run ∙ sym (s t .pre .1 .long-is) in
     let here = l .inv .6 (t .loop-test .taken) in (
       l .inv .0 + 1,

@@ -17,11 +17,11 @@ use Rattle.card.proofs.Admitted.{sized}
 use Rattle.rules.specs.Copies.{copyCells}
 use Rattle.claims.specs.Claims.{OwnedTable, occupied}
 use Rattle.claims.specs.Rows.{entryMet}
-use Rattle.linear.specs.Levels.{base}
-use Rattle.linear.proofs.Times.{no-step, stepped}
-use Rattle.runs.specs.Contracts.{Adds}
-use Rattle.runs.specs.declared.Place.{Place}
-use Rattle.runs.proofs.Cells.{step-fits}
+use Rattle.rules_linear.specs.Levels.{base}
+use Rattle.rules_linear.proofs.Times.{no-step, stepped}
+use Rattle.copies_runs.specs.Contracts.{Adds}
+use Rattle.copies_runs.specs.declared.LevelAndM.{LevelAndM}
+use Rattle.copies_runs.proofs.Cells.{step-fits}
 use Rattle.judgement.specs.Judgement.{placed}
 use Rattle.claiming_runs.specs.Contracts.{Claimable}
 use Rattle.claiming_runs.proofs.Laws.{row-ready, owned-as}
@@ -51,10 +51,10 @@ card s = cardOf (s .args .numbers .now) (s .args .strides .now)
 
 -- what the machine reads of the two places
 module _ (c : tie.After-struct-told4 Inv-loop μ-loop) where
-  abbrev a : Place
+  abbrev a : LevelAndM
   a = start c .args .start
 
-  abbrev b : Place
+  abbrev b : LevelAndM
   b = start c .args .step
 
   level-back : toZ w64 (ofZ w64 (a .level)) ≡ a .level
@@ -83,7 +83,7 @@ module _ (t : tie.In-loop Inv-loop μ-loop) where
   below : t .before .loop .done < s .args .run .length
   below = t .loop-test .taken
 
-  abbrev here : Place
+  abbrev here : LevelAndM
   here = record { level = toZ w64 (t .before .loop .level); m = toZ w64 (t .before .loop .m) }
 
   begins : Adds (slice 32 40 (s .args .numbers .now)) (base (card s) flat) here

@@ -15,7 +15,7 @@ use Rattle.card.proofs.Admitted.{sized}
 use Rattle.swizzle.specs.declared.Swizzle.{Swizzle}
 use Rattle.rules.specs.Rules.{swizzledZ, spot}
 use Rattle.rules.specs.Copies.{cellOf, copyCells}
-use Rattle.runs.specs.Contracts.{CellThere}
+use Rattle.copies_runs.specs.Contracts.{CellThere}
 use Rattle.claiming_elements.proofs.Laws.{single-row, single-met, single-claimed}
 use Rattle.claiming_runs.proofs.Places.{single-there, single-is, cell-short}
 use Rattle.claiming_elements.proofs.claim_single.Statement.{statement}

@@ -9,16 +9,16 @@ use lib.ListN.{length}
 use mir.Syntax.{w64}
 use mir.Val.{toZ, ofZ, SFits}
 use mir.Facts.{toZ-ofZ}
-use Rattle.linear.proofs.Times.{no-step, stepped}
-use Rattle.runs.specs.declared.Place.{Place}
-use Rattle.runs.proofs.Cells.{step-fits}
+use Rattle.rules_linear.proofs.Times.{no-step, stepped}
+use Rattle.copies_runs.specs.declared.LevelAndM.{LevelAndM}
+use Rattle.copies_runs.proofs.Cells.{step-fits}
 use Rattle.claiming_lines.specs.Lines.{Lined, levelAfter, mAfter, lineCell, LineThere}
 use Rattle.claiming_lines.proofs.Lines.{lined-none}
 use Rattle.claiming_lines.proofs.Steps.{cell-found, line-more}
 use Rattle.claiming_lines.proofs.claim_cells.Statement.{statement}
 use Rattle.claiming_lines.proofs.claim_cells.Tie as tie
 
-abbrev read : ℕ → ℕ → Place
+abbrev read : ℕ → ℕ → LevelAndM
 read level m = record { level = toZ w64 level; m = toZ w64 m }
 
 abbrev Inv-loop : tie.InvT-loop
@@ -36,13 +36,13 @@ module _ (c : tie.After-struct-told4 Inv-loop μ-loop) where
   abbrev s : tie.Start Inv-loop μ-loop
   s = c .before .before .before .before .before
 
-  abbrev bits : Place → Place
+  abbrev bits : LevelAndM → LevelAndM
   bits p = record { level = toZ w64 (ofZ w64 (p .level)); m = toZ w64 (ofZ w64 (p .m)) }
 
-  abbrev start : Place
+  abbrev start : LevelAndM
   start = bits (s .args .start)
 
-  abbrev step : Place
+  abbrev step : LevelAndM
   step = bits (s .args .step)
 
   start-is : start ≡ s .args .start
@@ -59,8 +59,8 @@ module _ (c : tie.After-struct-told4 Inv-loop μ-loop) where
 
   there : LineThere (s .args .by) start step (s .args .first) (s .args .many) (s .args .table .now)
   there =
-      subst (λ (p : Place). LineThere (s .args .by) p step (s .args .first) (s .args .many) (s .args .table .now)) (sym start-is)
-      (subst (λ (q : Place). LineThere (s .args .by) (s .args .start) q (s .args .first) (s .args .many) (s .args .table .now)) (sym step-is) (s .pre))
+      subst (λ (p : LevelAndM). LineThere (s .args .by) p step (s .args .first) (s .args .many) (s .args .table .now)) (sym start-is)
+      (subst (λ (q : LevelAndM). LineThere (s .args .by) (s .args .start) q (s .args .first) (s .args .many) (s .args .table .now)) (sym step-is) (s .pre))
 
 -- a turn
 module _ (t : tie.In-loop Inv-loop μ-loop) where
@@ -127,8 +127,8 @@ returns-2 c e =
     let d = c .before .before in
     let a = s d .args in
     let end : l .done ≡ a .many = omega arith in
-    subst (λ (p : Place). Lined (lineCell (a .by) p (a .step)) (λ j. a .first + j) (a .many) (a .table .now) (l .table)) (start-is d)
-    (subst (λ (p : Place). Lined (lineCell (a .by) (start d) p) (λ j. a .first + j) (a .many) (a .table .now) (l .table)) (step-is d)
+    subst (λ (p : LevelAndM). Lined (lineCell (a .by) p (a .step)) (λ j. a .first + j) (a .many) (a .table .now) (l .table)) (start-is d)
+    (subst (λ (p : LevelAndM). Lined (lineCell (a .by) (start d) p) (λ j. a .first + j) (a .many) (a .table .now) (l .table)) (step-is d)
     (subst (λ (n : ℕ). Lined (lineCell (a .by) (start d) (step d)) (λ j. a .first + j) n (a .table .now) (l .table)) end (l .inv .1)))
 
 pub claim-cells-spec : {M : Type 1} → statement M

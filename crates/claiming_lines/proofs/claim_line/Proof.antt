@@ -11,7 +11,7 @@ use mir.Syntax.{w64}
 use mir.Val.{toZ, ofZ, SFits}
 use mir.Facts.{toZ-ofZ, toZ-pos}
 use Rattle.laws.proofs.Signed.{far-fits}
-use Rattle.runs.proofs.Cells.{step-fits}
+use Rattle.copies_runs.proofs.Cells.{step-fits}
 use Rattle.claiming_lines.specs.Lines.{lineCell, StretchThere}
 use Rattle.claiming_lines.proofs.Lines.{lined-as}
 use Rattle.claiming_lines.proofs.Steps.{from, from-is, stretch-cell, stretch-there}

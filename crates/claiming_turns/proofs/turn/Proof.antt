@@ -13,15 +13,15 @@ use mir.Facts.{toZ-ofZ}
 use Rattle.laws.proofs.Signed.{far-fits}
 use Rattle.card.specs.Card.{none}
 use Rattle.card.specs.declared.Iter.{Iter}
-use Rattle.sums.specs.Walks.{Steps}
-use Rattle.runs.specs.Contracts.{roomy, Adds}
-use Rattle.runs.specs.declared.Place.{Place}
-use Rattle.claiming_turns.specs.Turns.{iters, extents, indexOf, sizeFrom, unit, DigitsAt}
+use Rattle.copies_sums.specs.Walks.{Steps}
+use Rattle.copies_runs.specs.Contracts.{roomyLevel, Adds}
+use Rattle.copies_runs.specs.declared.LevelAndM.{LevelAndM}
+use Rattle.claiming_turns.specs.Turns.{shardIters, iterExtents, indexOf, sizeFrom, unit, DigitsAt}
 use Rattle.claiming_turns.proofs.Ways.{iters-count, extent-at, turn-forth, index-forth, turn-back, index-back, level-steps, m-steps, digit-small}
 use Rattle.claiming_turns.proofs.turn.Statement.{statement}
 use Rattle.claiming_turns.proofs.turn.Tie as tie
 
-abbrev read : ℕ → ℕ → Place
+abbrev read : ℕ → ℕ → LevelAndM
 read level m = record { level = toZ w64 level; m = toZ w64 m }
 
 abbrev Inv-loop : tie.InvT-loop
@@ -29,13 +29,13 @@ Inv-loop numbers strides from levels ms digits₀ level₀ m₀ k₀ digits leve
     (k ≤ from)
     × DigitsAt numbers strides digits (read level m)
     × (length digits ≡ 8)
-    × (indexOf (iters numbers strides) digits + sizeFrom k (iters numbers strides) ≡ indexOf (iters numbers strides) digits₀ + sizeFrom from (iters numbers strides))
+    × (indexOf (shardIters numbers strides) digits + sizeFrom k (shardIters numbers strides) ≡ indexOf (shardIters numbers strides) digits₀ + sizeFrom from (shardIters numbers strides))
 
 abbrev μ-loop : tie.MeasureT-loop
 μ-loop numbers strides from levels ms digits₀ level₀ m₀ k₀ digits level m k = k
 
 -- places alike
-alike : {x y z w : ℤ} → x ≡ y → z ≡ w → _≡_ {A = Place} (record { level = x; m = z }) (record { level = y; m = w })
+alike : {x y z w : ℤ} → x ≡ y → z ≡ w → _≡_ {A = LevelAndM} (record { level = x; m = z }) (record { level = y; m = w })
 alike e d = ap₂ (λ (x y : ℤ). record { level = x; m = y }) e d
 
 loop-holds : tie.Need-loop-holds Inv-loop μ-loop
@@ -62,7 +62,7 @@ module _ (t : tie.In-loop Inv-loop μ-loop) where
   strides = s .args .strides .now
 
   abbrev l : List Iter
-  l = iters numbers strides
+  l = shardIters numbers strides
 
   abbrev digits : List ℕ
   digits = t .before .loop .digits
@@ -73,10 +73,10 @@ module _ (t : tie.In-loop Inv-loop μ-loop) where
   abbrev digit : ℕ
   digit = getD digits j 0
 
-  abbrev here : Place
+  abbrev here : LevelAndM
   here = read (t .before .loop .level) (t .before .loop .m)
 
-  abbrev way : Place
+  abbrev way : LevelAndM
   way = record { level = getD (s .args .levels .now) j (pos 0); m = getD (s .args .ms .now) j (pos 0) }
 
   few : getD numbers 40 0 ≤ 8
@@ -94,7 +94,7 @@ module _ (t : tie.In-loop Inv-loop μ-loop) where
   adds : Adds (slice 32 40 numbers) (unit (getD l j none)) way
   adds = s .pre .ways .ways j slower
 
-  extent-is : getD (extents l) j 0 ≡ getD numbers j 0
+  extent-is : getD (iterExtents l) j 0 ≡ getD numbers j 0
   extent-is = extent-at numbers strides j few (omega (arith, below, iters-count numbers strides few))
 
   after-is : sizeFrom (suc j) l ≡ sizeFrom (t .before .loop .k) l
@@ -108,7 +108,7 @@ module _ (t : tie.In-loop Inv-loop μ-loop) where
     forth : DigitsAt numbers strides (set digits j (digit + 1)) (record { level = here .level +ℤ way .level; m = here .m +ℤ way .m })
     forth = turn-forth numbers strides digits here j below (t .before .loop .inv .1) adds (omega (arith, extent-is, more))
 
-    near : (natAbs (here .level +ℤ way .level) ≤ roomy) × (natAbs (here .m +ℤ way .m) ≤ roomy)
+    near : (natAbs (here .level +ℤ way .level) ≤ roomyLevel) × (natAbs (here .m +ℤ way .m) ≤ roomyLevel)
     near = s .pre .near (set digits j (digit + 1)) _ forth
 
     index-next : indexOf l (set digits j (digit + 1)) ≡ indexOf l (s .args .digits .now) + sizeFrom (s .args .from) l
@@ -184,7 +184,7 @@ loop-again c =
     let b = e .before in
     let f = b .before in
     let t = t3 f in
-    let full : getD (extents (l t)) (j t) 0 ≤ digit t + 1 = omega (arith, extent-is t, f .before .if1 .left) in
+    let full : getD (iterExtents (l t)) (j t) 0 ≤ digit t + 1 = omega (arith, extent-is t, f .before .if1 .left) in
     let index = index-back (numbers t) (strides t) (digits t) (here t) (j t) (below t) (t .before .loop .inv .1) (adds t) full in (
       omega (arith, t .before .loop .inv .0),
       turn-back (numbers t) (strides t) (digits t) (here t) (j t) (below t) (t .before .loop .inv .1) (adds t)

@@ -18,12 +18,12 @@ use Rattle.card.specs.Packed.{iterAt, cardOf}
 use Rattle.card.specs.declared.Iter.{Iter}
 use Rattle.card.proofs.Admitted.{checked}
 use Rattle.rules.specs.Rules.{axes}
-use Rattle.linear.proofs.Cells.{zeros}
-use Rattle.sums.specs.Walks.{Sums}
-use Rattle.sums.proofs.Turn.{Meets, meets}
+use Rattle.rules_linear.proofs.Cells.{zeros}
+use Rattle.copies_sums.specs.Walks.{Sums}
+use Rattle.copies_sums.proofs.Turn.{Meets, meets}
 use Rattle.copies.proofs.Cards.{walkable-shard}
-use Rattle.runs.proofs.Cards.{adds, zero-sums}
-use Rattle.claiming_turns.specs.Turns.{iters, unit}
+use Rattle.copies_runs.proofs.Cards.{adds, zero-sums}
+use Rattle.claiming_turns.specs.Turns.{shardIters, unit}
 use Rattle.claiming_turns.proofs.Ways.{unit-sums, iter-at}
 use Rattle.claiming_turns.proofs.way.Statement.{statement}
 use Rattle.claiming_turns.proofs.way.Tie as tie
@@ -63,7 +63,7 @@ module _ (s : tie.Start) where
       one axis (yes e) = rw (e, getD-set-same zeros a (getD strides k (pos 0)) (pos 0) h) small
       one axis (no ne) = rw (getD-set-other zeros a axis (getD strides k (pos 0)) (pos 0) ne) (zero-sums .small axis)
 
-  sums-are : set zeros (getD numbers (8 + k) 0) (getD strides k (pos 0)) ≡ map (unit (getD (iters numbers strides) k none)) axes
+  sums-are : set zeros (getD numbers (8 + k) 0) (getD strides k (pos 0)) ≡ map (unit (getD (shardIters numbers strides) k none)) axes
   sums-are =
       unit-sums (getD numbers (8 + k) 0) (getD strides k (pos 0)) an-axis
       ∙ ap (λ (z : ℤ). map (λ axis. cond (eqb (getD numbers (8 + k) 0) axis) z (pos 0)) axes) stride-is
@@ -86,7 +86,7 @@ returns c =
     let back = stride-back (w .before .before .before) in
     let axis = getD (numbers s) (8 + k s) 0 in
     let read : ℤ = toZ w64 (ofZ w64 (getD (strides s) (k s) (pos 0))) in
-    adds (slice 32 40 (numbers s)) (unit (getD (iters (numbers s) (strides s)) (k s) none)) (ap (set zeros axis) back ∙ sums-are s)
+    adds (slice 32 40 (numbers s)) (unit (getD (shardIters (numbers s) (strides s)) (k s) none)) (ap (set zeros axis) back ∙ sums-are s)
     (toZ-ofZ {w = w64} {z = w .weigh .result} (record { sfits = w .weigh .ok }) ∙ w .weigh .ensures)
     (toZ-ofZ {w = w64} {z = getD (set zeros axis read) 7 (pos 0)} (record { sfits = c .t11 .given }))
 

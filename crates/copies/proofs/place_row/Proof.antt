@@ -6,7 +6,7 @@ use borrow.Author.Needs.{needs}
 use Rattle.card.specs.Packed.{cardOf}
 use Rattle.rules.specs.Walked.{walked, spotFrom, PlacedRow}
 use Rattle.rules.proofs.Base.{row-of-card}
-use Rattle.sums.specs.Walks.{Sums}
+use Rattle.copies_sums.specs.Walks.{Sums}
 use Rattle.copies.specs.Contracts.{Ready}
 use Rattle.copies.proofs.Cards.{walkable-shard, offset-sums, ready}
 use Rattle.copies.proofs.place_row.Statement.{statement}

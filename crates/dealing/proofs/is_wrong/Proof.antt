@@ -4,7 +4,7 @@ use Prim.Native.Nat.{ℕ, _/_, _%_}
 use borrow.Author.Needs.{needs}
 use lib.Dec.{ltb}
 use Rattle.values.specs.Values.{isOwn}
-use Rattle.moves.proofs.Sources.{own-source}
+use Rattle.dealing_moves.proofs.Sources.{own-source}
 use Rattle.dealing.proofs.is_wrong.Statement.{statement}
 use Rattle.dealing.proofs.is_wrong.Tie as tie
 

@@ -9,7 +9,7 @@ use Rattle.card.specs.Card.{size}
 use Rattle.card.specs.declared.Iters.{Iters}
 use Rattle.card.specs.Packed.{itersOf, cardOf}
 use Rattle.card.proofs.Admitted.{sized, measured}
-use Rattle.sums.specs.Walks.{Walkable}
+use Rattle.copies_sums.specs.Walks.{Walkable}
 use Rattle.copies.proofs.Cards.{walkable-replica}
 use Rattle.idle.specs.Contracts.{NoneBefore}
 use Rattle.idle_search.specs.Contracts.{Keyed}

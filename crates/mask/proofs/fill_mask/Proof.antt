@@ -2,9 +2,9 @@
 use borrow.Author.Needs.{needs}
 use mathlib.Core.Path.{ap₂, _∙_}
 use lib.ListN.{length}
-use Rattle.pattern.specs.Pattern.{column}
+use Rattle.mask_pattern.specs.Pattern.{column}
 use Rattle.mask.specs.declared.Generated.the-variants.{Mask}
-use Rattle.pattern.proofs.Counted.{words-bytes}
+use Rattle.mask_pattern.proofs.Counted.{words-bytes}
 use Rattle.mask.proofs.fill_mask.Statement.{statement}
 use Rattle.mask.proofs.fill_mask.Tie as tie
 

@@ -9,7 +9,7 @@ use lib.Dec.{ltb}
 use lib.ListN.{length, take}
 use lib.Seq.{length-take-le}
 use Rattle.descriptor.specs.Descriptor.{fieldsOf, reserved, shiftLimit}
-use Rattle.mask.specs.Mask.{maskSize, columns, maskOf}
+use Rattle.mask.specs.Mask.{maskSize, maskColumns, maskOf}
 use Rattle.descriptor.specs.declared.Fields.{Fields}
 use Rattle.mask.proofs.Sizes.{sized}
 use Rattle.mask.proofs.generate_mask.Statement.{statement}
@@ -74,7 +74,7 @@ returns-5 c =
     let bits = c .before .before .before .before .sub-bits .ensures in
     let fields = four .before .before .before .before .fields-of .ensures in
     let long = part-long four in
-    let filled : fill .result ≡ maskOf (columns (a .m) (a .n) (a .descriptor)) (a .n) =
+    let filled : fill .result ≡ maskOf (maskColumns (a .m) (a .n) (a .descriptor)) (a .n) =
     fill .ensures .0 ∙ rw (bits, fields, long, sized (a .m) (a .n) (size-known one) .whole) in (
       rw (size-known one, none-reserved two, shift-allowed (four .before), le-ltb (length (a .mask .now)) (a .n / 8) (four .if4 .left)) filled,
       rw (filled, fill .ensures .1, bits, fields, long),

@@ -5,14 +5,14 @@ use mathlib.Core.Path.{_≡_, ap₂, _∙_}
 use mathlib.Core.List.{List, _++_, append-nil}
 use Prim.Native.Nat.{ℕ, _-_, _≤_}
 use lib.ListN.{length, drop, length-set, drop-of-length-le, set as store}
-use Rattle.pattern.specs.Pattern.{bytes}
-use Rattle.pattern.proofs.Bytes.{bytes-store}
-use Rattle.pattern.proofs.Counted.{wordBit, word-byte}
+use Rattle.mask_pattern.specs.Pattern.{maskBytes}
+use Rattle.mask_pattern.proofs.Bytes.{bytes-store}
+use Rattle.mask_pattern.proofs.Counted.{wordBit, word-byte}
 use Rattle.mask.proofs.write_bytes.Statement.{statement}
 use Rattle.mask.proofs.write_bytes.Tie as tie
 
 abbrev Inv-loop : tie.InvT-loop
-Inv-loop mask₀ words j₀ mask j = (j ≤ length mask₀) × (length mask ≡ length mask₀) × (mask ≡ bytes (wordBit words) j ++ drop j mask₀)
+Inv-loop mask₀ words j₀ mask j = (j ≤ length mask₀) × (length mask ≡ length mask₀) × (mask ≡ maskBytes (wordBit words) j ++ drop j mask₀)
 
 abbrev μ-loop : tie.MeasureT-loop
 μ-loop mask₀ words j₀ mask j = length mask₀ - j
@@ -36,7 +36,7 @@ returns c =
     ∙ rw (drop-of-length-le (a .mask .now) {i = now .j} (omega arith), append-nil, all)
 
 pub write-bytes-spec : {M : Type 1} → statement M
-unfolding bytes
+unfolding maskBytes
 write-bytes-spec =
     tie.close
     (tie.spec Inv-loop μ-loop (λ c. search needs) (λ c. omega arith) (λ c. omega arith) (λ c. omega arith) (λ c. omega arith) (λ c. omega arith)

@@ -12,9 +12,9 @@ use Rattle.card.specs.Limits.{lastAxis}
 use Rattle.card.specs.Card.{elements}
 use Rattle.card.specs.Packed.{cardOf}
 use Rattle.card.specs.declared.Card.{Card}
-use Rattle.linear.specs.Leaving.{Sought}
-use Rattle.reach.proofs.Packed.{spaced, few-blocks}
-use Rattle.extremes.specs.Straying.{Strays}
+use Rattle.rules_linear.specs.Leaving.{Sought}
+use Rattle.outside_ends.proofs.Packed.{spaced, few-blocks}
+use Rattle.outside_axis.specs.Straying.{Strays}
 use Rattle.outside.proofs.Words.{word-more, word-m}
 use Rattle.outside.proofs.Packed.{ended-on, sizes, leaves-on-m, none-before}
 use Rattle.outside.proofs.first_of_all.Statement.{statement}

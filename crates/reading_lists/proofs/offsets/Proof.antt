@@ -10,7 +10,7 @@ use Rattle.notation.specs.Meaning.{valueOf}
 use Rattle.reading_tokens.proofs.Laws.{second-yes}
 use lib.Dec.{ltb, eqb}
 use lib.ListN.{getD}
-use Rattle.notation.specs.Text.{axisOf}
+use Rattle.notation.specs.Text.{axisMeant}
 use Rattle.reading_lists.specs.Lists.{OffsetRun}
 use Rattle.reading_lists.proofs.Laws.{offsets-none, offsets-done, offsets-bad, offsets-more}
 use Rattle.reading_lists.proofs.Signed.{as-written}
@@ -81,7 +81,7 @@ loop-again c =
     let more = not-false _ (rw (v .before .axis-of .ensures) at (c .if3 .left)) in
     let t = n .read-step .result .step in
     rw (written v, v .before .axis-of .ensures) (
-      omega (arith, ltb-true (axisOf (t .place)) 7 (second-yes (eqb (getD (a .text .now) (n .read-step .result .next) 0) 43) (ltb (axisOf (t .place)) 7) more)),
+      omega (arith, ltb-true (axisMeant (t .place)) 7 (second-yes (eqb (getD (a .text .now) (n .read-step .result .next) 0) 43) (ltb (axisMeant (t .place)) 7) more)),
       offsets-more (a .text .now) (a .from) (l .loop .i) (l .loop .least) (l .loop .offset) (n .read-step .result) (l .loop .inv .1) (n .read-step .ensures) (not-false _ (v .before .before .before .if1 .left)) (omega arith) more,
     )
 

@@ -3,12 +3,12 @@ use mathlib.Core.Path.{refl, sym, ap, _∙_}
 use mathlib.Core.List.{List}
 use native.Mathlib.Omega.{arith}
 use borrow.Author.Needs.{needs}
-use Rattle.bits.specs.declared.Bits.{Bits}
-use Rattle.bits.specs.declared.Bits.the-variants.{Empty}
+use Rattle.c_bits.specs.declared.Bits.{Bits}
+use Rattle.c_bits.specs.declared.Bits.the-variants.{Empty}
 use Rattle.values.specs.Values.{collected}
 use Rattle.values.specs.Registers.{movedNumbers, collectAnswer}
-use Rattle.bits.specs.Bits.{rowsFrom, empties, registers}
-use Rattle.bits.proofs.Empties.{collected-into-empties}
+use Rattle.c_bits.specs.Bits.{rowsFrom, empties, registersHeld}
+use Rattle.c_bits.proofs.Empties.{collected-into-empties}
 use Rattle.c_card.specs.Card.{four}
 use Rattle.urszovely.proofs.Left.{untouched, stored}
 use Rattle.urszovely.proofs.urszovely_collect.Statement.{statement}
@@ -36,7 +36,7 @@ returns-2 c =
     let told = j .judge-collecting .ensures in (
       f .four .ensures ∙ ap four (m .moved-numbers .ensures ∙ ap movedNumbers told),
       stored 8 (a .sorts .now) (a .singles .now) (a .doubles .now) (omega (arith, c .before .before .before .collect-arg4 .given)) (omega (arith, c .before .before .collect-arg5 .given)) (omega (arith, c .before .collect-arg6 .given)) _ (collected Empty (a .kind) (a .computation) lanes (empties 8)) _ refl
-          (collected-into-empties (a .kind) (a .computation) (a .sorts .now) (a .singles .now) (a .doubles .now) (collectAnswer (a .kind) (a .computation) (registers lanes)) lanes
+          (collected-into-empties (a .kind) (a .computation) (a .sorts .now) (a .singles .now) (a .doubles .now) (collectAnswer (a .kind) (a .computation) (registersHeld lanes)) lanes
           (sym told ∙ e .enum-told .given .1)) _ _ _ (c .collect .ensures),
     )
 

@@ -3,14 +3,14 @@ use mathlib.Core.Path.{_≡_, refl, sym, ap, _∙_}
 use mathlib.Core.List.{List}
 use native.Mathlib.Omega.{arith}
 use borrow.Author.Needs.{needs}
-use Rattle.bits.specs.declared.Bits.{Bits}
-use Rattle.bits.specs.declared.Bits.the-variants.{Empty}
+use Rattle.c_bits.specs.declared.Bits.{Bits}
+use Rattle.c_bits.specs.declared.Bits.the-variants.{Empty}
 use Rattle.values.specs.declared.Moved.the-variants.{Done}
 use Rattle.values.specs.Values.{collected}
 use Rattle.values.specs.Registers.{movedNumbers}
 use Rattle.values.specs.Holdings.{collectHoldingsAnswer}
-use Rattle.bits.specs.Bits.{empties, lanesFrom}
-use Rattle.bits.proofs.Empties.{collected-into-empties}
+use Rattle.c_bits.specs.Bits.{empties, lanesFrom}
+use Rattle.c_bits.proofs.Empties.{collected-into-empties}
 use Rattle.c_card.specs.Card.{four}
 use Rattle.urszovely.proofs.Left.{untouched, stored}
 use Rattle.urszovely.proofs.urszovely_collect_f64.Statement.{statement}

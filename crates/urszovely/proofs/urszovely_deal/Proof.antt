@@ -3,13 +3,13 @@ use mathlib.Core.Path.{refl, sym, ap, _∙_}
 use mathlib.Core.List.{List}
 use native.Mathlib.Omega.{arith}
 use borrow.Author.Needs.{needs}
-use Rattle.bits.specs.declared.Bits.{Bits}
-use Rattle.bits.specs.declared.Bits.the-variants.{Empty}
+use Rattle.c_bits.specs.declared.Bits.{Bits}
+use Rattle.c_bits.specs.declared.Bits.the-variants.{Empty}
 use Rattle.values.specs.Values.{dealt}
 use Rattle.values.specs.Registers.{movedNumbers}
-use Rattle.bits.specs.Bits.{rowsFrom, empties, registers}
-use Rattle.bits.proofs.Empties.{dealt-to-empties}
-use Rattle.lent_judged.proofs.Wrong.{dealt-kind}
+use Rattle.c_bits.specs.Bits.{rowsFrom, empties, registersHeld}
+use Rattle.c_bits.proofs.Empties.{dealt-to-empties}
+use Rattle.c_registers_judged.proofs.Wrong.{dealt-kind}
 use Rattle.c_card.specs.Card.{four}
 use Rattle.urszovely.proofs.Left.{untouched, stored}
 use Rattle.urszovely.proofs.urszovely_deal.Statement.{statement}
@@ -32,7 +32,7 @@ deal-requires c κs =
     let j = e .before .before .before .before in
     let a = j .before .before .before .before .args in
     let tile : List (List Bits) = rowsFrom 8 (a .tile-sorts .now) (a .tile-singles .now) (a .tile-doubles .now) in
-    (dealt-kind (a .kind) (a .computation) (registers tile) (sym (j .judge-dealing .ensures) ∙ e .enum-told .given .1), (search needs, search needs))
+    (dealt-kind (a .kind) (a .computation) (registersHeld tile) (sym (j .judge-dealing .ensures) ∙ e .enum-told .given .1), (search needs, search needs))
 
 returns-2 : tie.Need-returns-2
 returns-2 c =

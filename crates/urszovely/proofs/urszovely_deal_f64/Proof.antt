@@ -3,10 +3,10 @@ use mathlib.Core.Path.{sym, ap, _∙_}
 use mathlib.Core.List.{List}
 use native.Mathlib.Omega.{arith}
 use borrow.Author.Needs.{needs}
-use Rattle.bits.specs.declared.Bits.{Bits}
+use Rattle.c_bits.specs.declared.Bits.{Bits}
 use Rattle.values.specs.Registers.{movedNumbers}
-use Rattle.bits.specs.Bits.{rowsFrom, registers}
-use Rattle.lent_judged.proofs.Wrong.{dealt-holdings-kind}
+use Rattle.c_bits.specs.Bits.{rowsFrom, registersHeld}
+use Rattle.c_registers_judged.proofs.Wrong.{dealt-holdings-kind}
 use Rattle.c_card.specs.Card.{four}
 use Rattle.urszovely.proofs.urszovely_deal_f64.Statement.{statement}
 use Rattle.urszovely.proofs.urszovely_deal_f64.Tie as tie
@@ -28,7 +28,7 @@ deal-requires c κs =
     let l = j .before .before .before .before in
     let a = l .before .args in
     let tile : List (List Bits) = rowsFrom 8 (a .tile-sorts .now) (a .tile-singles .now) (a .tile-doubles .now) in (
-      (dealt-holdings-kind (a .kind) (a .computation) (registers tile) (sym (j .judge-dealing-holdings .ensures) ∙ e .enum-told .given .1), omega (arith, l .fields .given)),
+      (dealt-holdings-kind (a .kind) (a .computation) (registersHeld tile) (sym (j .judge-dealing-holdings .ensures) ∙ e .enum-told .given .1), omega (arith, l .fields .given)),
       search needs,
     )
 

@@ -6,9 +6,9 @@ use native.Mathlib.Nat.{mod-lt}
 use native.Mathlib.Omega.{arith}
 use borrow.Author.Needs.{needs}
 use Rattle.answers.specs.declared.Refusal.the-variants.{Reserved}
-use Rattle.descriptor.specs.Descriptor.{fieldsOf, noFields, reserved, readAnswer, readNumbers}
-use Rattle.descriptor.specs.declared.Reading.{Reading}
-use Rattle.descriptor.specs.declared.Read.the-variants.{Done, Refused}
+use Rattle.descriptor.specs.Descriptor.{fieldsOf, noFields, reserved, fieldsAnswer, fieldsNumbers}
+use Rattle.descriptor.specs.declared.DescriptorReading.{DescriptorReading}
+use Rattle.descriptor.specs.declared.DescriptorRead.the-variants.{Done, Refused}
 use Rattle.c_card.specs.Card.{four}
 use Rattle.c_fields.specs.Fields.{bytesOf}
 use Rattle.urszovely.proofs.urszovely_fields.Statement.{statement}
@@ -18,24 +18,24 @@ use Rattle.urszovely.proofs.urszovely_fields.Tie as tie
 six : (d : ℕ) → fieldsOf d .shift < 256
 six d = let h : d / 2 ^ 56 % 64 < 64 = mod-lt (d / 2 ^ 56) (omega arith) in omega arith
 
-small : (d : ℕ) → readAnswer d .fields .shift < 256
+small : (d : ℕ) → fieldsAnswer d .fields .shift < 256
 small d = split (reserved d)
   where
-    split : (b : Bool) → cond {A = Reading} b (record { answer = Refused Reserved; fields = noFields }) (record { answer = Done; fields = fieldsOf d }) .fields .shift < 256
+    split : (b : Bool) → cond {A = DescriptorReading} b (record { answer = Refused Reserved; fields = noFields }) (record { answer = Done; fields = fieldsOf d }) .fields .shift < 256
     split true = six 0
     split false = six d
 
 field-bytes-requires : tie.Need-field-bytes-requires
 field-bytes-requires c κs =
-    let r = c .before in subst (λ (reading : Reading). reading .fields .shift < 256) (sym (r .read-descriptor .ensures)) (small (r .before .args .descriptor))
+    let r = c .before in subst (λ (reading : DescriptorReading). reading .fields .shift < 256) (sym (r .read-descriptor .ensures)) (small (r .before .args .descriptor))
 
 returns : tie.Need-returns
 returns c =
     let n = c .before in
     let f = n .before in
     let r = f .before .before in (
-      c .four .ensures ∙ ap four (n .read-numbers .ensures ∙ ap (λ (reading : Reading). readNumbers (reading .answer)) (r .read-descriptor .ensures)),
-      f .field-bytes .ensures ∙ ap (λ (reading : Reading). bytesOf (reading .fields)) (r .read-descriptor .ensures),
+      c .four .ensures ∙ ap four (n .read-numbers .ensures ∙ ap (λ (reading : DescriptorReading). fieldsNumbers (reading .answer)) (r .read-descriptor .ensures)),
+      f .field-bytes .ensures ∙ ap (λ (reading : DescriptorReading). bytesOf (reading .fields)) (r .read-descriptor .ensures),
     )
 
 pub urszovely-fields-spec : {M : Type 1} → statement M

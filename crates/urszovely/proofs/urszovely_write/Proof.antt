@@ -3,7 +3,7 @@ use mathlib.Core.Path.{ap, _∙_}
 use lib.ListN.{length}
 use borrow.Author.Needs.{needs}
 use Rattle.card.specs.declared.Card.{Card}
-use Rattle.notation.specs.Writing.{writeAnswer, bytesAfter}
+use Rattle.notation.specs.Writing.{writtenAnswer, bytesAfter}
 use Rattle.notation.specs.declared.Written.{Written}
 use Rattle.urszovely.proofs.urszovely_write.Statement.{statement}
 use Rattle.urszovely.proofs.urszovely_write.Tie as tie
@@ -17,7 +17,7 @@ returns c =
       rw (c .four .ensures, n .write-numbers .ensures, w .write .ensures .0, k .card .ensures),
       w .write .ensures .1
           ∙ ap (λ (answer : Written). bytesAfter answer (k .card .result) bytes) (w .write .ensures .0)
-          ∙ ap (λ (card : Card). bytesAfter (writeAnswer card (length bytes)) card bytes) (k .card .ensures),
+          ∙ ap (λ (card : Card). bytesAfter (writtenAnswer card (length bytes)) card bytes) (k .card .ensures),
     )
 
 pub urszovely-write-spec : {M : Type 1} → statement M

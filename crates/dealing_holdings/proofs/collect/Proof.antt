@@ -1,0 +1,16 @@
+-- `holdings::collect` fills or leaves as given, as the answer says: collecting is that of the holdings' registers.
+use mathlib.Core.Path.{sym, _∙_}
+use borrow.Author.Needs.{needs}
+use Rattle.dealing_holdings.proofs.collect.Statement.{statement}
+use Rattle.dealing_holdings.proofs.collect.Tie as tie
+
+returns : tie.Need-returns
+returns c =
+    rw (sym (c .before .before .before .before .judge-collecting .ensures) ∙ c .before .before .enum-told .given .1, sym (c .before .lanes-of .ensures))
+    (c .collected-tile .ensures)
+
+pub collect-spec : {M : Type 1} → statement M
+collect-spec =
+    tie.close
+    (tie.spec (λ c κs. search needs) (λ c. search needs) (λ c κs. search needs) (λ c κs. search needs) (λ c. search needs)
+    returns (λ c. rw (sym (c .before .before .judge-collecting .ensures) ∙ c .enum-told2 .given .1)))
