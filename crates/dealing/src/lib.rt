@@ -21,7 +21,7 @@ pub fn is_matrix(kind: u64, computation: u64) -> bool
 }
 
 // Whether a register reads as the kind's sort: a single for kind 5, a double for the others.
-pub fn is_of_sort(kind: u64, register: Register) -> bool
+fn is_of_sort(kind: u64, register: Register) -> bool
     ensures { λ r. ⌜ r ≡ isOfSort kind register ⌝ }
 {
     match register {

@@ -113,8 +113,8 @@ fn put_decimal(out: Out, n: u64) -> Out
     put_digit(put_4(out, n / 10), n)
 }
 
-// How far a number is from zero. Public for the programs above.
-pub fn magnitude(z: i64) -> u64
+// How far a number is from zero.
+fn magnitude(z: i64) -> u64
     ensures { λ r. ⌜ r ≡ natAbs z ⌝ }
 {
     if z < 0 {
