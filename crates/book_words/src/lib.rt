@@ -1,4 +1,5 @@
 // The first 216 bytes of a card's block as 54 words of four bytes.
+// Every field of a card fills or shares an aligned word, so that one function goes by the word's place and one loop stores the bytes.
 use card::Card;
 use card::Iter;
 use card::Iters;

@@ -1,4 +1,5 @@
 // Writing a card in the layout notation.
+// A text is spelled into a buffer of 512 bytes and then copied, since 11 needs its length first and leaves the lent bytes untouched.
 use answers::Numbers;
 use answers::Refusal;
 use card::Admission;
