@@ -65,6 +65,6 @@ pub fn write_cells(
         return Planning::Refused(Refusal::TooShort { needed: numbers });
     }
     let end = numbers as usize;
-    plans_copies::put_plan(first, second, &mut plan[..end]);
+    plans_passes::put_plan(first, second, &mut plan[..end]);
     Planning::Written { numbers }
 }

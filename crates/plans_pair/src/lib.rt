@@ -6,21 +6,11 @@ use judgement::Verdict;
 use plans_second::Pairing;
 ghost use mathlib.Core.Path.{_≡_};
 ghost use mathlib.Core.Bool.{true};
-ghost use mathlib.Core.List.{_++_};
 ghost use Prim.Native.Nat.{_≤_};
-ghost use lib.ListN.{length, drop, replicate};
+ghost use lib.ListN.{length};
 ghost use Rattle.card.specs.Card.{cells};
 ghost use Rattle.plans_judged.specs.Pair.{oneSpace};
 ghost use Rattle.plans_pair.specs.Contracts.{BothPromise, OpenPromise};
-
-// Empties the cells of a table; the entries past them stay.
-fn empty_cells(table: &mut [u32], cells: u64)
-    requires { ⌜ cells ≤ length (now table) ⌝ }
-    ensures { λ r. ⌜ now (table .exit) ≡ replicate cells 0 ++ drop cells (now (table .entry)) ⌝ }
-{
-    let end = cells as usize;
-    owners::clear(&mut table[..end]);
-}
 
 // Both verdicts, the first judged first.
 fn judge_both(one: Card, two: Card, first: &mut [u32], second: &mut [u32]) -> Pairing
@@ -47,8 +37,7 @@ fn settle_both(one: Card, two: Card, size: u64, first: &mut [u32], second: &mut 
     match pairing {
         Pairing::Matching { cells, occupied } => Pairing::Matching { cells, occupied },
         Pairing::Refused(refusal) => {
-            empty_cells(first, size);
-            empty_cells(second, size);
+            plans_tables::empty_both(first, second, size);
             Pairing::Refused(refusal)
         }
     }
@@ -64,7 +53,7 @@ pub fn open_pair(one: Card, two: Card, first: &mut [u32], second: &mut [u32]) ->
         return Pairing::Refused(Refusal::Space);
     }
     let cells = card_products::product(lengths, 8);
-    if ((first.len() as u64) < cells) | ((second.len() as u64) < cells) {
+    if plans_tables::is_one_short(first.len() as u64, second.len() as u64, cells) {
         return Pairing::Refused(Refusal::TooShort { needed: cells });
     }
     settle_both(one, two, cells, first, second)

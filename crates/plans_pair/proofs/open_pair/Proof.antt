@@ -43,20 +43,23 @@ returns c =
 
 returns-2 : tie.Need-returns-2
 returns-2 c =
-    let p = c .before in
+    let p = c .before .before in
     let s = start (p .before) in
-    no-room (s .args .one) (s .args .two) (s .args .first .now) (s .args .second .now) (space (p .before)) (cells-are p) (c .if2 .taken)
+    no-room (s .args .one) (s .args .two) (s .args .first .now) (s .args .second .now) (space (p .before)) (cells-are p)
+    (sym (c .before .is-one-short .ensures) ∙ c .if2 .taken)
 
 settle-both-requires : tie.Need-settle-both-requires
 settle-both-requires c κs =
     let k = c .before .before in
-    let p = k .before in
+    let p = k .before .before in
     let s = start (p .before) in
-    let enough = neither (ltb (length (s .args .first .now)) (p .product .result)) (ltb (length (s .args .second .now)) (p .product .result)) (k .if2 .left) in
+    let enough =
+    neither (ltb (length (s .args .first .now)) (p .product .result)) (ltb (length (s .args .second .now)) (p .product .result))
+    (sym (k .before .is-one-short .ensures) ∙ k .if2 .left) in
     (space (p .before), (cells-are p, ltb-false _ _ (enough .0), ltb-false _ _ (enough .1)))
 
 pub open-pair-spec : {M : Type 1} → statement M
 open-pair-spec =
     tie.close
-    (tie.spec (λ c κs. search needs) (λ c κs. search needs) returns (λ c κs. search needs) returns-2 settle-both-requires (λ c. search needs)
-    (λ c. search needs) (λ c. search needs))
+    (tie.spec (λ c κs. search needs) (λ c κs. search needs) returns (λ c κs. search needs) (λ c κs. search needs) returns-2 settle-both-requires
+    (λ c. search needs) (λ c. search needs) (λ c. search needs))

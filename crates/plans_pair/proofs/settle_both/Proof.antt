@@ -25,16 +25,15 @@ returns c =
 
 returns-2 : tie.Need-returns-2
 returns-2 c =
-    let emptied-other = c .before .before in
-    let emptied = emptied-other .before .before .before .before in
-    let told = emptied .before .before .before in
+    let emptied = c .before .before .before .before in
+    let told = emptied .before .before .before .before in
     let call = told .before .before .before .before .before .before in
     let s = call .before .before .before .before .before in
     opens-refused (s .args .one) (s .args .two) (s .args .first .now) (s .args .second .now) (s .pre .0) (long s) (long-other s) (call .judge-both .ensures)
-    (told .pairing2 .given .1) (s .pre .1 .0) (emptied .empty-cells .ensures) (emptied-other .empty-cells2 .ensures)
+    (told .pairing2 .given .1) (s .pre .1 .0) (emptied .empty-both .ensures .0) (emptied .empty-both .ensures .1)
 
 pub settle-both-spec : {M : Type 1} → statement M
 settle-both-spec =
     tie.close
-    (tie.spec (λ c κs. search needs) (λ c. search needs) (λ c. search needs) (λ c κs. search needs) (λ c κs. search needs) (λ c. search needs)
-    (λ c. search needs) returns (λ c. search needs) (λ c. search needs) returns-2)
+    (tie.spec (λ c κs. search needs) (λ c. search needs) (λ c. search needs) (λ c κs. search needs) (λ c. search needs) (λ c. search needs) returns
+    (λ c. search needs) (λ c. search needs) returns-2)

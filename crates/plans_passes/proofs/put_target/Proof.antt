@@ -1,4 +1,4 @@
--- `plans_copies::put_target` writes the cell at the copy's odd place.
+-- `plans_passes::put_target` writes the cell at the copy's odd place.
 use mathlib.Core.Path.{_≡_, refl, sym, ap, _∙_}
 use Prim.Native.Nat.{ℕ, _+_}
 use native.Mathlib.Omega.{arith}
@@ -6,8 +6,8 @@ use Rattle.claims.specs.Claims.{taken}
 use Rattle.plans.specs.Passes.{aimed}
 use Rattle.plans.proofs.Passes.{aimed-some, taken-some}
 use borrow.Author.Needs.{needs}
-use Rattle.plans_copies.proofs.put_target.Statement.{statement}
-use Rattle.plans_copies.proofs.put_target.Tie as tie
+use Rattle.plans_passes.proofs.put_target.Statement.{statement}
+use Rattle.plans_passes.proofs.put_target.Tie as tie
 
 returns : tie.Need-returns
 returns c =

@@ -1,4 +1,4 @@
--- `plans_copies::enter_cells` enters the cells falling: those from this one on are entered.
+-- `plans_passes::enter_cells` enters the cells falling: those from this one on are entered.
 use mathlib.Core.Path.{_≡_, refl, sym, ap, _∙_, subst}
 use Prim.Native.Nat.{ℕ, _+_, _*_, _-_, _≤_, _<_}
 use lib.ListN.{length, getD, drop, length-set}
@@ -7,8 +7,8 @@ use mathlib.Core.List.{List}
 use Rattle.plans.specs.Passes.{entered, enteredFrom}
 use Rattle.plans.proofs.Passes.{entered-down, entered-end}
 use borrow.Author.Needs.{needs}
-use Rattle.plans_copies.proofs.enter_cells.Statement.{statement}
-use Rattle.plans_copies.proofs.enter_cells.Tie as tie
+use Rattle.plans_passes.proofs.enter_cells.Statement.{statement}
+use Rattle.plans_passes.proofs.enter_cells.Tie as tie
 
 abbrev Inv-loop : tie.InvT-loop
 Inv-loop first plan₀ cell₀ plan cell = (cell ≤ length first) × (length plan ≡ length plan₀) × (plan ≡ enteredFrom (drop cell first) cell plan₀)

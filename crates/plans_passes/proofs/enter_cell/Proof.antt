@@ -1,9 +1,9 @@
--- `plans_copies::enter_cell` writes the cell at its owner's odd place.
+-- `plans_passes::enter_cell` writes the cell at its owner's odd place.
 use native.Mathlib.Omega.{arith}
 use Rattle.plans.proofs.Passes.{entered-some}
 use borrow.Author.Needs.{needs}
-use Rattle.plans_copies.proofs.enter_cell.Statement.{statement}
-use Rattle.plans_copies.proofs.enter_cell.Tie as tie
+use Rattle.plans_passes.proofs.enter_cell.Statement.{statement}
+use Rattle.plans_passes.proofs.enter_cell.Tie as tie
 
 returns : tie.Need-returns
 returns c =

@@ -1,4 +1,4 @@
--- `plans_pair::empty_cells` clears the part that is the cells.
+-- `plans_tables::empty_cells` clears the part that is the cells.
 use mathlib.Core.Path.{_≡_, sym, ap, _∙_}
 use mathlib.Core.List.{List, _++_}
 use Prim.Native.Nat.{ℕ}
@@ -6,8 +6,8 @@ use native.Mathlib.Omega.{arith}
 use lib.ListN.{length, drop, replicate}
 use lib.Seq.{length-take-le}
 use borrow.Author.Needs.{needs}
-use Rattle.plans_pair.proofs.empty_cells.Statement.{statement}
-use Rattle.plans_pair.proofs.empty_cells.Tie as tie
+use Rattle.plans_tables.proofs.empty_cells.Statement.{statement}
+use Rattle.plans_tables.proofs.empty_cells.Tie as tie
 
 returns : tie.Need-returns
 returns c =

@@ -1,4 +1,4 @@
--- `plans_copies::put_plan` is the three passes, and those write the planner's plan.
+-- `plans_passes::put_plan` is the three passes, and those write the planner's plan.
 use mathlib.Core.Path.{_≡_, ap, _∙_}
 use mathlib.Core.List.{List}
 use Prim.Native.Nat.{ℕ}
@@ -7,8 +7,8 @@ use lib.ListN.{length}
 use Rattle.plans.specs.Passes.{sourcedFrom, aimedFrom, Fits}
 use Rattle.plans.proofs.Passes.{first-fits, second-fits, written-is-plan}
 use borrow.Author.Needs.{needs}
-use Rattle.plans_copies.proofs.put_plan.Statement.{statement}
-use Rattle.plans_copies.proofs.put_plan.Tie as tie
+use Rattle.plans_passes.proofs.put_plan.Statement.{statement}
+use Rattle.plans_passes.proofs.put_plan.Tie as tie
 
 fits-first : (s : tie.Start) → Fits (s .args .first .now) (s .args .plan .now)
 fits-first s = first-fits (s .pre .0 .elements) (s .args .first .now) (s .args .second .now) (s .args .plan .now) (s .pre .0 .one) (s .pre .0 .two) (s .pre .1)

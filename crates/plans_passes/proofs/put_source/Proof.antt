@@ -1,4 +1,4 @@
--- `plans_copies::put_source` takes the cell entered for the owner to the copy's even place.
+-- `plans_passes::put_source` takes the cell entered for the owner to the copy's even place.
 use mathlib.Core.Path.{_≡_, refl, sym, ap, _∙_}
 use Prim.Native.Nat.{ℕ, _+_}
 use native.Mathlib.Omega.{arith}
@@ -6,8 +6,8 @@ use Rattle.claims.specs.Claims.{taken}
 use Rattle.plans.specs.Passes.{sourced}
 use Rattle.plans.proofs.Passes.{sourced-some, taken-some}
 use borrow.Author.Needs.{needs}
-use Rattle.plans_copies.proofs.put_source.Statement.{statement}
-use Rattle.plans_copies.proofs.put_source.Tie as tie
+use Rattle.plans_passes.proofs.put_source.Statement.{statement}
+use Rattle.plans_passes.proofs.put_source.Tie as tie
 
 returns : tie.Need-returns
 returns c =
