@@ -1,12 +1,26 @@
 /* urszovely.h: tile layouts, swizzles, banks, warp fragments, zero-column masks, the layout book and move plans, answered by a proved
- * library. C99 and C++.
+ * library. C99 and C++; clients/c/example.c reads a text, judges it and looks at the table.
  *
- * Every question takes any numbers and answers four: answer[0] is 0 or the number of a refusal, answer[1] to answer[3] are its
- * details, 0 unless said. Pointers are valid, not NULL and do not overlap; nothing else is asked of a caller. A refusal touches
+ * Every question takes any numbers and answers four: answer[0] is 0 or the number of a refusal, answer[1] to answer[3] are its details, 0
+ * unless said. Pointers are valid and do not overlap, and none is NULL but with length 0; nothing else is asked of a caller. A refusal touches
  * nothing that was lent, but that 7 and 8 of verdict, owner and canonical leave the first `cells` entries of the table 0, that most refusals
  * of carry and plan write the cells of both tables, as said there, and that a record is filled with zeros: the fields of urszovely_fields, the
  * card's first 46 numbers and the marks of urszovely_read, the encodings of urszovely_canonical, the card of urszovely_canonical_card, and the
  * card, the marks and the note's place of urszovely_page.
+ *
+ * Lent memory is a pointer and a length. A length counts entries, not bytes: a uint32_t table[704] has length 704. Where it is too short the
+ * answer is 11 with the length needed, so NULL with length 0 asks how much that is: of a card that passes its checks
+ * urszovely_verdict(card, marks, NULL, 0, answer) answers 11 with the cells. Memory for the most that is allowed, below, is never too short.
+ *
+ * A cell is numbered row-major over the eight axes, pid first and m last, each as long as the card says, and an axis that is not used has
+ * length 1. So the entry of the cell at coordinates at[8] in a space of lengths[8] is table[cell] after
+ *
+ *     for (cell = 0, axis = 0; axis < URSZOVELY_AXES; axis++) cell = cell * lengths[axis] + at[axis];
+ *
+ * and where warpid, laneid and m alone are used, laneid 32 and m 2 long, it is table[(warpid * 32 + laneid) * 2 + m].
+ *
+ * Threads: the library keeps nothing between questions, has no memory of its own that is written, takes none and starts nothing. Any number of
+ * threads may ask at once, each with an answer and lent memory of its own; what is only read they may share.
  *
  * Limits: extents, lengths, elements and cells 1 to 65,536, copies at most 64, strides and offsets -65,536 to 65,535.
  *
@@ -57,6 +71,77 @@ enum urszovely_refusal {
  * and 3 is 32B. */
 enum { URSZOVELY_K_MAJOR = 0, URSZOVELY_MN_MAJOR = 1 };
 enum { URSZOVELY_NO_SWIZZLE = 0, URSZOVELY_32B = 1, URSZOVELY_64B = 2, URSZOVELY_128B = 3 };
+
+/* The axes, in the order of a card's offsets and lengths and of a cell's coordinates, and how many there are. */
+enum {
+    URSZOVELY_AXIS_PID = 0,
+    URSZOVELY_AXIS_WARPID = 1,
+    URSZOVELY_AXIS_LANEID = 2,
+    URSZOVELY_AXIS_P = 3,
+    URSZOVELY_AXIS_F = 4,
+    URSZOVELY_AXIS_TLANE = 5,
+    URSZOVELY_AXIS_TCOL = 6,
+    URSZOVELY_AXIS_M = 7,
+    URSZOVELY_AXES = 8
+};
+
+/* Kinds of warp fragments of m8n8k4: the matrix, its elements, and for A and B of .f16 whether row- or column-major. Values are dealt in the
+ * last four. */
+enum {
+    URSZOVELY_M8N8K4_A_F16_ROW = 0,
+    URSZOVELY_M8N8K4_A_F16_COLUMN = 1,
+    URSZOVELY_M8N8K4_B_F16_ROW = 2,
+    URSZOVELY_M8N8K4_B_F16_COLUMN = 3,
+    URSZOVELY_M8N8K4_C_F16 = 4,
+    URSZOVELY_M8N8K4_C_F32 = 5,
+    URSZOVELY_M8N8K4_A_F64 = 6,
+    URSZOVELY_M8N8K4_B_F64 = 7,
+    URSZOVELY_M8N8K4_C_F64 = 8
+};
+
+/* Sorts of a register. */
+enum { URSZOVELY_EMPTY = 0, URSZOVELY_SINGLE = 1, URSZOVELY_DOUBLE = 2 };
+
+/* The most that is allowed: cells, which are a table's entries, and elements; copies of an element, which are a placement's entries; iters of
+ * a shard and of a replica; numbers of a written plan; bytes of a correct text, of a mask and of a note. A block of the layout book has 512. */
+enum {
+    URSZOVELY_MOST_CELLS = 65536,
+    URSZOVELY_MOST_ELEMENTS = 65536,
+    URSZOVELY_MOST_COPIES = 64,
+    URSZOVELY_MOST_SHARD = 8,
+    URSZOVELY_MOST_REPLICA = 4,
+    URSZOVELY_MOST_PLAN = 131072,
+    URSZOVELY_MOST_TEXT = 352,
+    URSZOVELY_MOST_MASK = 32,
+    URSZOVELY_MOST_NOTE = 292,
+    URSZOVELY_BLOCK = 512
+};
+
+/* A card by name. Its memory is the 57 numbers, strides and offsets with their signs; iters past a count are not looked at. */
+struct urszovely_iter {
+    uint64_t extent;
+    int64_t stride;
+    uint64_t axis;
+};
+
+struct urszovely_card {
+    uint64_t shard_count;
+    struct urszovely_iter shard[URSZOVELY_MOST_SHARD];
+    uint64_t replica_count;
+    struct urszovely_iter replica[URSZOVELY_MOST_REPLICA];
+    int64_t offsets[URSZOVELY_AXES];
+    uint64_t lengths[URSZOVELY_AXES];
+    uint64_t m, b, s;
+};
+
+/* Both in one memory: fill or read `card`, and hand over `numbers`. In C a pointer to a member of the struct, as &card.shard_count, points to
+ * that one number; `numbers` points to all 57, and each is then looked at as the type that it has or as its unsigned one, which C allows. */
+union urszovely_memory {
+    struct urszovely_card card;
+    uint64_t numbers[URSZOVELY_CARD];
+};
+
+typedef char urszovely_card_is_its_numbers[sizeof(struct urszovely_card) == URSZOVELY_CARD * sizeof(uint64_t) ? 1 : -1];
 
 /* The swizzle M, B, S of an address: 0 with the new address, or 6. */
 void urszovely_swizzle(uint64_t m, uint64_t b, uint64_t s, uint64_t address, uint64_t answer[4]);
@@ -192,7 +277,7 @@ static inline const char *urszovely_refusal_text(uint64_t number)
     case 21: return "a plan with a copy outside, or one that ends wrongly";
     case 22: return "major-ness, m, k or a byte stride of a canonical layout not allowed";
     case 23: return "two cards occupy one cell";
-    default: return "no refusal";
+    default: return "an unknown number, which is no refusal of this library";
     }
 }
 

@@ -2,7 +2,7 @@
  * right before one, what is only read is write-protected, and the answer begins as two patterns. The first answer says what of the lent
  * memory may be written, where it refuses nothing: from then on all else is write-protected, and where that is a part of an array the
  * question is asked again with that part on a page of its own. A touch outside ends the run, and so does a difference between the answers.
- * It lends tables up to the library's own limit, and plans of twice as many numbers. */
+ * What has length 0 is NULL on every second side. It lends tables up to the library's own limit, and plans of twice as many numbers. */
 #include "urszovely.h"
 
 void *mmap(void *at, size_t length, int access, int kind, int file, long offset);
@@ -57,6 +57,9 @@ static void fence(void)
     }
 }
 
+/* memory of some size on one side, and NULL on every second side where there is none */
+static void *handed(int side, void *at, size_t size) { return size || side % 2 == 0 ? at : 0; }
+
 /* what is only read */
 static const void *given(int which, int side, const void *bytes, size_t size)
 {
@@ -64,7 +67,7 @@ static const void *given(int which, int side, const void *bytes, size_t size)
     access_to(which, side, 0, ROOM, READ_WRITE);
     memcpy(at, bytes, size);
     access_to(which, side, 0, ROOM, READ);
-    return at;
+    return handed(side, at, size);
 }
 
 /* what may be written, as the caller has it: after the first answer its own bytes only, as far as a page parts them from the others */
@@ -75,7 +78,7 @@ static void *lent(int which, int side, const void *bytes, size_t size)
     memcpy(at, bytes, size);
     if (side && own[which].first == own[which].end) access_to(which, side, 0, ROOM, READ);
     else if (side >= 2) access_to(which, side, side == 2 ? ROOM / 2 : 0, side == 2 ? ROOM : ROOM / 2, READ);
-    return at;
+    return handed(side, at, size);
 }
 
 /* what the first answer allows to be written, and on how many sides it is asked: on those of which a page parts anything */
