@@ -1,5 +1,6 @@
 /* urszovely.h: tile layouts, swizzles, banks, warp fragments, zero-column masks, the layout book and move plans, answered by a proved
- * library. C99 and C++; clients/c/example.c reads a text, judges it and looks at the table.
+ * library. C99 and C++; urszovely.hpp beside it has the same questions with types. clients/c/example.c reads a text, judges it and looks
+ * at the table.
  *
  * Every question takes any numbers and answers four: answer[0] is 0 or the number of a refusal, answer[1] to answer[3] are its details, 0
  * unless said. Pointers are valid and do not overlap, and none is NULL but with length 0; nothing else is asked of a caller. A refusal touches
