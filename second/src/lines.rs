@@ -1,7 +1,7 @@
 //! The line protocol: splitting the input, the rule for numbers, and how an
 //! answer is printed.
 
-use crate::words::{Word, CLIENT, DESK, TEXT_WORDS};
+use crate::words::{Word, CLIENT, DESK, TABLES, TEXT_WORDS};
 use std::fmt::Write;
 
 /// A line of more bytes than this is no question.
@@ -163,6 +163,12 @@ pub fn answer_line(line: &[u8], most: u64) -> Option<String> {
     answer_among(DESK, line, most)
 }
 
+/// What `desk` says to one line, with whole tables in the place of the digests
+/// of a verdict and of an owner.
+pub fn tables_answer_line(line: &[u8], most: u64) -> Option<String> {
+    answer_among(TABLES, line, most)
+}
+
 /// What the C client says to one line.
 pub fn client_answer_line(line: &[u8], most: u64) -> Option<String> {
     answer_among(CLIENT, line, most)
@@ -288,6 +294,29 @@ mod tests {
         assert_eq!(digest(&[4_294_967_291u64, 1]), 2);
         assert_eq!(digest(&[165u8; 3]), 990);
         assert_eq!(digest(&[3 * u128::from(u64::MAX) + 2]), 74);
+    }
+
+    #[test]
+    fn tables_are_printed_whole() {
+        let layout = "1 4 -1 7 0 0 0 0 0 0 0 0 0 0 0 0 0 0 0 0 0 0 0 0 0 \
+                      0 0 0 0 0 0 0 0 0 0 0 0 0 0 0 0 0 0 0 0 3 1 1 1 1 1 1 1 4 0 0 3";
+        let says = |line: String, wanted: &str| {
+            let said = tables_answer_line(line.as_bytes(), MOST_ENTRIES);
+            assert_eq!(said.as_deref(), Some(wanted), "{line}");
+        };
+        says(format!("verdict {layout} 5"), "0 4 4 4 | 4 3 2 1 1000004");
+        says(format!("verdict* 0 {layout} 4"), "0 4 4 4 | 4 3 2 1");
+        says(format!("verdict {layout} 0"), "11 4 0 0 |");
+        says(
+            format!("owner {layout} 0 0 0 0 0 0 0 1 4"),
+            "0 3 0 0 | 4 3 2 1",
+        );
+        says(
+            format!("owner* 1 {layout} 0 0 0 0 0 0 0 1 1"),
+            "2 0 0 0 | 1000000",
+        );
+        says("swizzle 3 3 3 64".to_string(), "0 72 0 0");
+        says("deal 5 0 0 0 0 0".to_string(), "?");
     }
 
     #[test]

@@ -19,7 +19,7 @@ mod values;
 mod verdict;
 mod words;
 
-use lines::{answer_line, answers_of, client_answer_line, number, AnswerLine};
+use lines::{answer_line, answers_of, client_answer_line, number, tables_answer_line, AnswerLine};
 use loads::every;
 use std::env;
 use std::io::{self, BufWriter, Read, Write};
@@ -28,6 +28,7 @@ use verdict::MOST_ENTRIES;
 
 const USAGE: &str = "usage: second answer [MOST]
        second client [MOST]
+       second tables [MOST]
        second blocks
        second large
        second values
@@ -90,6 +91,8 @@ fn run(arguments: &[&[u8]], out: &mut impl Write) -> Option<io::Result<()>> {
         [b"answer", most] => answer(answer_line, out, most_asked(most)?),
         [b"client"] => answer(client_answer_line, out, MOST_ENTRIES),
         [b"client", most] => answer(client_answer_line, out, most_asked(most)?),
+        [b"tables"] => answer(tables_answer_line, out, MOST_ENTRIES),
+        [b"tables", most] => answer(tables_answer_line, out, most_asked(most)?),
         [b"blocks"] => out.write_all(&frozen::blocks()),
         [b"large"] => out.write_all(&frozen::large()),
         [b"values"] => out.write_all(&frozen::values()),

@@ -154,13 +154,26 @@ fn stretch(
     Ok([prefix * under, under])
 }
 
-fn printed(result: Result<[u64; 3], Refusal>, digested: &[u64]) -> Answer {
-    let (number, details) = match result {
+fn numbers_of(result: Result<[u64; 3], Refusal>) -> (u64, [u64; 3]) {
+    match result {
         Ok(details) => (0, details),
         Err(refusal) => (refusal.number, refusal.details),
-    };
+    }
+}
+
+fn printed(result: Result<[u64; 3], Refusal>, digested: &[u64]) -> Answer {
+    let (number, details) = numbers_of(result);
     Answer::beside(number, details, &[digest(digested)])
 }
+
+/// An answer with the whole of the lent table in the place of its digest.
+fn whole((result, table): Judged) -> Answer {
+    let (number, details) = numbers_of(result);
+    Answer::beside(number, details, &table)
+}
+
+/// What a question comes to, and the lent table after it.
+type Judged = (Result<[u64; 3], Refusal>, Vec<u64>);
 
 /// A lent table of the last number's length; none beyond what may be lent.
 pub fn lent_table(numbers: &[u64], most: u64) -> Option<Vec<u64>> {
@@ -168,17 +181,17 @@ pub fn lent_table(numbers: &[u64], most: u64) -> Option<Vec<u64>> {
     (length <= most).then(|| lent_entries(length))
 }
 
-pub fn answer_verdict(marks: Marks, numbers: &[Number], most: u64) -> Option<Answer> {
+fn judged_verdict(marks: Marks, numbers: &[Number], most: u64) -> Option<Judged> {
     let mut table = lent_table(&plain(numbers.get(Card::NUMBERS..)?)?, most)?;
     let card = Card {
         marks,
         ..Card::of(numbers)?
     };
     let result = verdict(&card, &mut table);
-    Some(printed(result, &table))
+    Some((result, table))
 }
 
-pub fn answer_owner(marks: Marks, numbers: &[Number], most: u64) -> Option<Answer> {
+fn judged_owner(marks: Marks, numbers: &[Number], most: u64) -> Option<Judged> {
     let rest = plain(numbers.get(Card::NUMBERS..)?)?;
     let mut table = lent_table(&rest, most)?;
     let card = Card {
@@ -186,7 +199,26 @@ pub fn answer_owner(marks: Marks, numbers: &[Number], most: u64) -> Option<Answe
         ..Card::of(numbers)?
     };
     let result = owner(&card, rest.first_chunk()?, &mut table);
+    Some((result, table))
+}
+
+pub fn answer_verdict(marks: Marks, numbers: &[Number], most: u64) -> Option<Answer> {
+    let (result, table) = judged_verdict(marks, numbers, most)?;
     Some(printed(result, &table))
+}
+
+pub fn answer_owner(marks: Marks, numbers: &[Number], most: u64) -> Option<Answer> {
+    let (result, table) = judged_owner(marks, numbers, most)?;
+    Some(printed(result, &table))
+}
+
+/// The same two with whole tables.
+pub fn whole_verdict(marks: Marks, numbers: &[Number], most: u64) -> Option<Answer> {
+    judged_verdict(marks, numbers, most).map(whole)
+}
+
+pub fn whole_owner(marks: Marks, numbers: &[Number], most: u64) -> Option<Answer> {
+    judged_owner(marks, numbers, most).map(whole)
 }
 
 pub fn answer_stretch(numbers: &[u64], most: u64) -> Option<Answer> {

@@ -250,9 +250,40 @@ pub const VALUE_WORDS: &[Word] = &[
     },
 ];
 
-/// What each program answers.
+/// The words whose lent table is printed whole for who asks for tables.
+pub const TABLE_WORDS: &[Word] = &[
+    Word {
+        name: "verdict",
+        count: Just(58),
+        answer: |numbers, most| verdict::whole_verdict(NO_MARKS, numbers, most),
+    },
+    Word {
+        name: "owner",
+        count: Just(66),
+        answer: |numbers, most| verdict::whole_owner(NO_MARKS, numbers, most),
+    },
+    Word {
+        name: "verdict*",
+        count: Just(59),
+        answer: |numbers, most| {
+            let (marks, numbers) = marked(numbers)?;
+            verdict::whole_verdict(marks, numbers, most)
+        },
+    },
+    Word {
+        name: "owner*",
+        count: Just(67),
+        answer: |numbers, most| {
+            let (marks, numbers) = marked(numbers)?;
+            verdict::whole_owner(marks, numbers, most)
+        },
+    },
+];
+
+/// What each program answers; of two words with one name the first counts.
 pub const DESK: &[&[Word]] = &[WORDS];
 pub const CLIENT: &[&[Word]] = &[WORDS, VALUE_WORDS];
+pub const TABLES: &[&[Word]] = &[TABLE_WORDS, WORDS];
 
 /// For the tests: the numbers that the answers to the words about values can
 /// have.
