@@ -1,0 +1,41 @@
+"""Pictures: drawn from the library and from the second program, they are the same bytes; docs/pictures has what is drawn today."""
+import re
+import unittest
+from xml.etree import ElementTree
+
+import gallery
+from second import ROOT, Second
+from urszovely import _ask
+
+
+class Pictures(unittest.TestCase):
+    @classmethod
+    def setUpClass(cls) -> None:
+        cls.drawn = {name: draw() for name, draw in gallery.ALL.items()}
+
+    def test_drawn_twice(self) -> None:
+        before = _ask.take(Second())
+        try:
+            for name, draw in gallery.ALL.items():
+                self.assertEqual(self.drawn[name], draw(), name)
+        finally:
+            _ask.take(before)
+
+    def test_each_is_well_formed_small_and_readable(self) -> None:
+        for name, svg in self.drawn.items():
+            with self.subTest(name):
+                self.assertEqual(ElementTree.fromstring(svg).tag, "{http://www.w3.org/2000/svg}svg")
+                self.assertLess(len(svg.encode()), 1000000)
+                self.assertGreaterEqual(min(float(size) for size in re.findall(r'font-size="([0-9.]+)"', svg)), 9)
+
+    def test_docs_pictures_are_what_is_drawn(self) -> None:
+        folder = ROOT / "docs" / "pictures"
+        self.assertEqual(sorted(path.name for path in folder.iterdir()), sorted(name + ".svg" for name in gallery.KEPT))
+        for name in gallery.KEPT:
+            kept = (folder / (name + ".svg")).read_text(encoding="utf-8")
+            self.assertEqual(kept, self.drawn[name], f"./python clients/python/tests/gallery.py docs/pictures writes {name} anew")
+            self.assertLess(len(kept.encode()), 60000)
+
+
+if __name__ == "__main__":
+    unittest.main()
