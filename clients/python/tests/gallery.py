@@ -6,7 +6,6 @@ import urszovely as u
 
 TILE = "S[(8,2,4,2):(4@laneid,1@warpid,1@laneid,1)]+R[2:4@warpid]+5@warpid"
 CLASH = TILE.replace("R[2:4", "R[2:1")
-ACCUMULATOR = "S[(2,128,112):(%d@TCol,1@TLane,1@TCol)]"
 Draw = Callable[[], u.Picture]
 
 # Six that README shows.
@@ -34,9 +33,9 @@ FURTHER: Dict[str, Draw] = {
     "P and F": lambda: u.judge("S[(8,4):(1@P,1@F)]", P=8, F=4).svg(),
     "pid and warpid": lambda: u.judge("S[(6,4):(1@pid,1@warpid)]", pid=6, warpid=5).svg(),
     "lanes not in fours": lambda: u.judge("S[(6,3):(1@laneid,1)]", laneid=6, m=3).svg(),
-    "the 224-column accumulator": lambda: u.judge(ACCUMULATOR % 112, TLane=128, TCol=224).svg(),
-    "a large clash": lambda: u.judge(ACCUMULATOR % 100, TLane=128, TCol=224).svg(),
-    "large and outside": lambda: u.judge(ACCUMULATOR % 112, TLane=120, TCol=224).svg(),
+    "the 224-column accumulator": lambda: u.judge("S[(2,128,112):(112@TCol,1@TLane,1@TCol)]", TLane=128, TCol=224).svg(),
+    "a large clash": lambda: u.judge("S[(2,32,56):(50@TCol,1@TLane,1@TCol)]", TLane=32, TCol=112).svg(),
+    "large and outside": lambda: u.judge("S[(2,32,56):(56@TCol,1@TLane,1@TCol)]", TLane=30, TCol=112).svg(),
     "the largest": lambda: u.judge("S[(256,256):(256,1)]", m=65536).svg(),
     "many panels": lambda: u.judge("S[(64,32,4):(1@pid,1@laneid,1)]", pid=64, laneid=32, m=4).svg(),
     "no such swizzle": lambda: u.judge("S[(8):(1)]", swizzle=(9, 1, 3), m=8).svg(),
