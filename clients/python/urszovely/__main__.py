@@ -13,9 +13,9 @@ import re
 import subprocess
 import sys
 from pathlib import Path
-from typing import Dict, List, Optional, Sequence, Tuple
+from typing import Dict, List, Sequence, Tuple
 
-from . import AXES, Refused, Verdict, judge
+from . import AXES, Refused, judge
 from .layout import SwizzleLike
 
 # The program judge lends so many entries to its table.
@@ -40,10 +40,6 @@ def _line(typed: bytes) -> bytes:
     return typed[:-1] if typed.endswith(b"\n") else typed
 
 
-def _verdict(first: bytes, second: bytes, lent: Optional[int] = None, **how: object) -> Verdict:
-    return judge(_line(second), lent=lent, **_lengths(_line(first)), **how)  # type: ignore[arg-type]
-
-
 def why() -> int:
     """The program judge's own line, and then why, which ends where that line ends."""
     first, second = _typed()
@@ -52,7 +48,7 @@ def why() -> int:
     sys.stdout.buffer.write(said.stdout)
     sys.stdout.flush()
     try:
-        verdict = _verdict(first, second, _LENT)
+        verdict = judge(_line(second), None, None, _LENT, **_lengths(_line(first)))
         number, details, reason = verdict.number, verdict.details, verdict.why()
     except Refused as refused:
         number, details, reason = refused.number, refused.details, str(refused)
@@ -86,12 +82,12 @@ def look(words: Sequence[str]) -> int:
     wrong = [word for word, (axis, _, length) in zip(asked.lengths, lengths) if axis not in AXES or not length.isdigit()]
     if wrong:
         parser.error(f"{wrong[0]} is not an axis and its length; the axes are {', '.join(AXES)}")
-    how = {"shape": asked.shape, "swizzle": asked.swizzle}
     try:
         if asked.layout is None:
-            verdict = _verdict(*_typed(), **how)
+            first, second = _typed()
+            verdict = judge(_line(second), asked.shape, asked.swizzle, **_lengths(_line(first)))
         else:
-            verdict = judge(asked.layout, **how, **{axis: int(length) for axis, _, length in lengths})
+            verdict = judge(asked.layout, asked.shape, asked.swizzle, **{axis: int(length) for axis, _, length in lengths})
         picture = verdict.bank_svg(asked.banks) if asked.banks else verdict.svg()
     except Refused as refused:
         print(refused, file=sys.stderr)

@@ -11,10 +11,15 @@ import sys
 import threading
 from array import array
 from pathlib import Path
-from typing import IO, Iterable, List, Optional, Protocol, Sequence, Tuple, Union
+from typing import IO, TYPE_CHECKING, Iterable, List, Optional, Protocol, Sequence, Tuple, Union
+
+if TYPE_CHECKING:
+    Memory = array[int]
+else:  # what a type checker alone may write before Python 3.12
+    Memory = array
 
 Answer = Tuple[int, int, int, int]
-Word = Union[int, array]
+Word = Union[int, Memory]
 Words = Sequence[Word]
 
 CARD, LAYOUT, TEXT, BLOCK = 57, 46, 344, 512
@@ -135,7 +140,9 @@ def _open() -> Road:
         root = Path(__file__).resolve().parents[3]
         named = subprocess.run([str(root / "python"), "--road"], check=True, stdout=subprocess.PIPE, text=True).stdout.rstrip("\n")
     words = named.split("\n")
-    return Loaded(words[0]) if len(words) == 1 else Process(words)
+    if len(words) == 1:
+        return Loaded(words[0])
+    return Process(words)
 
 
 def take(road: Optional[Road]) -> Optional[Road]:
@@ -163,11 +170,11 @@ def number(value: int) -> int:
     return value % _NUMBERS
 
 
-def _numbers(values: Iterable[int]) -> array:
+def _numbers(values: Iterable[int]) -> Memory:
     return array("Q", [number(value) for value in values])
 
 
-def _tuple(values: Sequence[int]) -> array:
+def _tuple(values: Sequence[int]) -> Memory:
     """A shape, or coordinates: a count and eight numbers."""
     return _numbers([len(values), *values[:8], *[0] * (8 - len(values))])
 
@@ -193,7 +200,7 @@ def holder(kind: int, places: Sequence[Tuple[int, int, int]]) -> List[Answer]:
     return _ask_all("holder", [(number(kind), *map(number, place)) for place in places])
 
 
-Registers = Tuple[array, array, array]
+Registers = Tuple[Memory, Memory, Memory]
 
 
 def registers(values: Sequence[Tuple[int, int]]) -> Registers:
@@ -211,11 +218,11 @@ def collect(kind: int, computation: int, lanes: Registers, tile: Registers) -> A
     return _ask("collect", number(kind), number(computation), *lanes, *tile)
 
 
-def deal_f64(kind: int, computation: int, tile: Registers, holdings: array) -> Answer:
+def deal_f64(kind: int, computation: int, tile: Registers, holdings: Memory) -> Answer:
     return _ask("deal_f64", number(kind), number(computation), *tile, holdings)
 
 
-def collect_f64(kind: int, computation: int, holdings: array, tile: Registers) -> Answer:
+def collect_f64(kind: int, computation: int, holdings: Memory, tile: Registers) -> Answer:
     return _ask("collect_f64", number(kind), number(computation), holdings, *tile)
 
 
@@ -246,17 +253,17 @@ def place(card: Sequence[int], marks: int, shape: Sequence[int], coordinates: Se
     return [(answer, memory[: answer[1]].tolist() if not answer[0] else []) for answer, memory in zip(answers, lent)]
 
 
-def verdict(card: Sequence[int], marks: int, length: int) -> Tuple[Answer, array]:
+def verdict(card: Sequence[int], marks: int, length: int) -> Tuple[Answer, Memory]:
     table = array("I", bytes(4 * length))
     return _ask("verdict", _numbers(card), number(marks), table, length), table
 
 
-def owner(card: Sequence[int], marks: int, coordinates: Sequence[int], length: int) -> Tuple[Answer, array]:
+def owner(card: Sequence[int], marks: int, coordinates: Sequence[int], length: int) -> Tuple[Answer, Memory]:
     table = array("I", bytes(4 * length))
     return _ask("owner", _numbers(card), number(marks), _numbers(coordinates), table, length), table
 
 
-def stretch(table: array, lengths: Sequence[int], axis: int, coordinates: Sequence[int]) -> Answer:
+def stretch(table: Memory, lengths: Sequence[int], axis: int, coordinates: Sequence[int]) -> Answer:
     return _ask("stretch", table, len(table), _numbers(lengths), number(axis), _numbers(coordinates))
 
 
@@ -273,7 +280,7 @@ def write(card: Sequence[int], marks: int, length: int = TEXT) -> Tuple[Answer, 
     return answer, text[: answer[1]].tobytes().decode("ascii") if not answer[0] else ""
 
 
-def canonical(asked: Sequence[int], length: int) -> Tuple[Answer, array, Tuple[int, int]]:
+def canonical(asked: Sequence[int], length: int) -> Tuple[Answer, Memory, Tuple[int, int]]:
     """The verdict on major-ness, mode, bits, m, k, LBO, SBO and the length of m; LBO and SBO as encoded."""
     table, encodings = array("I", bytes(4 * length)), array("Q", bytes(16))
     return _ask("canonical", *map(number, asked), table, length, encodings), table, (encodings[0], encodings[1])
@@ -303,14 +310,14 @@ def _pair(first: Marked, second: Marked) -> List[Word]:
     return [_numbers(first[0]), number(first[1]), _numbers(second[0]), number(second[1])]
 
 
-def carry(first: Marked, second: Marked, plan: Sequence[int], length: int) -> Tuple[Answer, array, array]:
+def carry(first: Marked, second: Marked, plan: Sequence[int], length: int) -> Tuple[Answer, Memory, Memory]:
     """A plan between two cards with their marks; both tables are lent `length` entries."""
     one, other = array("I", bytes(4 * length)), array("I", bytes(4 * length))
     answer = _ask("carry", *_pair(first, second), _numbers(plan), len(plan), one, length, other, length)
     return answer, one, other
 
 
-def plan(first: Marked, second: Marked, plan_length: int, length: int) -> Tuple[Answer, array, array, array]:
+def plan(first: Marked, second: Marked, plan_length: int, length: int) -> Tuple[Answer, Memory, Memory, Memory]:
     """The plan that is written, and both tables."""
     numbers = array("Q", bytes(8 * plan_length))
     one, other = array("I", bytes(4 * length)), array("I", bytes(4 * length))

@@ -1,5 +1,4 @@
 """Layouts: cards, verdicts on them, where each element goes and who owns each cell."""
-from array import array
 from math import prod
 from typing import List, NamedTuple, Optional, Sequence, Tuple, Union
 
@@ -178,7 +177,7 @@ class Verdict:
     [cell 447 (warpid 6, laneid 31, m 1), cell 703 (warpid 10, laneid 31, m 1)]
     """
 
-    def __init__(self, card: Card, answer: Sequence[int], table: array, shape: Optional[Sequence[int]]) -> None:
+    def __init__(self, card: Card, answer: Sequence[int], table: _ask.Memory, shape: Optional[Sequence[int]]) -> None:
         self.card = card
         self.shape = tuple(shape) if shape else None
         self.number = answer[0]
@@ -247,7 +246,7 @@ class Verdict:
             raise TypeError("a coordinate needs a shape, as in judge(.., shape=(8, 16))")
         return self.card.where(one, self.shape)
 
-    def stretch(self, axis: Union[int, str], **coordinates: int) -> array:
+    def stretch(self, axis: Union[int, str], **coordinates: int) -> _ask.Memory:
         """The part of the table under the coordinates of all axes up to one and with it.
 
         >>> import urszovely as u

@@ -287,7 +287,9 @@ class Panels:
         page.rect(x, y, self.width, self.height, "none", stroke=RED if outside else EDGE, stroke_width=1.5, stroke_dasharray="5 4" if outside else None)
 
     def _numbers(self, page: Page, x: Number, y: Number, cells: Sequence[Tuple[Cell, List[int]]]) -> None:
-        plain, clashed, framed = [], [], []
+        plain: List[Tuple[Tuple[Number, Number], List[int]]] = []
+        clashed: List[Tuple[Tuple[Number, Number], List[int]]] = []
+        framed = []
         for cell, flats in cells:
             r, k = self.at(cell)
             place = (x + k * self.cell_width + self.cell_width / 2, y + r * self.cell_height)

@@ -1,5 +1,4 @@
 """Move plans: lists of copies, cell to cell, that turn one layout into another in one space."""
-from array import array
 from typing import List, NamedTuple, Sequence, Tuple
 
 from . import _ask, explain
@@ -12,8 +11,8 @@ Copy = Tuple[int, int]
 class Carried(NamedTuple):
     """The tables after a plan: what the copies left, and the second card's owners."""
 
-    left: array
-    wanted: array
+    left: _ask.Memory
+    wanted: _ask.Memory
 
 
 def _sentence(first: Card, second: Card, answer: Sequence[int], copies: Sequence[int]) -> str:

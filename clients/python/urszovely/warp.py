@@ -97,9 +97,10 @@ class Register(NamedTuple):
     @property
     def value(self) -> Optional[float]:
         """The value as a float of Python, which may quiet a not-a-number; the bits do not."""
-        if self.sort == 1:
-            return struct.unpack("<f", self.bits.to_bytes(4, "little"))[0]
-        return struct.unpack("<d", self.bits.to_bytes(8, "little"))[0] if self.sort == 2 else None
+        if self.sort not in (1, 2):
+            return None
+        form, size = ("<f", 4) if self.sort == 1 else ("<d", 8)
+        return float(struct.unpack(form, self.bits.to_bytes(size, "little"))[0])
 
 
 EMPTY = Register(0, 0)
@@ -180,7 +181,7 @@ def collect(kind: int, lanes: Sequence[Sequence[Register]], computation: int = 0
     return _rows(lent)
 
 
-def _holdings(given: Optional[Sequence[Sequence[int]]]) -> array:
+def _holdings(given: Optional[Sequence[Sequence[int]]]) -> _ask.Memory:
     flat = [bits for holding in given for bits in holding] if given is not None else [0] * 128
     if len(flat) != 128:
         raise TypeError("32 holdings of 4 doubles are needed")
