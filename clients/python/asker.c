@@ -19,6 +19,7 @@ static const char *const questions[] = {
     "nnnnnnnnenu", "nnnnnnnnu",                    /* canonical, canonical_card */
     "UnBnbn", "Bnuuu",                             /* block, page */
     "UnUnUnenen", "UnUnunenen",                    /* carry, plan */
+    "nnnn", "nnnn", "nu",                          /* mma, mma_holder, mma_layout */
 };
 enum { QUESTIONS = sizeof questions / sizeof *questions, MOST_ARGUMENTS = 12, MOST_WORDS = 1 << 19 };
 
@@ -110,6 +111,20 @@ static void ask_cards(uint64_t question)
     }
 }
 
+/* further kinds of fragments; where the header does not have them yet, the number is one that no question answers */
+static void ask_kinds(uint64_t question)
+{
+#ifdef URSZOVELY_MMA
+    switch (question) {
+    case 25: urszovely_mma(N(0), N(1), N(2), N(3), answer); break;
+    case 26: urszovely_mma_holder(N(0), N(1), N(2), N(3), answer); break;
+    default: urszovely_mma_layout(N(0), U(1), answer); break;
+    }
+#else
+    answer[0] = question ? UINT64_MAX : 0;
+#endif
+}
+
 /* the answer, and the memory that may have been written: small letters but n */
 static int reply(const char *letters)
 {
@@ -127,7 +142,8 @@ int main(void)
         if (!length || length > MOST_WORDS || !take(frame, length * 8)) return 1;
         if (frame[0] >= QUESTIONS || !parse(questions[frame[0]], length)) return 1;
         if (frame[0] < 12) ask_numbers(frame[0]);
-        else ask_cards(frame[0]);
+        else if (frame[0] < 25) ask_cards(frame[0]);
+        else ask_kinds(frame[0]);
         if (!reply(questions[frame[0]])) return 1;
     }
     return 0;

@@ -48,6 +48,14 @@ FURTHER: Dict[str, Draw] = {
     "a clear mask": lambda: u.Mask(128, 8, 0).svg(),
 }
 
+# Further kinds of fragments, where the archive and the second program have them.
+KINDS: Dict[str, Draw] = {
+    "m16n8k16 A": lambda: u.Mma(12).svg(),
+    "ldmatrix": lambda: u.Mma(45).svg(),
+    "wgmma A": lambda: u.Mma(37).svg(),
+    "wgmma m64n256 D": lambda: u.Mma(1256).svg(),
+}
+
 ALL: Dict[str, Draw] = {**KEPT, **FURTHER}
 
 if __name__ == "__main__":

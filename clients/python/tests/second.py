@@ -51,7 +51,12 @@ def line(name: str, words: _ask.Words) -> bytes:
     said = numbers(kept)
     if name == "write":  # the card's lengths and M, B, S aside
         said = said[: 1 + _ask.LAYOUT] + said[-1:]
-    return " ".join([name + ("*" if starred else ""), *map(str, said)]).encode("ascii")
+    return " ".join([name.replace("_", "-") + ("*" if starred else ""), *map(str, said)]).encode("ascii")
+
+
+def knows(question: bytes) -> bool:
+    """Whether a line is a question to the second program."""
+    return subprocess.run([str(PROGRAM), "tables"], input=question + b"\n", check=True, stdout=subprocess.PIPE).stdout != b"?\n"
 
 
 def entry(text: str) -> int:

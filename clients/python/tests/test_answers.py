@@ -108,6 +108,23 @@ class Answers(unittest.TestCase):
                     for k, (lane, register) in enumerate(row):
                         self.assertEqual(fragment.held(lane, register), (n, r, k))
 
+    def test_further_kinds(self) -> None:
+        try:
+            kind = u.Mma(12)
+        except NotImplementedError:
+            self.skipTest("the archive has no further kinds of fragments")
+        self.assertEqual(repr(kind), "<kind 12: m16n8k16 .f16/.bf16 A, 16 by 16>")
+        self.assertEqual(kind.held(0, 5, 3), (0, 9, 3))
+        self.assertEqual(kind.holder(9, 3), (0, 5, 3))
+        self.assertEqual(kind.card.text, "S[(2,8,2,4,2):(2@m,4@laneid,4@m,1@laneid,1@m)]")
+        self.assertEqual(kind.card.judge().details, (256, 256, 256))
+        self.assertEqual((u.Mma(1024).warps, u.Mma(1024).registers), (4, 12))
+        self.refused(14, "there is no further kind 5", lambda: u.Mma(5))
+        self.refused(14, "warp 1, lane 0 has no register 0 in m16n8k16 .f16/.bf16 A", lambda: kind.held(1, 0, 0))
+        for number in u.MMA_KINDS:
+            some = u.Mma(number)
+            self.assertEqual(some.warps * 32 * some.registers, some.matrices * some.rows * some.columns)
+
     def test_bits_of_values_survive(self) -> None:
         singles = [0x7F800001, 0xFFC00000, 0x7FC12345, 0x80000000, 0x00000001]
         doubles = [0x7FF0000000000001, 0xFFF8000000000000, 0x7FF8000012345678, 1 << 63, 1]

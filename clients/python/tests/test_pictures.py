@@ -4,19 +4,30 @@ import unittest
 from xml.etree import ElementTree
 
 import gallery
-from second import ROOT, Second
+import urszovely as u
+from second import ROOT, Second, knows
 from urszovely import _ask
+
+
+def has_kinds() -> bool:
+    """Whether the archive and the second program have the further kinds of fragments."""
+    try:
+        u.Mma(12)
+    except NotImplementedError:
+        return False
+    return knows(b"mma 12 0 0 0")
 
 
 class Pictures(unittest.TestCase):
     @classmethod
     def setUpClass(cls) -> None:
-        cls.drawn = {name: draw() for name, draw in gallery.ALL.items()}
+        cls.all = {**gallery.ALL, **(gallery.KINDS if has_kinds() else {})}
+        cls.drawn = {name: draw() for name, draw in cls.all.items()}
 
     def test_drawn_twice(self) -> None:
         before = _ask.take(Second())
         try:
-            for name, draw in gallery.ALL.items():
+            for name, draw in self.all.items():
                 self.assertEqual(self.drawn[name], draw(), name)
         finally:
             _ask.take(before)

@@ -19,15 +19,15 @@ from .addresses import LineAndBank, bank, mode, swizzle
 from .book import Page, block, listed, page
 from .layout import Card, Cell, Iter, Verdict, judge
 from .masks import Fields, Mask, descriptor, fields
-from .names import AXES, KINDS, MAJORS, MODES, REFUSALS, Refused, Swizzle
+from .names import AXES, KINDS, MAJORS, MMA_KINDS, MODES, REFUSALS, Refused, Swizzle
 from .plans import Carried, carry, plan
 from .shared import Canonical, canonical
 from .svg import Picture
-from .warp import EMPTY, Fragment, Holder, Holding, Place, Register, collect, collect_f64, deal, deal_f64, double, single
+from .warp import EMPTY, Fragment, Holder, Holding, Mma, MmaHolder, MmaPlace, Place, Register, collect, collect_f64, deal, deal_f64, double, single
 
 __all__ = [
-    "AXES", "KINDS", "MAJORS", "MODES", "REFUSALS", "EMPTY",
-    "Canonical", "Card", "Carried", "Cell", "Fields", "Fragment", "Holder", "Holding", "Iter", "LineAndBank", "Mask", "Page", "Picture", "Place",
+    "AXES", "KINDS", "MAJORS", "MMA_KINDS", "MODES", "REFUSALS", "EMPTY",
+    "Canonical", "Card", "Carried", "Cell", "Fields", "Fragment", "Holder", "Holding", "Iter", "LineAndBank", "Mask", "Mma", "MmaHolder", "MmaPlace", "Page", "Picture", "Place",
     "Refused", "Register", "Swizzle", "Verdict",
     "bank", "block", "canonical", "carry", "collect", "collect_f64", "deal", "deal_f64", "descriptor", "double", "fields", "judge", "listed", "mode",
     "page", "plan", "single", "swizzle",

@@ -37,6 +37,7 @@ QUESTIONS = {
     "canonical": "nnnnnnnnenu", "canonical_card": "nnnnnnnnu",
     "block": "UnBnbn", "page": "Bnuuu",
     "carry": "UnUnUnenen", "plan": "UnUnunenen",
+    "mma": "nnnn", "mma_holder": "nnnn", "mma_layout": "nu",
 }
 _PLACE_OF = {name: place for place, name in enumerate(QUESTIONS)}
 
@@ -55,6 +56,8 @@ class Loaded:
         self.nothing = array("Q", [0])  # what memory of no length points to
 
     def ask(self, name: str, questions: Sequence[Words]) -> List[Answer]:
+        if not hasattr(self.library, "urszovely_" + name):
+            return [(_NUMBERS - 1, 0, 0, 0)] * len(questions)
         call = getattr(self.library, "urszovely_" + name)
         call.restype = None
         call.argtypes = [ctypes.c_uint64 if letter == "n" else ctypes.c_void_p for letter in QUESTIONS[name]] + [ctypes.c_void_p]
@@ -156,7 +159,10 @@ def _ask_all(name: str, questions: Sequence[Words]) -> List[Answer]:
     global _road
     if _road is None:
         _road = _open()
-    return _road.ask(name, questions)
+    answers = _road.ask(name, questions)
+    if any(answer[0] == _NUMBERS - 1 for answer in answers):
+        raise NotImplementedError(f"the archive has no question {name}")
+    return answers
 
 
 def _ask(name: str, *words: Word) -> Answer:
@@ -323,6 +329,21 @@ def plan(first: Marked, second: Marked, plan_length: int, length: int) -> Tuple[
     one, other = array("I", bytes(4 * length)), array("I", bytes(4 * length))
     answer = _ask("plan", *_pair(first, second), numbers, plan_length, one, length, other, length)
     return answer, numbers, one, other
+
+
+def mma(kind: int, held: Sequence[Tuple[int, int, int]]) -> List[Answer]:
+    """What registers of a further kind hold, each a warp, a lane and a register."""
+    return _ask_all("mma", [(number(kind), *map(number, place)) for place in held])
+
+
+def mma_holder(kind: int, places: Sequence[Tuple[int, int, int]]) -> List[Answer]:
+    """The holders of places of a further kind, each a matrix, a row and a column."""
+    return _ask_all("mma_holder", [(number(kind), *map(number, place)) for place in places])
+
+
+def mma_layout(kind: int) -> Tuple[Answer, List[int]]:
+    card = array("Q", bytes(8 * CARD))
+    return _ask("mma_layout", number(kind), card), signed(card)
 
 
 def signed(card: Sequence[int]) -> List[int]:

@@ -11,6 +11,19 @@ MAJORS = ("K", "MN")
 KINDS = (
     "A .f16 row-major", "A .f16 column-major", "B .f16 row-major", "B .f16 column-major", "C .f16", "C .f32", "A .f64", "B .f64", "C .f64",
 )
+#: The further kinds of fragments, by number; wgmma's accumulators m64nN are 1000 + N, N from 8 to 256 in eights.
+MMA_KINDS = {
+    9: "m16n8k8 .f16/.bf16 A", 10: "m16n8k8 .f16/.bf16 B", 11: "m16n8 C and D", 12: "m16n8k16 .f16/.bf16 A", 13: "m16n8k16 .f16/.bf16 B",
+    14: "m16n8k4 .tf32 A", 15: "m16n8k4 .tf32 B", 16: "m16n8k8 .tf32 A", 17: "m16n8k8 .tf32 B",
+    18: "m8n8k16 .s8/.u8 A", 19: "m8n8k16 .s8/.u8 B", 20: "m8n8 C and D .s32", 21: "m16n8k16 .s8/.u8 A", 22: "m16n8k16 .s8/.u8 B",
+    23: "m16n8k32 .s8/.u8 A", 24: "m16n8k32 .s8/.u8 B",
+    25: "m8n8k32 .s4/.u4 A", 26: "m8n8k32 .s4/.u4 B", 27: "m16n8k32 .s4/.u4 A", 28: "m16n8k32 .s4/.u4 B", 29: "m16n8k64 .s4/.u4 A", 30: "m16n8k64 .s4/.u4 B",
+    31: "m16n8k4 .f64 A", 32: "m16n8k4 .f64 B", 33: "m16n8k8 .f64 A", 34: "m16n8k8 .f64 B", 35: "m16n8k16 .f64 A", 36: "m16n8k16 .f64 B",
+    37: "wgmma m64k16 A in registers (.f16/.bf16)", 38: "wgmma m64k8 A in registers (.tf32)", 39: "wgmma m64k32 A in registers (.s8/.u8)",
+    40: "ldmatrix/stmatrix m8n8.x1.b16", 41: "ldmatrix/stmatrix m8n8.x1.trans.b16", 42: "ldmatrix/stmatrix m8n8.x2.b16",
+    43: "ldmatrix/stmatrix m8n8.x2.trans.b16", 44: "ldmatrix/stmatrix m8n8.x4.b16", 45: "ldmatrix/stmatrix m8n8.x4.trans.b16",
+    **{1000 + n: f"wgmma m64n{n} D" for n in range(8, 257, 8)},
+}
 #: The refusals, by number, as urszovely_refusal_text has them.
 REFUSALS = (
     "approved",

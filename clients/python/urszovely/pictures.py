@@ -12,7 +12,7 @@ from .layout import Card, Cell, Verdict
 from .masks import Mask
 from .names import AXES
 from .svg import DARK, EDGE, EMPTY, GREEN, INK, OUTSIDE, PAPER, RED, SOFT, ZERO, Number, Page, Picture, colour, png, shade
-from .warp import Fragment
+from .warp import Fragment, Mma
 
 LEFT, WIDE, LETTERS = 24, 1160, 124
 MOST_PANELS, MOST_DRAWN = 24, 2400
@@ -538,6 +538,51 @@ def fragment_map(fragment: Fragment) -> Picture:
             page.text(x, y - 24, f"computation {n}", 13, bold=True)
         _holders(page, x, y, [[(lane, register, "") for lane, register in row] for row in fragment.map(n)])
     return page.picture(f"{fragment.name}: lanes and registers")
+
+
+def mma_map(mma: Mma) -> Picture:
+    """Which warp, lane and register holds each place, a matrix after the other; large ones as an image of the lanes alone."""
+    page = Page()
+    page.text(LEFT, 34, f"{mma.name}, kind {mma.kind}: {mma.rows} by {mma.columns}", 15, bold=True)
+    warps, large = f"{mma.warps} warps" if mma.warps > 1 else "a warp", mma.rows * mma.columns > 1100
+    what = f"each dot is a place of the matrix, held by a lane of {warps}" if large else f"which lane (T) and register (r) of {warps} holds each place"
+    page.text(LEFT, 56, what + "; hue by group of four lanes, darker with the lane in its group", 12, SOFT)
+    if large:
+        _lane_image(page, LEFT + 56, 94, [[(holder.warp, holder.lane) for holder in row] for row in mma.map()])
+        return page.picture(f"{mma.name}: lanes")
+    across = 2 if mma.columns > 4 else 4
+    width, height = mma.columns * 38 + 48, mma.rows * 30 + 66
+    for n in range(mma.matrices):
+        x, y = LEFT + (20 if mma.warps == 1 else 60) + n % across * width, 112 + n // across * height
+        if mma.matrices > 1:
+            page.text(x, y - 24, f"matrix {n}", 13, bold=True)
+        held = mma.map(n)
+        _holders(page, x, y, [[(h.lane, h.register, f"warp {h.warp}, " if mma.warps > 1 else "") for h in row] for row in held])
+        if mma.warps > 1:
+            _warps(page, x - 26, y, [row[0].warp for row in held], 30)
+    return page.picture(f"{mma.name}: lanes and registers")
+
+
+def _warps(page: Page, x: Number, y: Number, warps: Sequence[int], height: int) -> None:
+    """The name of each warp beside the first of its rows."""
+    for r, warp in enumerate(warps):
+        if r == 0 or warps[r - 1] != warp:
+            page.text(x, y + r * height + max(12, height - 11), f"warp {warp}", 10, INK, "end", True)
+
+
+def _lane_image(page: Page, x: Number, y: Number, held: Sequence[Sequence[Tuple[int, int]]]) -> None:
+    """A dot for each place, by its lane, with lines where another warp or an eighth column begins."""
+    dot, rows, columns = 5, len(held), len(held[0])
+    palette = [shade(lane // 4, 8, lane % 4, 4) for lane in range(32)]
+    page.image(x, y, columns * dot, rows * dot, png([bytes(lane for _, lane in row) for row in held], palette))
+    borders = [r for r in range(1, rows) if held[r][0][0] != held[r - 1][0][0]]
+    page.path("".join(f"M{x + k * dot:g} {y:g}v{rows * dot}" for k in range(8, columns, 8)) + "".join(f"M{x:g} {y + r * dot:g}h{columns * dot}" for r in borders) or "M0 0", stroke=EDGE)
+    page.rect(x, y, columns * dot, rows * dot, "none", stroke=EDGE, stroke_width=1.5)
+    _warps(page, x - 8, y, [row[0][0] for row in held], dot)
+    page.open(font_size=10, fill=SOFT, text_anchor="middle")
+    for k in range(0, columns, 16):
+        page.label(x + k * dot + dot / 2, y - 6, k)
+    page.close()
 
 
 def mask_strip(mask: Mask) -> Picture:

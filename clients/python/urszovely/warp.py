@@ -4,7 +4,8 @@ from array import array
 from typing import Callable, List, NamedTuple, Optional, Sequence, Tuple
 
 from . import _ask
-from .names import KINDS, Refused
+from .layout import Card
+from .names import KINDS, MMA_KINDS, Refused
 from .svg import Picture
 
 
@@ -83,6 +84,82 @@ class Fragment:
         from .pictures import fragment_map
 
         return fragment_map(self).written(path)
+
+    def _repr_svg_(self) -> str:
+        return str(self.svg())
+
+
+class MmaPlace(NamedTuple):
+    """What a register of a further kind holds: a place of a matrix."""
+
+    matrix: int
+    row: int
+    column: int
+
+
+class MmaHolder(NamedTuple):
+    """Who holds a place of a further kind."""
+
+    warp: int
+    lane: int
+    register: int
+
+
+class Mma:
+    """A further kind of fragment, by its number: 9 to 45, or 1000 + N for the accumulators of wgmma m64nN.
+
+    ``Mma(12).held(warp=0, lane=5, register=3)`` is a place, ``Mma(12).holder(row=9, column=3)`` who holds it, and ``Mma(12).card`` the kind as a layout.
+    A register is counted as an element that a lane holds. Where the archive has no such kinds yet, it raises NotImplementedError.
+    """
+
+    def __init__(self, kind: int) -> None:
+        self.kind = kind
+        self.held(0, 0, 0)
+        self.name = MMA_KINDS.get(kind, "a kind without a name here")
+        self.matrices = _until(lambda n: _ask.mma_holder(kind, [(n, 0, 0)])[0][0] == 0)
+        self.rows = _until(lambda n: _ask.mma_holder(kind, [(0, n, 0)])[0][0] == 0)
+        self.columns = _until(lambda n: _ask.mma_holder(kind, [(0, 0, n)])[0][0] == 0)
+        self.warps = _until(lambda n: _ask.mma(kind, [(n, 0, 0)])[0][0] == 0)
+        self.registers = _until(lambda n: _ask.mma(kind, [(0, 0, n)])[0][0] == 0)
+
+    def held(self, warp: int, lane: int, register: int) -> MmaPlace:
+        """What a register of a lane of a warp holds."""
+        answer = _ask.mma(self.kind, [(warp, lane, register)])[0]
+        if answer[0]:
+            known = self.kind in MMA_KINDS
+            raise Refused(answer, f"warp {warp}, lane {lane} has no register {register} in {MMA_KINDS[self.kind]}" if known else f"there is no further kind {self.kind}")
+        return MmaPlace(*answer[1:])
+
+    def holder(self, row: int, column: int, matrix: int = 0) -> MmaHolder:
+        """Which register of which lane and warp holds a place."""
+        answer = _ask.mma_holder(self.kind, [(matrix, row, column)])[0]
+        if answer[0]:
+            raise Refused(answer, f"no row {row}, column {column} of matrix {matrix} in {self.name}")
+        return MmaHolder(*answer[1:])
+
+    def map(self, matrix: int = 0) -> List[List[MmaHolder]]:
+        """The holders of a whole matrix, row by row."""
+        places = [(matrix, row, column) for row in range(self.rows) for column in range(self.columns)]
+        flat = [MmaHolder(*answer[1:]) for answer in _ask.mma_holder(self.kind, places)]
+        return [flat[row * self.columns : (row + 1) * self.columns] for row in range(self.rows)]
+
+    @property
+    def card(self) -> Card:
+        """The kind as a layout card, which may be judged like any other."""
+        answer, numbers = _ask.mma_layout(self.kind)
+        if answer[0]:
+            raise Refused(answer, f"there is no further kind {self.kind}")
+        return Card.of(numbers)
+
+    def __repr__(self) -> str:
+        many = f"{self.matrices} matrices of " if self.matrices > 1 else ""
+        return f"<kind {self.kind}: {self.name}, {many}{self.rows} by {self.columns}>"
+
+    def svg(self, path: Optional[str] = None) -> Picture:
+        """The map of warps, lanes and registers as SVG, written to a file where a path is given."""
+        from .pictures import mma_map
+
+        return mma_map(self).written(path)
 
     def _repr_svg_(self) -> str:
         return str(self.svg())
