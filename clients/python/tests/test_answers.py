@@ -88,10 +88,32 @@ class Answers(unittest.TestCase):
         self.refused(11, "a block has 512 bytes, and these are 3", lambda: u.page(b"abc"))
         self.refused(19, "the check of the block is wrong: one of its bytes was changed", lambda: u.page(b"\1" + u.block(v.card)[1:]))
         self.refused(22, "m 9 is outside 1 to 8", lambda: u.canonical("K", "none", 32, m=9, k=2, lbo=256, sbo=128, length=256))
+        self.refused(10, "coordinate 16 is outside dimension 1, which has 0 to 15", lambda: v.why((0, 16)))
+        self.refused(10, "coordinate 128 is outside dimension 0, which has 0 to 127", lambda: v.why(128))
+        self.refused(6, "no elements of 12 bits; bits are 4, 8, 16, 32, 64 or 128", lambda: v.bank_svg(12))
+        self.refused(6, "no such swizzle: B 5 is above 4", lambda: u.judge("S[(8,8):(8,1)]", swizzle=(0, 5, 8), m=64).bank_svg(32))
         with self.assertRaises(TypeError):
             u.judge(TILE, lanes=32)
         with self.assertRaises(TypeError):
             u.judge(TILE, **SPACE).where(0, 1)
+
+    def test_an_asker_that_ends_is_started_again(self) -> None:
+        self.assertEqual(u.swizzle(3, 3, 3, 64), 72)
+        road = _ask.take(None)
+        _ask.take(road)
+        if not isinstance(road, _ask.Process):
+            self.skipTest("the library is loaded here")
+        assert road.process is not None
+        road.process.kill()
+        road.process.wait()
+        with self.assertRaises(OSError):
+            u.swizzle(3, 3, 3, 64)
+        self.assertEqual(u.swizzle(3, 3, 3, 64), 72)
+
+    def test_many_questions_at_once(self) -> None:
+        v = u.judge(TILE, **SPACE)
+        places = _ask.place(v.card.numbers, 0, [128], [[flat] for flat in range(128)])
+        self.assertEqual([cells for _, cells in places], [[cell.number for cell in v.where(flat)] for flat in range(128)])
 
     def test_swizzles(self) -> None:
         self.assertEqual([u.swizzle(3, 3, 3, address) for address in (64, 72, 511)], [72, 64, 455])

@@ -4,6 +4,7 @@ Two roads lead to the proved archive, and no other module knows which is taken. 
 here; on another processor a process of clients/python/asker.c over the same archive is asked, under the toolchain's emulator. ``./python``
 builds what is missing and says which road it is; where Python was started otherwise, it is asked at the first question.
 """
+import atexit
 import ctypes
 import os
 import subprocess
@@ -76,11 +77,24 @@ class Process:
     _UNDER_WAY = 32768
 
     def __init__(self, command: Sequence[str]) -> None:
-        self.process = subprocess.Popen(list(command), stdin=subprocess.PIPE, stdout=subprocess.PIPE)
+        self.command = list(command)
+        self.process: Optional["subprocess.Popen[bytes]"] = None
+        self.owner = 0
         self.lock = threading.Lock()
+        atexit.register(self.end)
 
-    @property
+    def end(self) -> None:
+        """Ends the process, if this process started it; the next question starts another."""
+        process, self.process = self.process, None
+        if process is not None and self.owner == os.getpid():
+            process.kill()
+            process.communicate()
+
     def _pipes(self) -> Tuple[IO[bytes], IO[bytes]]:
+        """To the asker and back; it is started where there is none, or where this process is a fork of the one that has it. An interrupt is not its own."""
+        if self.process is None or self.owner != os.getpid():
+            self.process = subprocess.Popen(self.command, stdin=subprocess.PIPE, stdout=subprocess.PIPE, start_new_session=True)
+            self.owner = os.getpid()
         to, back = self.process.stdin, self.process.stdout
         assert to is not None and back is not None
         return to, back
@@ -100,7 +114,7 @@ class Process:
 
     def _reply(self, name: str, words: Words) -> Answer:
         def take(length: int) -> bytes:
-            got = self._pipes[1].read(length)
+            got = self._pipes()[1].read(length)
             if len(got) != length:
                 raise OSError("the process that asks the library has ended")
             return got
@@ -113,24 +127,30 @@ class Process:
         return (answer[0], answer[1], answer[2], answer[3])
 
     def ask(self, name: str, questions: Sequence[Words]) -> List[Answer]:
-        answers: List[Answer] = []
         with self.lock:
-            waiting: List[Words] = []
-            under_way = 0
-            for words in questions:
-                frame = self._frame(name, words)
-                if waiting and under_way + len(frame) > self._UNDER_WAY:
-                    answers += [self._replied(name, waiting.pop(0)) for _ in range(len(waiting))]
-                    under_way = 0
-                self._pipes[0].write(frame)
-                waiting.append(words)
-                under_way += len(frame)
-            answers += [self._replied(name, words) for words in waiting]
-        return answers
+            try:
+                return self._asked(name, questions)
+            except BaseException:  # an interrupt too: what is still under way would be taken for the next answer
+                self.end()
+                raise
 
-    def _replied(self, name: str, words: Words) -> Answer:
-        self._pipes[0].flush()
-        return self._reply(name, words)
+    def _asked(self, name: str, questions: Sequence[Words]) -> List[Answer]:
+        answers: List[Answer] = []
+        waiting: List[Words] = []
+        under_way = 0
+        for words in questions:
+            frame = self._frame(name, words)
+            if waiting and under_way + len(frame) > self._UNDER_WAY:
+                answers += self._replies(name, waiting)
+                waiting, under_way = [], 0
+            self._pipes()[0].write(frame)
+            waiting.append(words)
+            under_way += len(frame)
+        return answers + self._replies(name, waiting)
+
+    def _replies(self, name: str, waiting: Sequence[Words]) -> List[Answer]:
+        self._pipes()[0].flush()
+        return [self._reply(name, words) for words in waiting]
 
 
 _road: Optional[Road] = None

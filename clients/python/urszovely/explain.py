@@ -45,8 +45,8 @@ def finished(card: "Card", flat: int, copy: int) -> List[int]:
     return at
 
 
-def plural(count: int, word: str) -> str:
-    return f"{count:,} {word}" + ("" if count == 1 else "s")
+def plural(count: int, word: str, many: Optional[str] = None) -> str:
+    return f"{count:,} {word if count == 1 else many or word + 's'}"
 
 
 def space(lengths: Sequence[int]) -> str:
@@ -145,7 +145,7 @@ def place_sentence(card: "Card", answer: Sequence[int], shape: Sequence[int], at
         wrong = next(k for k, (x, n) in enumerate(zip(at, shape)) if not 0 <= x < n)
         return f"coordinate {at[wrong]} is outside dimension {wrong}, which has 0 to {shape[wrong] - 1}"
     if number == 11:
-        return f"memory for {plural(answer[1], 'copy').replace('copys', 'copies')} is needed, and {lent} were lent"
+        return f"memory for {plural(answer[1], 'copy', 'copies')} is needed, and {lent} were lent"
     return card_sentence(card, answer)
 
 
@@ -161,7 +161,7 @@ def sentence(verdict: "Verdict") -> str:
     if verdict.number == 8:
         return f"elements {element(a, verdict.shape)} and {element(b, verdict.shape)} share {card.cell(c)}"
     if verdict.number == 11:
-        return f"a table of {plural(a, 'entry').replace('entrys', 'entries')} is needed, and {len(verdict.table):,} were lent"
+        return f"a table of {plural(a, 'entry', 'entries')} is needed, and {len(verdict.table):,} were lent"
     return card_sentence(card, (verdict.number, a, b, c))
 
 

@@ -116,7 +116,7 @@ class Card:
             raise Refused(answer, explain.card_sentence(self, answer))
         return text
 
-    def longer(self, lengths: Sequence[int]) -> "Card":
+    def in_space(self, lengths: Sequence[int]) -> "Card":
         """The same card in another space."""
         return Card.of(self.numbers[:46] + tuple(lengths) + self.numbers[54:], self.marks)
 
@@ -187,9 +187,10 @@ class Verdict:
 
     @classmethod
     def of(cls, card: Card, shape: Optional[Sequence[int]] = None, lent: Optional[int] = None) -> "Verdict":
-        if shape and prod(shape) != prod(i.extent for i in card.shard):
-            refused = (9, 0, 0, 0)
-            raise Refused(refused, explain.place_sentence(card, refused, shape, [], 0, None))
+        if shape:  # whether it is admitted is the library's to say, where it places an element
+            refused = _ask.place(card.numbers, card.marks, shape, [[0] * len(shape)])[0][0]
+            if refused[0] == 9:
+                raise Refused(refused, explain.place_sentence(card, refused, shape, [], 0, None))
         answer, table = _ask.verdict(card.numbers, card.marks, lent or 0)
         if lent is None and answer[0] == 11:  # how many cells there are is the library's to say
             answer, table = _ask.verdict(card.numbers, card.marks, answer[1])
@@ -281,21 +282,19 @@ class Verdict:
             rule 3: warpid = 1*1 + 5 + 0*1 = 6, laneid = 0*4 + 0*1 = 0, m = 0*1 = 0
             rule 5: cell = (6*32 + 0)*2 + 0 = 384
         """
-        if elements:
-            self.card.admit()
         return explain.why(self, [self._flat(one) for one in elements])
 
     def _flat(self, one: Element) -> int:
-        """The flat index of an element that is to be explained; there is one."""
-        if not isinstance(one, int):
-            flat = 0
-            for x, size in zip(one, self.shape or ()):
-                flat = flat * size + x
-            return flat
-        elements = prod(i.extent for i in self.card.shard)
-        if not 0 <= one < elements:
-            raise IndexError(f"there is no element {one}; there are {elements}")
-        return one
+        """The flat index of an element that is to be explained, where there is such an element; it may lie outside."""
+        try:
+            self.where(one)
+        except Refused as refused:
+            if refused.number != 7:
+                raise
+        flat = 0
+        for x, size in zip([one] if isinstance(one, int) else one, [0] if isinstance(one, int) else self.shape or ()):
+            flat = flat * size + x
+        return flat
 
     def __str__(self) -> str:
         return ("approved: " if self.approved else f"refused {self.number}: ") + self.sentence

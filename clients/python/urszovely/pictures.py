@@ -8,6 +8,7 @@ from math import prod
 from typing import Callable, Dict, List, NamedTuple, Optional, Sequence, Tuple
 
 from . import _ask, explain
+from .addresses import bank as bank_of
 from .layout import Card, Cell, Verdict
 from .masks import Mask
 from .names import AXES
@@ -46,7 +47,7 @@ def claims(verdict: Verdict) -> Claims:
         return Claims({cell: [entry - 1] for cell, entry in enumerate(verdict.table) if entry}, card.lengths, 0)
     if verdict.number not in (7, 8):
         return Claims({}, card.lengths, 0)
-    wider = card.longer(_longer(card) if verdict.number == 7 else card.lengths)
+    wider = card.in_space(_longer(card) if verdict.number == 7 else card.lengths)
     elements = prod(i.extent for i in card.shard)
     held: Held = {}
     undrawn = 0
@@ -333,16 +334,26 @@ class Image:
 
     def __init__(self, cells: Cells) -> None:
         self.cells = cells
-        self.width = 1
-        for length in reversed(cells.lengths):
-            if self.width * length > 512:
-                break
-            self.width *= length
-        if self.width < 32:  # the last long axis is cut into lines
-            last = next(length for length in reversed(cells.lengths) if length > 1)
-            self.width = next(width for width in (256, 128, 64, 32, last) if last % width == 0)
-        self.height = -(-prod(cells.lengths) // self.width)
+        inner, outer = 1, list(cells.lengths)
+        while outer and inner * outer[-1] <= 512:
+            inner *= outer.pop()
+        # Whole inner coordinates make a line, and the axis before them is cut into as many lines as it needs.
+        self.width = inner * max(1, 256 // inner)
+        self.block = inner * outer[-1] if outer else inner
+        self.lines = -(-self.block // self.width)
+        self.height = self.lines * prod(outer[:-1])
         self.dot = max(1, min(8, 1024 // self.width, 900 // self.height))
+
+    def _spot(self, number: int) -> Tuple[int, int]:
+        """The row and the column of a cell."""
+        block, rest = divmod(number, self.block)
+        r, k = divmod(rest, self.width)
+        return block * self.lines + r, k
+
+    def _first(self, r: int) -> int:
+        """The first cell of a row."""
+        block, line = divmod(r, self.lines)
+        return block * self.block + line * self.width
 
     def _palette(self) -> List[Tuple[int, ...]]:
         made = [shade(r, self._ROWS, k, self._COLUMNS) for r in range(self._ROWS) for k in range(self._COLUMNS)]
@@ -355,18 +366,19 @@ class Image:
         return 4 + row * self._ROWS // self.cells.rows * self._COLUMNS + column * self._COLUMNS // self.cells.columns
 
     def draw(self, page: Page, y: Number) -> Number:
-        dots = bytearray(self.width * self.height)
-        for number, flats in self.cells.held.items():
-            dots[number] = self._entry(number, flats)
+        rows = [bytearray([3]) * self.width for _ in range(self.height)]  # where there is no cell there is paper
+        for number in range(prod(self.cells.lengths)):
+            r, k = self._spot(number)
+            rows[r][k] = self._entry(number, self.cells.held[number]) if number in self.cells.held else 0
         for number in self.cells.outside:
-            dots[number] = 2 + (number // self.width + number % self.width) % 2
+            r, k = self._spot(number)
+            rows[r][k] = 2 + (r + k) % 2
         x, y = LEFT + 112, y + 18
-        rows = [bytes(dots[at : at + self.width]) for at in range(0, len(dots), self.width)]
-        page.image(x, y, self.width * self.dot, self.height * self.dot, png(rows, self._palette()))
+        page.image(x, y, self.width * self.dot, self.height * self.dot, png([bytes(row) for row in rows], self._palette()))
         page.rect(x - 0.5, y - 0.5, self.width * self.dot + 1, self.height * self.dot + 1, "none", stroke=EDGE)
         self._names(page, x, y)
         if self.cells.witness is not None:
-            r, k = divmod(self.cells.witness, self.width)
+            r, k = self._spot(self.cells.witness)
             page.rect(x + k * self.dot - 4, y + r * self.dot - 4, self.dot + 8, self.dot + 8, "none", stroke=PAPER, stroke_width=5, rx=3)
             page.rect(x + k * self.dot - 4, y + r * self.dot - 4, self.dot + 8, self.dot + 8, "none", stroke=DARK, stroke_width=2.5, rx=3)
         return page.height + 24
@@ -377,11 +389,11 @@ class Image:
         lengths = self.cells.lengths
         page.open(font_size=10, fill=SOFT, text_anchor="end")
         for r in range(0, self.height, step):
-            cell = Cell(r * self.width, lengths)
+            cell = Cell(self._first(r), lengths)
             page.label(x - 6, y + r * self.dot + 8, self._start(cell))
         page.close()
         along = [axis for at, axis in enumerate(AXES) if lengths[at] > 1 and prod(lengths[at + 1 :]) < self.width]
-        page.text(x, y - 6, f"{' x '.join(along) or 'm'}: {self.width} cells a line", 10, SOFT)
+        page.text(x, y - 6, f"{' x '.join(along)}: {self.width} cells a line", 10, SOFT)
 
     def _start(self, cell: Cell) -> str:
         lengths = self.cells.lengths
@@ -422,6 +434,9 @@ class Banks:
 
     def __init__(self, verdict: Verdict, bits: int, column: int) -> None:
         card = verdict.card
+        if verdict.number not in (0, 7, 8, 11):  # no element has a place
+            verdict.or_raise()
+        bank_of(bits, 0)
         self.rows, self.columns = _matrix(verdict)
         elements = self.rows * self.columns
         placed = _ask.place(card.numbers, card.marks, [elements], [[flat] for flat in range(elements)])
