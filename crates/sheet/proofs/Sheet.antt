@@ -72,7 +72,7 @@ reply-same p q e =
     let a = both (eqb (m .number) (n .number)) (eqb (m .a) (n .a)) (b .0) in
     λ i. record {
       numbers = record {
-        columnsNumber = eqb-true (m .number) (n .number) (a .0) i;
+        number = eqb-true (m .number) (n .number) (a .0) i;
         a = eqb-true (m .a) (n .a) (a .1) i;
         b = eqb-true (m .b) (n .b) (b .1) i;
         c = eqb-true (m .c) (n .c) (c .1) i;
