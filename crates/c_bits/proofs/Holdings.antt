@@ -17,11 +17,12 @@ use Rattle.values.specs.declared.Register.the-variants.{Empty as NoValue}
 use Rattle.values.specs.declared.Moved.{Moved}
 use Rattle.values.specs.declared.Moved.the-variants.{Done, Refused}
 use Rattle.values.specs.Rows.{each, entry}
-use Rattle.values.specs.Values.{isOwn, inTile, inLanes, dealt, collected}
+use Rattle.values.specs.Values.{isOwn, inTile, dealt, collected}
 use Rattle.values.specs.Registers.{isMatrix, isOfSort, filled}
 use Rattle.values.specs.Holdings.{dealHoldingsAnswer, collectHoldingsAnswer}
 use Rattle.values.proofs.Rows.{each-at}
-use Rattle.values.proofs.Theorems.{IsTile, led-to-own, dealt-own, collected-place, collected-other}
+use Rattle.values.proofs.Theorems.{IsTile, dealt-own, collected-place, collected-other}
+use Rattle.values.proofs.Holder.{led-to-own, inLanes}
 use Rattle.values.proofs.Answers.{judged-means}
 use Rattle.values.proofs.Holdings.{Field, of-a, of-b, of-first, of-second, own-field, first-field}
 use Rattle.c_bits.specs.declared.Bits.{Bits}

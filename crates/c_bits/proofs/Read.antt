@@ -13,7 +13,8 @@ use Rattle.values.specs.declared.Register.the-variants.{Empty as NoValue}
 use Rattle.values.specs.declared.Moved.{Moved}
 use Rattle.values.specs.declared.Moved.the-variants.{Done, Refused}
 use Rattle.values.specs.Rows.{each, entry, eachEntry}
-use Rattle.values.specs.Values.{isOwn, inTile, inLanes, dealtEntry, dealt, collectedEntry, collected}
+use Rattle.values.specs.Values.{isOwn, inTile, dealtEntry, dealt, collectedEntry, collected}
+use Rattle.values.proofs.Holder.{inLanes, collected-back}
 use Rattle.values.specs.Registers.{dealAnswer, collectAnswer, filled, dealtLanes, collectedTile}
 use Rattle.c_bits.specs.declared.Bits.{Bits}
 use Rattle.c_bits.specs.declared.Bits.the-variants.{Empty}
@@ -52,9 +53,11 @@ module _ {A B : Type 0} (f : A → B) (other : A) (kind c : ℕ) where
       image-each (map f) (λ row. each (collectedEntry other kind c lanes row)) (λ row. each (collectedEntry (f other) kind c (map (map f) lanes) row))
       (λ row. image-each f (collectedEntry other kind c lanes row) (collectedEntry (f other) kind c (map (map f) lanes) row)
       (λ column x.
-      image-cond f (isPlace kind (at c row column)) (inLanes other lanes (back kind (at c row column))) x
+      ap f (collected-back other kind c lanes row column x)
+      ∙ image-cond f (isPlace kind (at c row column)) (inLanes other lanes (back kind (at c row column))) x
       ∙ ap (λ (y : B). cond (isPlace kind (at c row column)) y (f x))
-      (sym (image-at f other lanes (back kind (at c row column) .lane) (back kind (at c row column) .register)))))
+      (sym (image-at f other lanes (back kind (at c row column) .lane) (back kind (at c row column) .register)))
+      ∙ sym (collected-back (f other) kind c (map (map f) lanes) row column (f x))))
 
 -- entry j of the arrays, read
 pub read-at : (rows : ℕ) (sorts singles doubles : List ℕ) (j : ℕ) → j < 8 * rows

@@ -18,7 +18,8 @@ use Rattle.values.specs.Rows.{entry}
 use Rattle.values.specs.Values.{isOwn, inTile, dealtEntry, dealt}
 use Rattle.values.specs.Registers.{isMatrix, isOfSort, dealAnswer, filled}
 use Rattle.values.proofs.Rows.{Shape, each-at, each-shape, rows-equal}
-use Rattle.values.proofs.Theorems.{led-to-own, dealt-own, dealt-other}
+use Rattle.values.proofs.Theorems.{dealt-own, dealt-other}
+use Rattle.values.proofs.Holder.{led-to-own}
 use Rattle.values.proofs.Answers.{AllOfSort, judged-means}
 use Rattle.c_bits.specs.declared.Bits.{Bits}
 use Rattle.c_bits.specs.declared.Bits.the-variants.{Empty, Single, Double}

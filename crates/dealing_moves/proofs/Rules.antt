@@ -10,7 +10,7 @@ use Rattle.laws.proofs.Below.{below-at}
 use Rattle.fragment.specs.Kinds.{_&_, high, computation, registers, place}
 use Rattle.fragment.proofs.Inside.{slot-numbers}
 use Rattle.values.specs.Values.{isOwn}
-use Rattle.values.proofs.Theorems.{own}
+use Rattle.values.proofs.Holder.{own}
 use Rattle.dealing_moves.specs.Moves.{sourceOf}
 
 -- the bits that the rule of kind 5 takes from a number

@@ -14,8 +14,8 @@ use Rattle.fragment.specs.Fragment.{isPlace}
 use Rattle.fragment.proofs.Inside.{slot-numbers, place-numbers}
 use Rattle.fragment.proofs.Back.{back, place-back}
 use Rattle.values.specs.Rows.{entry}
-use Rattle.values.specs.Values.{isOwn, inTile, inLanes, dealtEntry, collectedEntry}
-use Rattle.values.proofs.Theorems.{own}
+use Rattle.values.specs.Values.{isOwn, inTile, dealtEntry, collectedEntry}
+use Rattle.values.proofs.Holder.{own, inLanes, collected-back}
 use Rattle.dealing_moves.specs.Moves.{sourceOf, holderOf}
 
 module _ (kind c lane i : ℕ) where
@@ -58,9 +58,11 @@ module _ {A : Type 0} (other : A) (kind c : ℕ) where
 
   pub collected-from : (lanes : List (List A)) (row column : ℕ) (given : A) (s : ℕ) → s ≡ holderOf kind c row column
       → collectedEntry other kind c lanes row column given ≡ fromLanes lanes given s
-  collected-from lanes row column given s holder = by (isPlace kind (at c row column)) refl ∙ ap (fromLanes lanes given) (sym holder)
+  collected-from lanes row column given s holder =
+      collected-back other kind c lanes row column given ∙ by (isPlace kind (at c row column)) refl ∙ ap (fromLanes lanes given) (sym holder)
     where
-      by : (b : Bool) → isPlace kind (at c row column) ≡ b → collectedEntry other kind c lanes row column given ≡ fromLanes lanes given (holderOf kind c row column)
+      by : (b : Bool) → isPlace kind (at c row column) ≡ b
+          → cond (isPlace kind (at c row column)) (inLanes other lanes (back kind (at c row column))) given ≡ fromLanes lanes given (holderOf kind c row column)
       by true e =
           let s : Slot = back kind (at c row column) in
           let n = slot-numbers kind (s .lane) (s .register) (place-back kind (at c row column) e .0) in

@@ -20,11 +20,12 @@ use Rattle.values.specs.declared.Register.the-variants.{Empty}
 use Rattle.values.specs.declared.Moved.{Moved}
 use Rattle.values.specs.declared.Moved.the-variants.{Done, Refused}
 use Rattle.values.specs.Rows.{entry}
-use Rattle.values.specs.Values.{isOwn, inTile, dealt, collected}
-use Rattle.values.specs.Registers.{isMatrix, isOfSort, first, isWrong, judged, dealAnswer, collectAnswer, dealtLanes, filled, collectedTile, movedNumbers}
+use Rattle.values.specs.Values.{isOwn, inTile, dealt, collected, first}
+use Rattle.values.specs.Registers.{isMatrix, isOfSort, isWrong, judged, dealAnswer, collectAnswer, dealtLanes, filled, collectedTile, movedNumbers}
 use Rattle.values.proofs.First.{NoneBefore, first-passes, none-before-first}
 use Rattle.values.proofs.Sorts.{judged-same, judged-dealt}
-use Rattle.values.proofs.Theorems.{IsTile, AreLanes, undo-each-other, own, in-place}
+use Rattle.values.proofs.Theorems.{IsTile, AreLanes, undo-each-other, in-place}
+use Rattle.values.proofs.Holder.{own}
 
 -- two outcomes that the promises allow are equal, what is filled too
 pub dealing-settled : (kind c : ℕ) (tile lanes : List (List Register)) (g h : Moved) (x y : List (List Register))

@@ -5,7 +5,7 @@ use Prim.Native.Nat.{ℕ, zero, suc, _+_, _≤_, _<_, zero-le, suc-le-suc}
 use native.Mathlib.Nat.{le-of-suc-le-suc, not-suc-le-zero}
 use native.Mathlib.Decide.{ℕ-discrete}
 use native.Mathlib.Omega.{arith}
-use Rattle.values.specs.Registers.{first}
+use Rattle.values.specs.Values.{first}
 
 -- no number before n passes
 abbrev pub NoneBefore : (ℕ → Bool) → ℕ → Type 0

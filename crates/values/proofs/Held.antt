@@ -1,5 +1,5 @@
 -- Dealing and collecting by what the two questions of a warp answer: each answer decides what a register or a place gets.
-use mathlib.Core.Path.{_≡_, ap}
+use mathlib.Core.Path.{_≡_, ap, _∙_}
 use mathlib.Core.Bool.{false, cond}
 use mathlib.Core.List.{List}
 use Prim.Native.Nat.{ℕ, _<_}
@@ -16,7 +16,8 @@ use Rattle.fragment.specs.Fragment.{isSlot, heldAnswer, HolderAnswer}
 use Rattle.fragment.proofs.Inside.{slot-numbers, place-numbers}
 use Rattle.fragment.proofs.Back.{by}
 use Rattle.fragment.proofs.Theorems.{answered, stays-inside, leads-back}
-use Rattle.values.specs.Values.{isOwn, inTile, inLanes, dealtEntry, collectedEntry}
+use Rattle.values.specs.Values.{isOwn, inTile, dealtEntry, collectedEntry}
+use Rattle.values.proofs.Holder.{inLanes, collected-back}
 
 -- a register that holds a place: it is the computation's own exactly when the place is
 pub own-held : (kind c lane i : ℕ) (p : Place) → heldAnswer kind lane i ≡ Holds p → isOwn kind c lane i ≡ eqb (p .computation) c
@@ -48,4 +49,5 @@ module _ {A : Type 0} (other : A) (kind c : ℕ) where
   pub collected-held : (lanes : List (List A)) (row column : ℕ) (given : A) (s : Slot) → HolderAnswer kind (at c row column) (HeldBy s)
       → collectedEntry other kind c lanes row column given ≡ inLanes other lanes s
   collected-held lanes row column given s e =
-      rw (stays-inside kind s (at c row column) e) (ap (inLanes other lanes) (leads-back kind s (at c row column) e))
+      collected-back other kind c lanes row column given
+      ∙ rw (stays-inside kind s (at c row column) e) (ap (inLanes other lanes) (leads-back kind s (at c row column) e))

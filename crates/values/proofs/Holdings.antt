@@ -26,7 +26,8 @@ use Rattle.values.specs.Registers.{isMatrix, isOfSort, isWrong, dealAnsw
 use Rattle.values.specs.Holdings.{holding, registersOf, doubleOf, withRegisters, dealHoldingsAnswer, collectHoldingsAnswer, dealtHoldings, collectedFromHoldings}
 use Rattle.values.proofs.Rows.{each-length, each-at, each-equal, map-at}
 use Rattle.values.proofs.Sorts.{judged-done}
-use Rattle.values.proofs.Theorems.{IsTile, AreLanes, own, led-to-own, dealt-own, collected-place, collected-other, in-place, undo-each-other}
+use Rattle.values.proofs.Theorems.{IsTile, AreLanes, dealt-own, collected-place, collected-other, in-place, undo-each-other}
+use Rattle.values.proofs.Holder.{own, led-to-own}
 use Rattle.values.proofs.Answers.{AllOfSort, judged-means, dealt-as-collected}
 
 -- the register of a kind that is a field of a holding: A, B and the two accumulators

@@ -26,7 +26,7 @@ use Rattle.values.specs.Registers.{isMatrix, isOfSort, isWrong, judged, 
 use Rattle.values.specs.Holdings.{dealHoldingsAnswer, collectHoldingsAnswer}
 use Rattle.values.proofs.First.{NoneBefore}
 use Rattle.values.proofs.Sorts.{judged-at, judged-done}
-use Rattle.values.proofs.Theorems.{own}
+use Rattle.values.proofs.Holder.{own}
 use Rattle.values.proofs.Answers.{ComesBefore, FirstWrong, AllOfSort, judged-means, moved-one-to-one}
 
 -- the numbers of a question on values of registers; `one` says whether the kind and the computation are such

@@ -1,5 +1,6 @@
 pub mod Rows
 pub mod First
+pub mod Holder
 pub mod Theorems
 pub mod Sorts
 pub mod Held

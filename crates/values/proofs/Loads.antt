@@ -9,9 +9,9 @@ use lib.IntN.{pos}
 use lib.ListN.{getD, set, replicate}
 use Rattle.answers.specs.Refusals.{answer}
 use Rattle.fragment.specs.Kinds.{rows, columns, computations, computation, registers, place}
-use Rattle.fragment.proofs.Back.{back}
 use Rattle.values.specs.declared.Register.{Register}
 use Rattle.values.specs.declared.Register.the-variants.{Empty, Single, Double}
+use Rattle.values.specs.Values.{holderAt}
 use Rattle.values.specs.Rows.{each, entry, eachEntry}
 use Rattle.values.specs.Registers.{judged, dealAnswer, collectAnswer, dealtLanes, collectedTile, movedNumbers}
 use Rattle.values.specs.Holdings.{holding, dealHoldingsAnswer, collectHoldingsAnswer, dealtHoldings, collectedFromHoldings}
@@ -73,7 +73,7 @@ pub record Loads : Type 0 where
   pub no-holdings : movedNumbers (collectHoldingsAnswer 5 0) ≡ answer 14 0 0 0
 
 pub loads : Loads
-unfolding rows columns computations computation registers place back each judged
+unfolding rows columns computations computation registers place holderAt each judged
 loads = record {
   accumulator-dealt = refl;
   accumulator-back = refl;

@@ -11,42 +11,11 @@ use Rattle.fragment.specs.declared.Slot.{Slot}
 use Rattle.fragment.specs.Kinds.{at, place}
 use Rattle.fragment.specs.Fragment.{isSlot, isPlace}
 use Rattle.fragment.proofs.Inside.{slot-numbers, place-numbers}
-use Rattle.fragment.proofs.Back.{by, back, slot-back, place-back}
+use Rattle.fragment.proofs.Back.{back}
 use Rattle.values.specs.Rows.{entry}
-use Rattle.values.specs.Values.{isOwn, inTile, inLanes, dealtEntry, dealt, collectedEntry, collected}
+use Rattle.values.specs.Values.{isOwn, inTile, dealtEntry, dealt, collectedEntry, collected}
+use Rattle.values.proofs.Holder.{own, led-to-own, inLanes, collected-back}
 use Rattle.values.proofs.Rows.{Shape, entry-each, entry-kept, each-shape, rows-equal}
-
--- a register of the computation: its place is one of the computation's matrix, and leads back to it
-pub record Own (kind c lane i : ℕ) : Type 0 where
-  pub slot : isSlot kind lane i ≡ true
-  pub on-place : at c (place kind lane i .row) (place kind lane i .column) ≡ place kind lane i
-  pub of-matrix : isPlace kind (at c (place kind lane i .row) (place kind lane i .column)) ≡ true
-  pub leads-back : back kind (place kind lane i) ≡ by lane i
-
-pub own : (kind c lane i : ℕ) → isOwn kind c lane i ≡ true → Own kind c lane i
-own kind c lane i e =
-    let p : Place = place kind lane i in
-    let both = and-eq-true-iff (isSlot kind lane i) (eqb (p .computation) c) .0 e in
-    let there = slot-back kind lane i (both .0) in
-    let same : at c (p .row) (p .column) ≡ p = ap (λ (n : ℕ). at n (p .row) (p .column)) (sym (eqb-true (p .computation) c (both .1))) in
-    record {
-      slot = both .0;
-      on-place = same;
-      of-matrix = ap (isPlace kind) same ∙ there .0;
-      leads-back = there .1;
-    }
-
--- a place of the matrix leads to a register of the computation, which holds it
-pub led-to-own : (kind c row column : ℕ) → isPlace kind (at c row column) ≡ true
-    → let s = back kind (at c row column) in (isOwn kind c (s .lane) (s .register) ≡ true) × (place kind (s .lane) (s .register) ≡ at c row column)
-led-to-own kind c row column e =
-    let p : Place = at c row column in
-    let s : Slot = back kind p in
-    let there = place-back kind p e in (
-      and-eq-true-iff (isSlot kind (s .lane) (s .register)) (eqb (place kind (s .lane) (s .register) .computation) c) .1
-          (there .0, eq-eqb (place kind (s .lane) (s .register) .computation) c (ap (λ (q : Place). q .computation) (there .1))),
-      there .1,
-    )
 
 -- a tile and the lanes by their shape
 abbrev pub IsTile : {A : Type 0} → List (List A) → Type 0
@@ -73,6 +42,7 @@ module _ {A : Type 0} (other : A) (kind c : ℕ) where
       let of-row : row < 8 = omega (arith, n .of-row, n .sizes-of .most-rows) in
       let of-column : column < 8 = omega (arith, n .of-column, n .sizes-of .most-columns) in
       entry-each (collectedEntry other kind c lanes) tile row column other (rw (t .of-columns row of-row) of-column)
+      ∙ collected-back other kind c lanes row column (entry other tile row column)
       ∙ ap (λ (b : Bool). cond b (inLanes other lanes (back kind (at c row column))) (entry other tile row column)) e
 
   -- every other register, and every other place, stays as given
@@ -82,7 +52,7 @@ module _ {A : Type 0} (other : A) (kind c : ℕ) where
 
   pub collected-other : (lanes tile : List (List A)) (row column : ℕ) → isPlace kind (at c row column) ≡ false
       → entry other (collected other kind c lanes tile) row column ≡ entry other tile row column
-  collected-other lanes tile row column e = entry-kept (collectedEntry other kind c lanes) tile row column other (λ x. rw e)
+  collected-other lanes tile row column e = entry-kept (collectedEntry other kind c lanes) tile row column other (λ x. collected-back other kind c lanes row column x ∙ rw e refl)
 
 -- Document 02's request 1: on the computation's own lanes and on the places of its matrix dealing and collecting undo each other,
 -- whatever stood before in what they fill; every other register and place stays as given

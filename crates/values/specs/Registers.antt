@@ -1,5 +1,5 @@
 -- The questions on registers: which values are of the kind's sort, the answer, and what is filled.
-use Prim.Native.Nat.{ℕ, zero, suc, _/_, _%_}
+use Prim.Native.Nat.{ℕ, _/_, _%_}
 use mathlib.Core.Bool.{Bool, false, cond, not, _&&_}
 use mathlib.Core.List.{List}
 use lib.Dec.{eqb, leb, ltb}
@@ -13,7 +13,7 @@ use Rattle.values.specs.declared.Register.the-variants.{Empty, Single, D
 use Rattle.values.specs.declared.Moved.{Moved}
 use Rattle.values.specs.declared.Moved.the-variants.{Done, Refused}
 use Rattle.values.specs.Rows.{entry}
-use Rattle.values.specs.Values.{isOwn, inTile, dealt, collected}
+use Rattle.values.specs.Values.{isOwn, first, inTile, dealt, collected}
 
 -- kinds 5 to 8, and their computations: others are 14
 abbrev pub isMatrix : ℕ → ℕ → Bool
@@ -24,11 +24,6 @@ abbrev pub isOfSort : ℕ → Register → Bool
 isOfSort kind Empty = false
 isOfSort kind (Single x) = eqb kind 5
 isOfSort kind (Double x) = not (eqb kind 5)
-
--- the smallest number below n that passes a test; n if none does
-abbrev pub first : (ℕ → Bool) → ℕ → ℕ
-first test zero = 0
-first test (suc n) = cond (test 0) 0 (suc (first (λ k. test (suc k)) n))
 
 -- of the values that the registers have or get: register n % 8 of lane n / 8 is the computation's and its value is of the wrong sort
 abbrev pub isWrong : ℕ → ℕ → (ℕ → ℕ → Register) → ℕ → Bool
