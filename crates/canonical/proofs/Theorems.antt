@@ -13,13 +13,14 @@ use Rattle.swizzle.proofs.Widths.{at-known-bits}
 use Rattle.card.specs.Card.{elements, cells}
 use Rattle.card.specs.declared.Admission.{Admission}
 use Rattle.card.specs.declared.Admission.the-variants.{Admitted, Refused}
-use Rattle.judgement.specs.Verdict.{VerdictPromise}
+use Rattle.judgement.specs.Plain.{VerdictSays}
 use Rattle.claims.specs.Claims.{occupied}
 use Rattle.judgement.specs.declared.Verdict.{Verdict}
 use Rattle.judgement.specs.declared.Verdict.the-variants.{Approved, Refused as NotApproved}
-use Rattle.judgement.proofs.Theorems.{IsApproval, verdict-settled, verdict-one-to-one}
+use Rattle.judgement.proofs.Theorems.{IsApproval, verdict-one-to-one}
 use Rattle.judgement.proofs.InNumbers.{InNumbers, verdict-in-numbers}
 use Rattle.judgement.proofs.Run.{verdict-is-run}
+use Rattle.judgement.proofs.Plain.{verdict-exactly, verdict-says-settled}
 use Rattle.canonical.specs.Canonical.{fits, checked, inElements, canonicalCard, encodedLBO, reported, PromiseBy, CanonicalPromise, reportedNumbers}
 use Rattle.canonical.specs.Run.{reportAfter, reportRun, leftAfter, tableRun}
 use Rattle.canonical.specs.declared.Canonical.{Canonical}
@@ -36,7 +37,7 @@ checks-passed q = each (known (q .bits) (q .mode)) (fits q)
 
 settled-by : (c : Admission) (q : Canonical) (before a b : List ℕ) (r s : Reported) → PromiseBy c q before a r → PromiseBy c q before b s → (a ≡ b) × (r ≡ s)
 settled-by Admitted q before a b r s h k =
-    let same = verdict-settled (canonicalCard q) before a b (r .verdict) (s .verdict) (h .0) (k .0) in
+    let same = verdict-says-settled (canonicalCard q) before a b (r .verdict) (s .verdict) (h .0) (k .0) in
     (same .0, h .1 ∙ ap (reported q) (same .1) ∙ sym (k .1))
 settled-by (Refused refusal) q before a b r s h k = (h .1 ∙ sym (k .1), h .0 ∙ sym (k .0))
 
@@ -47,7 +48,7 @@ canonical-settled q before a b r s h k = settled-by (checked q) q before a b r s
 run-by : (c : Admission) (q : Canonical) (before after : List ℕ) (r : Reported) → PromiseBy c q before after r
     → (r ≡ reportAfter c q before) × (after ≡ leftAfter c q before)
 run-by Admitted q before after r h =
-    let run = verdict-is-run (canonicalCard q) before after (r .verdict) (h .0) in
+    let run = verdict-is-run (canonicalCard q) before after (r .verdict) (verdict-exactly (canonicalCard q) before after (r .verdict) .0 (h .0)) in
     (h .1 ∙ ap (reported q) (run .0), run .1)
 run-by (Refused refusal) q before after r h = h
 
@@ -68,7 +69,7 @@ refused-22 q before after r h k f = rw (k, f) at h
 
 -- and the remaining answers are the verdict's on the card
 pub passed-on : (q : Canonical) (before after : List ℕ) (r : Reported) → CanonicalPromise q before after r → known (q .bits) (q .mode) ≡ true → fits q ≡ true
-    → VerdictPromise (canonicalCard q) before after (r .verdict) × (r ≡ reported q (r .verdict))
+    → VerdictSays (canonicalCard q) before after (r .verdict) × (r ≡ reported q (r .verdict))
 passed-on q before after r h k f = rw (k, f) at h
 
 -- LBO and SBO as reported: both 0 where refused; where approved divided by 16, but 1 for an LBO that is not used
@@ -101,7 +102,9 @@ pub canonical-in-numbers : (q : Canonical) (before after : List ℕ) (r : Report
 canonical-in-numbers q before after r h = (
   λ k. ap reportedNumbers (refused-6 q before after r h k .0),
   λ k f. ap reportedNumbers (refused-22 q before after r h k f .0),
-  λ k f. verdict-in-numbers (canonicalCard q) before after (r .verdict) (passed-on q before after r h k f .0),
+  λ k f.
+      verdict-in-numbers (canonicalCard q) before after (r .verdict)
+      (verdict-exactly (canonicalCard q) before after (r .verdict) .0 (passed-on q before after r h k f .0)),
 )
 
 -- a byte stride that is a multiple of 16 is a whole number of elements: T times what is reported of it

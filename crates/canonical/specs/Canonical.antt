@@ -17,7 +17,8 @@ use Rattle.card.specs.declared.Iter.{Iter}
 use Rattle.card.specs.declared.Card.{Card}
 use Rattle.card.specs.declared.Admission.{Admission}
 use Rattle.card.specs.declared.Admission.the-variants.{Admitted, Refused}
-use Rattle.judgement.specs.Verdict.{VerdictPromise, verdictNumbers}
+use Rattle.judgement.specs.Plain.{VerdictSays}
+use Rattle.judgement.specs.Verdict.{verdictNumbers}
 use Rattle.judgement.specs.declared.Verdict.{Verdict}
 use Rattle.judgement.specs.declared.Verdict.the-variants.{Approved, Refused as NotApproved}
 use Rattle.canonical.specs.Rule.{CuTeLayout, usesLBO, rule}
@@ -100,7 +101,7 @@ reported a (NotApproved refusal) = record { verdict = NotApproved refusal; lbo =
 
 -- the promise: where the checks are passed the verdict on the card, else the refusal and an untouched table
 abbrev pub PromiseBy : Admission → Canonical → List ℕ → List ℕ → Reported → Type 0
-PromiseBy Admitted a before after r = VerdictPromise (canonicalCard a) before after (r .verdict) × (r ≡ reported a (r .verdict))
+PromiseBy Admitted a before after r = VerdictSays (canonicalCard a) before after (r .verdict) × (r ≡ reported a (r .verdict))
 PromiseBy (Refused refusal) a before after r = (r ≡ reported a (NotApproved refusal)) × (after ≡ before)
 
 abbrev pub CanonicalPromise : Canonical → List ℕ → List ℕ → Reported → Type 0

@@ -35,6 +35,7 @@ use Rattle.judgement.specs.Verdict.{verdictOf}
 use Rattle.judgement.specs.declared.Verdict.the-variants.{Approved}
 use Rattle.judgement.proofs.Run.{lies-inside}
 use Rattle.judgement.proofs.Theorems.{IsApproval, OneElementACell, demand-3-unmarked}
+use Rattle.judgement.proofs.Plain.{verdict-exactly}
 use Rattle.laws.proofs.Order.{le-or-lt}
 use Rattle.claims.specs.Claims.{occupied}
 use Rattle.canonical.specs.Rule.{isK, plain, pieces, usesLBO, acrossRows, acrossColumns}
@@ -101,7 +102,8 @@ module _ (a : Canonical) where
       → CanonicalPromise a before after r → IsApproval (r .verdict) ↔ (AllInside (canonicalCard a) × OneElementACell (canonicalCard a))
   approved-exactly before after r passed admitted room p =
       let q = subst (λ (c : Admission). PromiseBy c a before after r) passed p in
-      demand-3-unmarked (canonicalCard a) before after (r .verdict) unmarked admitted no-pair (omega arith) (q .0) .approved
+      demand-3-unmarked (canonicalCard a) before after (r .verdict) unmarked admitted no-pair (omega arith)
+      (verdict-exactly (canonicalCard a) before after (r .verdict) .0 (q .0)) .approved
 
   -- a block of the swizzle is as long as it is wide
   block : knownBits (a .bits) ≡ true → 2 ^ (bitLength (128 / a .bits) - 1 + a .mode) ≡ wide
@@ -167,7 +169,8 @@ module _ (a : Canonical) where
         let blocks : L % 2 ^ (M + a .mode) ≡ 0 = ap (λ (n : ℕ). L % n) (block known-bits) ∙ on .whole in
         let fit = its-swizzle (on .passed) in
         let q = subst (λ (c : Admission). PromiseBy c a before after r) (on .passed) promise in
-        let d = demand-3-unmarked card before after (r .verdict) unmarked (on .admitted) no-pair (omega (arith, on .room)) (q .0) in
+        let d = demand-3-unmarked card before after (r .verdict) unmarked (on .admitted) no-pair (omega (arith, on .room))
+        (verdict-exactly card before after (r .verdict) .0 (q .0)) in
         let all-cells : cells card ≡ L = omega arith in
         let owned : (c : ℕ) → c < L → getD after c 0 ≡ 0 → ⊥ =
         λ c h empty.
@@ -347,7 +350,9 @@ module _ (a : Canonical) where
       by-judgement (Passed owners occupied) h i = h .0
 
       by-checks : (c : Admission) → checked a ≡ c → PromiseBy c a before after r → (checked a ≡ Admitted) × Judged (canonicalCard a) (length before)
-      by-checks Admitted e o = (e, by-judgement (o .0 .judgement) (o .0 .comes) (subst IsApproval (o .0 .answers) approved))
+      by-checks Admitted e o =
+          let p = verdict-exactly (canonicalCard a) before after (r .verdict) .0 (o .0) in
+          (e, by-judgement (p .judgement) (p .comes) (subst IsApproval (p .answers) approved))
       by-checks (Refused refusal) e o = absurd (subst (λ (x : Reported). IsApproval (x .verdict)) (o .0) approved)
 
   -- m is 1 or more, and T too

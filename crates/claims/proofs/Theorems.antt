@@ -13,7 +13,7 @@ use Rattle.claims.specs.Run.{run}
 use Rattle.claims.proofs.Run.{run-comes}
 
 -- two entries that name the same owners are equal
-same-entry : (a b : ℕ) → ((f : ℕ) → a ≡ f + 1 → b ≡ f + 1) → ((f : ℕ) → b ≡ f + 1 → a ≡ f + 1) → a ≡ b
+pub same-entry : (a b : ℕ) → ((f : ℕ) → a ≡ f + 1 → b ≡ f + 1) → ((f : ℕ) → b ≡ f + 1 → a ≡ f + 1) → a ≡ b
 same-entry zero zero to from = refl
 same-entry zero (suc b) to from = from b (omega arith) ∙ omega arith
 same-entry (suc a) b to from = omega (arith, to a (omega arith))

@@ -6,7 +6,7 @@ use Rattle.answers.specs.declared.Refusal.{Refusal}
 use Rattle.card.specs.declared.Admission.{Admission}
 use Rattle.card.specs.declared.Admission.the-variants.{Admitted, Refused}
 use Rattle.card.specs.declared.Card.{Card}
-use Rattle.judgement.specs.Verdict.{VerdictPromise}
+use Rattle.judgement.specs.Plain.{VerdictSays}
 use Rattle.judgement.specs.declared.Verdict.{Verdict}
 use Rattle.judgement.specs.declared.Verdict.the-variants.{Approved, Refused as NotApproved}
 use Rattle.canonical.specs.Canonical.{checked, canonicalCard, builtBy, built, reported, PromiseBy, CanonicalPromise}
@@ -29,11 +29,11 @@ verdict-reported a (NotApproved refusal) = refl
 
 -- the promise where a card was built, and where it was refused
 pub judged : (a : Canonical) (b : Built) (before after : List ℕ) (v : Verdict) (r : Reported) → b ≡ built a → b .answer ≡ Admitted
-    → VerdictPromise (b .card) before after v → r ≡ reported a v → CanonicalPromise a before after r
+    → VerdictSays (b .card) before after v → r ≡ reported a v → CanonicalPromise a before after r
 judged a b before after v r e told p q =
     let passed = checks-told a b Admitted e told in
     let card : b .card ≡ canonicalCard a = ap (λ (x : Built). x .card) e ∙ ap (λ (c : Admission). builtBy c a .card) passed in
-    rw (passed, q, verdict-reported a v) (subst (λ (c : Card). VerdictPromise c before after v) card p, refl)
+    rw (passed, q, verdict-reported a v) (subst (λ (c : Card). VerdictSays c before after v) card p, refl)
 
 pub refused : (a : Canonical) (b : Built) (before : List ℕ) (refusal : Refusal) (r : Reported) → b ≡ built a → b .answer ≡ Refused refusal
     → r ≡ reported a (NotApproved refusal) → CanonicalPromise a before before r

@@ -17,7 +17,7 @@ use Rattle.card.specs.declared.Iters.{Iters}
 use Rattle.card.proofs.Theorems.{ofTable, admission-number, afterSix, after-six, Alike, AlikeCards, past-the-count}
 use Rattle.idle.specs.Idle.{SameSums, IdlePair, NoIdlePair, Finds}
 use Rattle.idle.specs.Run.{pairOf}
-use Rattle.idle.specs.Admission.{idleCheck, next, fullAdmission}
+use Rattle.idle.specs.Admission.{FullChecks, AdmissionSays, idleCheck, next, fullAdmission}
 use Rattle.idle.specs.declared.Finding.{Finding}
 use Rattle.idle.specs.declared.Finding.the-variants.{Pair, NoPair}
 use Rattle.idle.proofs.Run.{run-finds, found-is-run}
@@ -98,6 +98,30 @@ module _ (card : Card) where
   pub full-number : ofTable (admissionNumbers (fullAdmission card) .number) ≡ false
   full-number = six-or-idle (λ (x : Admission). ofTable (admissionNumbers x .number) ≡ false) (admission-number card .0) (λ a b. refl)
 
+-- what the checks say by the pair is what they come to as they are run, and the other way round
+module _ (card : Card) {Refusing : Refusal → Type 0} {Passing : Type 0} where
+  pub checks-from-run : ((refusal : Refusal) → fullAdmission card ≡ Refused refusal → Refusing refusal) → (fullAdmission card ≡ Admitted → Passing)
+      → FullChecks card Refusing Passing
+  checks-from-run refused passed = record {
+    early = λ refusal e. refused refusal (refused-before card e);
+    idle = λ a b e pair. refused (Idle a b) (idle-exactly card a b .1 (e, pair));
+    passed = λ e none. passed (admitted-exactly card .1 (e, none));
+  }
+
+  pub run-from-checks : FullChecks card Refusing Passing
+      → ((refusal : Refusal) → fullAdmission card ≡ Refused refusal → Refusing refusal) × (fullAdmission card ≡ Admitted → Passing)
+  run-from-checks k = (
+    by-cases card (λ (x : Admission). (refusal : Refusal) → x ≡ Refused refusal → Refusing refusal) refused found,
+    λ e. let so = admitted-exactly card .0 e in k .passed (so .0) (so .1),
+  )
+    where
+      refused : (r : Refusal) → admission card ≡ Refused r → (refusal : Refusal) → Refused r ≡ Refused refusal → Refusing refusal
+      refused r e refusal t = let same : r ≡ refusal = cc in subst Refusing same (k .early r e)
+
+      found : (i : Finding) → admission card ≡ Admitted → Finds (card .replica) i → (refusal : Refusal) → idleCheck i ≡ Refused refusal → Refusing refusal
+      found (Pair a b) e f refusal t = let same : Idle a b ≡ refusal = cc in subst Refusing same (k .idle a b e f)
+      found NoPair e f refusal t = absurd (apart (cc))
+
 -- the numbers of a question that begins with this admission
 pub record AfterAdmission (card : Card) (n passed : Numbers) : Type 0 where
   -- 1 to 6, and then 17 with the pair
@@ -118,9 +142,20 @@ pub full-admission-in-numbers : (card : Card) (r : Admission) → r ≡ fullAdmi
 full-admission-in-numbers card r e =
     after-admission card (admissionNumbers r) (answer 0 0 0 0) (λ s h. ap admissionNumbers (e ∙ h)) (λ h. ap admissionNumbers (e ∙ h))
 
+-- so the answer that is promised is the run's
+pub admission-exactly : (card : Card) (r : Admission) → AdmissionSays card r ↔ (r ≡ fullAdmission card)
+admission-exactly card r = (
+  λ k. go k (fullAdmission card) refl,
+  λ e. checks-from-run card (λ refusal f. e ∙ f) (λ f. e ∙ f),
+)
+  where
+    go : AdmissionSays card r → (a : Admission) → fullAdmission card ≡ a → r ≡ fullAdmission card
+    go k Admitted e = run-from-checks card k .1 e ∙ sym e
+    go k (Refused refusal) e = run-from-checks card k .0 refusal e ∙ sym e
+
 -- two outcomes that the promise of this admission allows are equal
-pub full-admission-settled : (card : Card) (p q : Admission) → p ≡ fullAdmission card → q ≡ fullAdmission card → p ≡ q
-full-admission-settled card p q e f = e ∙ sym f
+pub full-admission-settled : (card : Card) (p q : Admission) → AdmissionSays card p → AdmissionSays card q → p ≡ q
+full-admission-settled card p q h k = admission-exactly card p .0 h ∙ sym (admission-exactly card q .0 k)
 
 -- iters past a count are ignored, whatever they hold: in what is found
 pub past-the-count-found : (r s : Iters) → Alike r s → (i : Finding) → Finds r i → Finds s i

@@ -10,7 +10,7 @@ ghost use Rattle.card.specs.declared.Iters.{Iters};
 ghost use Rattle.card.specs.Packed.{itersOf, cardOf, Whole, Admits};
 ghost use Rattle.copies_sums.specs.Walks.{Walkable};
 ghost use Rattle.idle.specs.Idle.{SameSums, Finds};
-ghost use Rattle.idle.specs.Admission.{fullAdmission};
+ghost use Rattle.idle.specs.Admission.{AdmissionSays, fullAdmission};
 ghost use Rattle.idle.specs.Contracts.{Says, Twin};
 ghost use Rattle.idle_search.specs.Contracts.{natural, mixed, Natural, keyOf, Keyed, Passes};
 
@@ -157,7 +157,7 @@ pub fn admit_packed(numbers: &[u64; 56], strides: &[i64; 24]) -> Admission
 
 // The admission of any card to verdict, owner and placement.
 pub fn admit(card: Card) -> Admission
-    ensures { λ r. ⌜ r ≡ fullAdmission card ⌝ }
+    ensures { λ r. ⌜ AdmissionSays card r ⌝ }
 {
     let packed = card_packed::pack(card);
     let numbers = packed.numbers;

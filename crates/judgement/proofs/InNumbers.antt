@@ -18,13 +18,14 @@ use Rattle.claims.specs.Claims.{occupied}
 use Rattle.claims.proofs.Theorems.{owners-none-share}
 use Rattle.judgement.specs.Judgement.{placed, AllInside, FirstOutside, Judgement, NotAdmitted, NoRoom, OutsideAt, Clashing, Passed, ComesTo}
 use Rattle.judgement.specs.Verdict.{verdictOf, VerdictPromise, askedSpot, OwnerJudgement, NoCell, ByVerdict, OwnerComesTo, readEntry, ownerOf, OwnerPromise, verdictNumbers, ownerNumbers}
+use Rattle.judgement.specs.Plain.{OneClassACell, FirstShared}
 use Rattle.judgement.specs.Run.{judge}
 use Rattle.judgement.specs.declared.Verdict.{Verdict}
 use Rattle.judgement.specs.declared.Verdict.the-variants.{Approved, Refused}
 use Rattle.judgement.specs.declared.Owner.{Owner}
 use Rattle.judgement.proofs.Unique.{not-both, judgement-unique, owner-judgement-unique}
 use Rattle.judgement.proofs.Run.{judge-comes}
-use Rattle.judgement.proofs.Theorems.{OneClassACell, one-class-exactly, FirstShared, first-shared, clash-exactly, demand-3, owner-by-verdict}
+use Rattle.judgement.proofs.Theorems.{one-class-exactly, first-shared, clash-exactly, demand-3, owner-by-verdict}
 
 -- the numbers of a question that judges a card in a table of so many entries, after 1 to 6 and 17
 pub record InNumbers (card : Card) (room : ℕ) (n approved : Numbers) : Type 0 where

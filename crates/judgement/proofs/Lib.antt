@@ -1,6 +1,7 @@
 pub mod Unique
 pub mod Run
 pub mod Theorems
+pub mod Plain
 pub mod OwnerDemand
 pub mod InNumbers
 pub mod Leaves

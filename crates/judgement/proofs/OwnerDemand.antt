@@ -19,11 +19,12 @@ use Rattle.rules.proofs.Spots.{cell-small}
 use Rattle.idle.specs.Idle.{NoIdlePair}
 use Rattle.judgement.specs.Judgement.{AllInside}
 use Rattle.judgement.specs.Verdict.{askedSpot, readEntry, OwnerPromise}
+use Rattle.judgement.specs.Plain.{OneClassACell, HasCopyIn, SmallestIn}
 use Rattle.judgement.specs.declared.Verdict.{Verdict}
 use Rattle.judgement.specs.declared.Verdict.the-variants.{Approved, Refused}
 use Rattle.judgement.specs.declared.Owner.{Owner}
 use Rattle.judgement.specs.declared.Owner.the-variants.{Entry, Refused as NoOwner}
-use Rattle.judgement.proofs.Theorems.{IsApproval, OneClassACell, HasCopyIn, SmallestIn, Demand3, demand-3, owner-by-verdict}
+use Rattle.judgement.proofs.Theorems.{IsApproval, Demand3, demand-3, owner-by-verdict}
 
 -- demand 3 of an answer to who owns a cell
 pub record OwnerDemand3 (card : Card) (cell : ℕ) (owner : Owner) : Type 0 where

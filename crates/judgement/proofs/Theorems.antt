@@ -31,6 +31,7 @@ use Rattle.claims.specs.Outcome.{NoneShare}
 use Rattle.claims.proofs.Theorems.{owners-none-share, clash-shares, nobody-exactly}
 use Rattle.judgement.specs.Judgement.{placed, LiesInside, AllInside, FirstOutside, Judgement, NotAdmitted, NoRoom, OutsideAt, Clashing, Passed, ComesTo}
 use Rattle.judgement.specs.Verdict.{verdictOf, tableAfter, VerdictPromise, askedSpot, OwnerJudgement, NoCell, ByVerdict, OwnerComesTo, readEntry, ownerTableAfter, ownerOf, OwnerPromise, verdictNumbers, ownerNumbers}
+use Rattle.judgement.specs.Plain.{HasCopyIn, SmallestIn, ShareCell, FirstShared, OneClassACell}
 use Rattle.judgement.specs.declared.Verdict.{Verdict}
 use Rattle.judgement.specs.declared.Verdict.the-variants.{Approved, Refused}
 use Rattle.judgement.specs.declared.Owner.{Owner}
@@ -60,23 +61,6 @@ owner-settled card coordinates before a b v w h k =
 abbrev pub IsApproval : Verdict → Type 0
 IsApproval (Approved elements occupied cells) = Unit
 IsApproval (Refused refusal) = ⊥
-
--- no two elements that are not one share a cell: where a copy of x and a copy of y lie in one cell, x and y are one
-abbrev pub OneClassACell : Card → Type 0
-OneClassACell card = (x y r s : ℕ) (c : Cell) → x < elements card → y < elements card → r < copies card → s < copies card
-    → spot card x r ≡ Inside c → spot card y s ≡ Inside c → AreOne card x y
-
--- element f has a copy in cell c
-pub record HasCopyIn (card : Card) (f c : ℕ) : Type 0 where
-  pub combination : ℕ
-  pub below : combination < copies card
-  pub there : spot card f combination ≡ Inside (record { 0 = c })
-
--- f is the smallest of the elements placed in cell c, which are all one with it
-pub record SmallestIn (card : Card) (f c : ℕ) : Type 0 where
-  pub element : f < elements card
-  pub has : HasCopyIn card f c
-  pub smallest : (g : ℕ) → g < elements card → HasCopyIn card g c → AreOne card f g × (f ≤ g)
 
 -- demand 3 of an outcome of the verdict
 pub record Demand3 (card : Card) (after : List ℕ) (verdict : Verdict) : Type 0 where
@@ -250,21 +234,6 @@ demand-3-unmarked card before after verdict none admitted no-pair long p =
       nobody = d .nobody;
       counts = d .counts;
     }
-
--- two elements that are not one share a cell
-pub record ShareCell (card : Card) (x y c : ℕ) : Type 0 where
-  pub one : HasCopyIn card x c
-  pub other : HasCopyIn card y c
-  pub not-one : AreOne card x y → ⊥
-
--- the first two, over all elements: the smallest y that shares with a smaller one, the smallest x that shares with it, their smallest cell
-pub record FirstShared (card : Card) (x y cell : ℕ) : Type 0 where
-  pub element : y < elements card
-  pub ordered : x < y
-  pub shared : ShareCell card x y cell
-  pub smallest-y : (a b c : ℕ) → a < b → b < elements card → ShareCell card a b c → y ≤ b
-  pub smallest-x : (a c : ℕ) → a < elements card → ShareCell card a y c → x ≤ a
-  pub smallest-cell : (c : ℕ) → ShareCell card x y c → cell ≤ c
 
 -- the first clash of the leaders is the first over all elements
 module _ (card : Card) (admitted : admission card ≡ Admitted) (x y cell : ℕ) (inside : AllInside card)

@@ -1,3 +1,4 @@
 pub mod Judgement
 pub mod Verdict
+pub mod Plain
 pub mod Run

@@ -29,11 +29,12 @@ use Rattle.claims.specs.Claims.{occupied}
 use Rattle.claims.proofs.Theorems.{owners-none-share}
 use Rattle.judgement.specs.Judgement.{placed, AllInside, FirstOutside, Judgement, NotAdmitted, NoRoom, OutsideAt, Clashing, Passed, ComesTo}
 use Rattle.judgement.specs.Verdict.{verdictOf, VerdictPromise, askedSpot, OwnerJudgement, NoCell, ByVerdict, OwnerComesTo, readEntry, ownerOf, OwnerPromise, verdictNumbers, ownerNumbers}
+use Rattle.judgement.specs.Plain.{OneClassACell, FirstShared}
 use Rattle.judgement.specs.declared.Verdict.{Verdict}
 use Rattle.judgement.specs.declared.Verdict.the-variants.{Approved, Refused as NotApproved}
 use Rattle.judgement.specs.declared.Owner.{Owner}
 use Rattle.judgement.proofs.Unique.{not-both, judgement-unique}
-use Rattle.judgement.proofs.Theorems.{OneClassACell, one-class-exactly, FirstShared, first-shared, demand-3, owner-by-verdict}
+use Rattle.judgement.proofs.Theorems.{one-class-exactly, first-shared, demand-3, owner-by-verdict}
 use Rattle.judgement.proofs.InNumbers.{table-in-numbers, owner-in-numbers}
 
 -- the numbers of a question that judges a card in a table of so many entries, once it is ready for it

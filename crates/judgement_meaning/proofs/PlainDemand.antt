@@ -20,11 +20,12 @@ use Rattle.idle.specs.Idle.{NoIdlePair}
 use Rattle.claims.specs.Claims.{occupied}
 use Rattle.judgement.specs.Judgement.{LiesInside, AllInside}
 use Rattle.judgement.specs.Verdict.{VerdictPromise, askedSpot, OwnerPromise}
+use Rattle.judgement.specs.Plain.{OneClassACell, HasCopyIn, SmallestIn}
 use Rattle.judgement.specs.declared.Verdict.{Verdict}
 use Rattle.judgement.specs.declared.Verdict.the-variants.{Approved}
 use Rattle.judgement.specs.declared.Owner.{Owner}
 use Rattle.judgement.proofs.Run.{lies-inside}
-use Rattle.judgement.proofs.Theorems.{IsApproval, OneClassACell, HasCopyIn, SmallestIn, Demand3, demand-3}
+use Rattle.judgement.proofs.Theorems.{IsApproval, Demand3, demand-3}
 use Rattle.judgement.proofs.OwnerDemand.{OwnerDemand3, demand-3-owner}
 
 -- demand 3 of a card whose numbers lie within the limits, by their inequalities

@@ -24,8 +24,8 @@ use Rattle.card.specs.declared.Admission.the-variants.{Admitted, Refused}
 use Rattle.answers.specs.declared.Refusal.{Refusal}
 use Rattle.answers.specs.declared.Refusal.the-variants.{Counts, Limits as OutOfLimits, Axis}
 use Rattle.laws.proofs.Rungs.{apart}
-use Rattle.notation.specs.Text.{axisMeant, Lists, Notation, spell, Short, Each, Sound, NoStar, Plain, Rising, Limits, Within, Correct}
-use Rattle.notation.specs.Meaning.{valueOf, isMarked, markOf, itersSaid, listOf, laid, noOffset, layoutOf}
+use Rattle.notation.specs.Text.{axisMeant, Lists, Notation, spell, Short, Each, Sound, isMarked, Plain, Rising, Limits, Within, Correct}
+use Rattle.notation.specs.Meaning.{valueOf, markOf, itersSaid, listOf, laid, noOffset, layoutOf}
 use Rattle.notation.specs.Promise.{Answered}
 use Rattle.notation.specs.Writing.{isBelow, stepFor, stepsFor, offsetsFrom, noMarks, listsFor, writtenAs, textOf, answerFor, writtenAnswer, bytesAfter, keptOf}
 use Rattle.notation.specs.declared.NamedAxis.{NamedAxis}
@@ -128,7 +128,7 @@ offsets-plain axis [] h e = tt
 offsets-plain axis (z ∷ zs) h e =
     let p = and-eq-true-iff (withinZ leastStride mostStride z) (all (withinZ leastStride mostStride) zs) .0 e in
     let rest = offsets-plain (axis + 1) zs (omega arith) (p .1) in
-    pick (λ (l : List Step). Each Plain (l ++ offsetsFrom (axis + 1) zs)) (eqb (natAbs z) 0) (λ _. rest) (λ _. ((step-sound z false axis (p .0) (omega arith), tt), rest))
+    pick (λ (l : List Step). Each Plain (l ++ offsetsFrom (axis + 1) zs)) (eqb (natAbs z) 0) (λ _. rest) (λ _. ((step-sound z false axis (p .0) (omega arith), refl), rest))
 
 rising-later : (axis later : ℕ) (ss : List Step) → later ≤ axis → Rising axis ss 8 → Rising later ss 8
 rising-later axis later [] h r = omega arith
@@ -217,9 +217,9 @@ module _ (card : Card) (eight : OfEight card) (ok : fieldChecks card Admitted �
         rising = offsets-rising 0 (card .offset) (omega (arith, eight .offset));
       }
     where
-      plain : (z : ℤ) (m : Bool) (axis : ℕ) → (m ≡ true → all not noMarks ≡ false) → NoStar (stepFor z m axis .place)
+      plain : (z : ℤ) (m : Bool) (axis : ℕ) → (m ≡ true → all not noMarks ≡ false) → isMarked (stepFor z m axis .place) ≡ false
       plain z true axis g = absurd (true≢false (g refl))
-      plain z false axis g = tt
+      plain z false axis g = refl
 
   -- and says what the card holds
   pub written-layout : layoutOf (writtenAs card) ≡ keptOf card

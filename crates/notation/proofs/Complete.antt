@@ -4,10 +4,11 @@ use mathlib.Core.Path.{_≡_, refl, sym, ap, _∙_, subst, subst⁻¹}
 use mathlib.Core.Bool.{Bool, true, false, cond, _&&_, false≢true, true≢false}
 use mathlib.Core.List.{List, [], _∷_, _++_, append-nil, append-assoc, map}
 use native.Mathlib.Omega.{arith}
-use borrow.Author.Tests.{lt-ltb, le-ltb, le-leb, lt-leb, eq-eqb, ne-eqb}
+use borrow.Author.Tests.{lt-ltb, le-ltb, le-leb, lt-leb, eq-eqb, ne-eqb, eqb-true}
 use lib.Dec.{leb, ltb, eqb}
 use lib.ListN.{length, length-append}
-use Rattle.notation.specs.Text.{decimal, name, axisMeant, spellPlace, spellSigned, spellStep, tails, joined, openingBytes, closing, enclosed, Lists, spellLists, spellShard, several, spellSome, isNone, spellReplica, spellOffsets, Notation, spell, Short, Each, Sound, NoStar, Plain, Rising, Limits, Within, Correct}
+use Rattle.notation.specs.Quoted.{quotedBytes}
+use Rattle.notation.specs.Text.{decimal, name, axisMeant, spellPlace, spellSigned, spellStep, tails, joined, openingBytes, closing, enclosed, Lists, spellLists, spellShard, spellReplica, spellOffsets, Notation, spell, Short, Each, Sound, isMarked, Plain, Rising, Limits, Within, Correct}
 use Rattle.notation.specs.Machine.{letter, most, leastAxis, parens, isShard, inOffset, isWhole, after, go, withNumber, stepOf, follow, Seen, spotOf, noLists, here, said, withExtent, withStep, asPart, State, stateAt, enter, stepped, start, ending, runs}
 use Rattle.notation.specs.declared.Phase.{Phase}
 use Rattle.notation.specs.declared.Phase.the-variants.{First, Extent, Begun, Minus, Size, At, Tee, Named, Starred, Closed, Plus, Opened, Ended, Stuck}
@@ -18,6 +19,7 @@ use Rattle.notation.specs.declared.NamedAxis.the-variants.{Bare, At as O
 use Rattle.notation.specs.declared.Step.{Step}
 use Rattle.notation.specs.declared.Piece.{Piece}
 use Rattle.notation.specs.declared.Event.the-variants.{Step as AStep}
+use Rattle.notation.proofs.Lists.{several, isNone, spellSome}
 use Rattle.notation.proofs.Exact.{runs-append}
 use Rattle.notation.proofs.Good.{IsList, Fine}
 use Rattle.notation.proofs.Steps.{then, via, decides, extent-run, opened-run, Starts, begun-starts, plus-starts, owed-run, After, step-run}
@@ -47,7 +49,7 @@ close p s false e l =
 
 extents-run : (es : List ℕ) (e : ℕ) (p : Piece) (s : Seen) (r : State) → runs stepped r (decimal e) ≡ stateAt Extent 0 (withNumber p e) s
     → length (s .extents) + suc (length es) ≤ most (s .part) → leastAxis (s .part) ≤ length (s .extents) + suc (length es) → Each Short es
-    → (k : ℕ) × (p′ : Piece) × (s′ : Seen) × (letter k ≡ 0) × (runs stepped r (joined (map decimal (e ∷ es)) ++ between (parens (s .part))) ≡ stateAt Begun k p′ s′) × Kept s s′ (e ∷ es)
+    → (k : ℕ) × (p′ : Piece) × (s′ : Seen) × (letter k ≡ 0) × (runs stepped r (joined (quotedBytes ",") (map decimal (e ∷ es)) ++ between (parens (s .part))) ≡ stateAt Begun k p′ s′) × Kept s s′ (e ∷ es)
 extents-run [] e p s r first few many short =
     let c = close (withNumber p e) s (parens (s .part)) refl (omega arith) in (
       c .0,
@@ -60,13 +62,13 @@ extents-run [] e p s r first few many short =
 extents-run (d ∷ es) e p s r first few many short =
     let n : Seen = withExtent s e in
     let long : length (n .extents) ≡ length (s .extents) + 1 = length-append (s .extents) (e ∷ []) in
-    let tail : List ℕ = joined (map decimal (d ∷ es)) ++ between (parens (s .part)) in
+    let tail : List ℕ = joined (quotedBytes ",") (map decimal (d ∷ es)) ++ between (parens (s .part)) in
     let i = extents-run es d (withNumber p e) n (stateAt First 0 (withNumber p e) n) (extent-run (withNumber p e) n 0 refl d (short .0)) (omega arith) (omega arith) (short .1) in (
       i .0,
       i .1,
       i .2,
       i .3,
-      ap (λ (t : List ℕ). runs stepped r t) (append-assoc (decimal e) (44 ∷ joined (map decimal (d ∷ es))) (between (parens (s .part))))
+      ap (λ (t : List ℕ). runs stepped r t) (append-assoc (decimal e) (44 ∷ joined (quotedBytes ",") (map decimal (d ∷ es))) (between (parens (s .part))))
           ∙ via r (stateAt Extent 0 (withNumber p e) s) (decimal e) (44 ∷ tail) first (then (stateAt Extent 0 (withNumber p e) s) (stateAt First 0 (withNumber p e) n) 44 tail (comma (withNumber p e) s (omega arith)) (i .4)),
       record {
         part = i .5 .part;
@@ -118,7 +120,7 @@ shut r s t Single e i a n =
     (0, a .piece, refl, then r q 93 [] one refl)
 shut r s t Offset e i a n = absurd i
 
-fine-sound : (part : Part) (t : Step) → Fine part t → Sound t × (isShard part ≡ false → NoStar (t .place))
+fine-sound : (part : Part) (t : Step) → Fine part t → Sound t × (isShard part ≡ false → isMarked (t .place) ≡ false)
 fine-sound Shard t f = (f, λ e. absurd (true≢false e))
 fine-sound Several t f = (f .0, λ e. f .1)
 fine-sound Single t f = (f .0, λ e. f .1)
@@ -132,7 +134,7 @@ no-offset Offset i = absurd i
 
 strides-run : (ts : List Step) (t : Step) (p : Piece) (s : Seen) (k : ℕ) (part : Part) → s .part ≡ part → IsList part → letter k ≡ 0 → s .from ≡ 0
     → length (s .steps) + suc (length ts) ≡ length (s .extents) → Fine part t → Each (Fine part) ts
-    → (k′ : ℕ) × (p′ : Piece) × (s′ : Seen) × (letter k′ ≡ 0) × (runs stepped (stateAt Begun k p s) (joined (map spellStep (t ∷ ts)) ++ ended (parens part)) ≡ stateAt (after part) k′ p′ s′) × ListRead s s′ (t ∷ ts)
+    → (k′ : ℕ) × (p′ : Piece) × (s′ : Seen) × (letter k′ ≡ 0) × (runs stepped (stateAt Begun k p s) (joined (quotedBytes ",") (map spellStep (t ∷ ts)) ++ ended (parens part)) ≡ stateAt (after part) k′ p′ s′) × ListRead s s′ (t ∷ ts)
 strides-run [] t p s k part e i o from all f fs =
     let g = fine-sound part t f in
     let m = step-run p s (stateAt Begun k p s) (begun-starts p s k o) t (g .0) (omega arith) (λ (z : isShard (s .part) ≡ false). g .1 (rw (← e) z)) in
@@ -149,7 +151,7 @@ strides-run (u ∷ ts) t p s k part e i o from all f fs =
     let m = step-run p s (stateAt Begun k p s) (begun-starts p s k o) t (g .0) (omega arith) (λ (z : isShard (s .part) ≡ false). g .1 (rw (← e) z)) in
     let q : Piece = m .2 .piece in
     let n : Seen = withStep s t in
-    let tail : List ℕ = joined (map spellStep (u ∷ ts)) ++ ended (parens part) in
+    let tail : List ℕ = joined (quotedBytes ",") (map spellStep (u ∷ ts)) ++ ended (parens part) in
     let next : stepped (m .0) 44 ≡ stateAt Begun 0 q n
     = m .2 .comma ∙ ap (enter s) (follow-comma (s .part) (subst (λ (z : Part). IsList z) (sym e) i) (t .place) q s (omega arith)) ∙ ap (λ (w : Step). stateAt Begun 0 q (withStep s w)) (m .2 .is) in
     let low : n .from ≡ 0 = ap (λ (z : Part). cond (inOffset z) (axisMeant (t .place) + 1) (s .from)) e ∙ ap (λ (c : Bool). cond c (axisMeant (t .place) + 1) (s .from)) (no-offset part i) ∙ from in
@@ -159,7 +161,7 @@ strides-run (u ∷ ts) t p s k part e i o from all f fs =
       h .1,
       h .2,
       h .3,
-      ap (λ (l : List ℕ). runs stepped (stateAt Begun k p s) l) (append-assoc (spellStep t) (44 ∷ joined (map spellStep (u ∷ ts))) (ended (parens part)))
+      ap (λ (l : List ℕ). runs stepped (stateAt Begun k p s) l) (append-assoc (spellStep t) (44 ∷ joined (quotedBytes ",") (map spellStep (u ∷ ts))) (ended (parens part)))
           ∙ via (stateAt Begun k p s) (m .0) (spellStep t) (44 ∷ tail) (m .1) (then (m .0) (stateAt Begun 0 q n) 44 tail next (h .4)),
       record {
         part = h .5 .part;
@@ -170,8 +172,8 @@ strides-run (u ∷ ts) t p s k part e i o from all f fs =
     )
 
 -- both lists
-lists-text : (paren : Bool) (l : Lists) → spellLists paren l ++ (93 ∷ []) ≡ openingBytes paren ++ ((joined (map decimal (l .extents)) ++ between paren) ++ (joined (map spellStep (l .steps)) ++ ended paren))
-lists-text paren l = by (joined (map decimal (l .extents))) (joined (map spellStep (l .steps))) (openingBytes paren) (closing paren)
+lists-text : (paren : Bool) (l : Lists) → spellLists paren l ++ (93 ∷ []) ≡ openingBytes paren ++ ((joined (quotedBytes ",") (map decimal (l .extents)) ++ between paren) ++ (joined (quotedBytes ",") (map spellStep (l .steps)) ++ ended paren))
+lists-text paren l = by (joined (quotedBytes ",") (map decimal (l .extents))) (joined (quotedBytes ",") (map spellStep (l .steps))) (openingBytes paren) (closing paren)
   where
     by : (e t o c : List ℕ) → ((o ++ (e ++ c)) ++ (58 ∷ (o ++ (t ++ c)))) ++ (93 ∷ []) ≡ o ++ ((e ++ (c ++ (58 ∷ o))) ++ (t ++ (c ++ (93 ∷ []))))
     by e t o c = simp append-assoc
@@ -193,7 +195,7 @@ joined-reads s x y es ts l none none′ k r a b =
 abbrev ListsRun : State → Seen → Lists → Type 0
 ListsRun r s l =
     (k : ℕ) × (p′ : Piece) × (s′ : Seen) × (letter k ≡ 0)
-    × (runs stepped r ((joined (map decimal (l .extents)) ++ between (parens (s .part))) ++ (joined (map spellStep (l .steps)) ++ ended (parens (s .part)))) ≡ stateAt (after (s .part)) k p′ s′)
+    × (runs stepped r ((joined (quotedBytes ",") (map decimal (l .extents)) ++ between (parens (s .part))) ++ (joined (quotedBytes ",") (map spellStep (l .steps)) ++ ended (parens (s .part)))) ≡ stateAt (after (s .part)) k p′ s′)
     × ListsRead s s′ l
 
 lists-run : (l : Lists) (p : Piece) (s : Seen) (r : State) → IsList (s .part) → ((v : ℕ) → Short v → runs stepped r (decimal v) ≡ stateAt Extent 0 (withNumber p v) s)
@@ -202,16 +204,16 @@ lists-run : (l : Lists) (p : Piece) (s : Seen) (r : State) → IsList (s .part) 
 lists-run l p s r i first none none′ from many some limits = by (l .extents) (l .steps) refl refl
   where
     finish : (d : ℕ) (es : List ℕ) (t : Step) (ts : List Step) → l .extents ≡ d ∷ es → l .steps ≡ t ∷ ts
-        → (k : ℕ) (q : Piece) (x : Seen) → letter k ≡ 0 → runs stepped r (joined (map decimal (d ∷ es)) ++ between (parens (s .part))) ≡ stateAt Begun k q x → Kept s x (d ∷ es) → ListsRun r s l
+        → (k : ℕ) (q : Piece) (x : Seen) → letter k ≡ 0 → runs stepped r (joined (quotedBytes ",") (map decimal (d ∷ es)) ++ between (parens (s .part))) ≡ stateAt Begun k q x → Kept s x (d ∷ es) → ListsRun r s l
     finish d es t ts a b k q x o run kept′ =
         let fine : Each (Fine (s .part)) (t ∷ ts) = subst (λ (z : List Step). Each (Fine (s .part)) z) b (limits .sound) in
         let all : x .extents ≡ d ∷ es = kept′ .extents ∙ ap (λ (m : List ℕ). m ++ (d ∷ es)) none in
         let y = strides-run ts t q x k (s .part) (kept′ .part) i o (kept′ .from ∙ from)
         (omega (arith, ap length (kept′ .steps ∙ none′), ap length all, ap length a, ap length b, limits .same)) (fine .0) (fine .1) in
-        let text : runs stepped r ((joined (map decimal (l .extents)) ++ between (parens (s .part))) ++ (joined (map spellStep (l .steps)) ++ ended (parens (s .part)))) ≡ stateAt (after (s .part)) (y .0) (y .1) (y .2)
-        = ap (λ (z : List ℕ). runs stepped r ((joined (map decimal z) ++ between (parens (s .part))) ++ (joined (map spellStep (l .steps)) ++ ended (parens (s .part))))) a
-        ∙ ap (λ (z : List Step). runs stepped r ((joined (map decimal (d ∷ es)) ++ between (parens (s .part))) ++ (joined (map spellStep z) ++ ended (parens (s .part))))) b
-        ∙ via r (stateAt Begun k q x) (joined (map decimal (d ∷ es)) ++ between (parens (s .part))) (joined (map spellStep (t ∷ ts)) ++ ended (parens (s .part))) run (y .4) in
+        let text : runs stepped r ((joined (quotedBytes ",") (map decimal (l .extents)) ++ between (parens (s .part))) ++ (joined (quotedBytes ",") (map spellStep (l .steps)) ++ ended (parens (s .part)))) ≡ stateAt (after (s .part)) (y .0) (y .1) (y .2)
+        = ap (λ (z : List ℕ). runs stepped r ((joined (quotedBytes ",") (map decimal z) ++ between (parens (s .part))) ++ (joined (quotedBytes ",") (map spellStep (l .steps)) ++ ended (parens (s .part))))) a
+        ∙ ap (λ (z : List Step). runs stepped r ((joined (quotedBytes ",") (map decimal (d ∷ es)) ++ between (parens (s .part))) ++ (joined (quotedBytes ",") (map spellStep z) ++ ended (parens (s .part))))) b
+        ∙ via r (stateAt Begun k q x) (joined (quotedBytes ",") (map decimal (d ∷ es)) ++ between (parens (s .part))) (joined (quotedBytes ",") (map spellStep (t ∷ ts)) ++ ended (parens (s .part))) run (y .4) in
         (y .0, y .1, y .2, y .3, text, joined-reads s x (y .2) (d ∷ es) (t ∷ ts) l none none′ kept′ (y .5) a b)
 
     by : (es : List ℕ) (ts : List Step) → l .extents ≡ es → l .steps ≡ ts → ListsRun r s l
@@ -276,7 +278,7 @@ shard-run : (l : Lists) → 1 ≤ length (l .extents) → Limits 8 Sound l
 shard-run l some limits =
     let r : State = stateAt First 26 (start .piece) (start .seen) in
     let x = lists-run l (start .piece) (start .seen) r tt (extent-run (start .piece) (start .seen) 26 refl) refl refl refl some some limits in
-    let tail : List ℕ = (joined (map decimal (l .extents)) ++ between true) ++ (joined (map spellStep (l .steps)) ++ ended true) in (
+    let tail : List ℕ = (joined (quotedBytes ",") (map decimal (l .extents)) ++ between true) ++ (joined (quotedBytes ",") (map spellStep (l .steps)) ++ ended true) in (
       x .0,
       x .1,
       x .2,
@@ -311,7 +313,7 @@ replica-run l p s k o some limits = by (l .extents) refl
     by (e ∷ []) a =
         let n : Seen = asPart s Single in
         let x = lists-run l p n r tt (opened-run p s 33 refl) refl refl refl (omega (arith, ap length a)) (omega (arith, ap length a)) (record { few = omega (arith, ap length a); same = limits .same; short = limits .short; sound = limits .sound }) in
-        let tail : List ℕ = (joined (map decimal (l .extents)) ++ between false) ++ (joined (map spellStep (l .steps)) ++ ended false) in (
+        let tail : List ℕ = (joined (quotedBytes ",") (map decimal (l .extents)) ++ between false) ++ (joined (quotedBytes ",") (map spellStep (l .steps)) ++ ended false) in (
           x .0,
           x .1,
           x .2,
@@ -323,12 +325,12 @@ replica-run l p s k o some limits = by (l .extents) refl
     by (e ∷ f ∷ es) a =
         let n : Seen = asPart s Several in
         let x = lists-run l p n (stateAt First 0 p n) tt (extent-run p n 0 refl) refl refl refl (omega (arith, ap length a)) (omega (arith, ap length a)) limits in
-        let tail : List ℕ = (joined (map decimal (l .extents)) ++ between true) ++ (joined (map spellStep (l .steps)) ++ ended true) in (
+        let tail : List ℕ = (joined (quotedBytes ",") (map decimal (l .extents)) ++ between true) ++ (joined (quotedBytes ",") (map spellStep (l .steps)) ++ ended true) in (
           x .0,
           x .1,
           x .2,
           x .3,
-          ap (λ (c : Bool). runs stepped (stateAt Closed k p s) (43 ∷ 82 ∷ 91 ∷ (spellLists c l ++ (93 ∷ [])))) (ap several a)
+          ap (λ (c : Bool). runs stepped (stateAt Closed k p s) (43 ∷ 82 ∷ 91 ∷ (spellLists c l ++ (93 ∷ [])))) (ap several a ∙ lt-ltb 1 (length (e ∷ f ∷ es)) (omega arith))
               ∙ ap (λ (t : List ℕ). runs stepped (stateAt Closed k p s) (43 ∷ 82 ∷ 91 ∷ t)) (lists-text true l)
               ∙ via (stateAt Closed k p s) r (43 ∷ 82 ∷ 91 ∷ []) (40 ∷ tail) opened (then r (stateAt First 0 p n) 40 tail (decides Opened 33 p s 40 refl) (x .4)),
           several-said (x .2) (said s .shard) l (x .5 .part) (x .5 .shard) (x .5 .lists),
@@ -354,7 +356,7 @@ after-replica (t ∷ ss) p s k o bare f r =
 none-lists : (es : List ℕ) (ts : List Step) → isNone es ≡ true → length ts ≡ length es → noLists ≡ record { extents = es; steps = ts }
 none-lists [] [] e f = refl
 none-lists [] (t ∷ ts) e f = absurd (omega arith)
-none-lists (d ∷ es) ts e f = absurd (false≢true e)
+none-lists (d ∷ es) ts e f = absurd (omega (arith, eqb-true (length (d ∷ es)) 0 e))
 
 -- the machine ends well over every correct text, and holds what the text says
 pub complete : (n : Notation) → Within n → Ends (runs stepped start (spell n)) n

@@ -7,11 +7,12 @@ use mathlib.Core.List.{List, [], _∷_, _++_, append-nil, append-assoc, map}
 use native.Mathlib.Omega.{arith}
 use native.Mathlib.Nat.{eq-or-lt-of-le}
 use native.Mathlib.Numerals.{add-one}
-use borrow.Author.Tests.{ltb-true, ltb-false, leb-true, leb-false, eqb-true, eqb-false}
+use borrow.Author.Tests.{lt-ltb, ne-eqb, ltb-true, ltb-false, leb-true, leb-false, eqb-true, eqb-false}
 use lib.Dec.{leb, ltb, eqb}
 use lib.ListN.{length, getD, drop, length-append}
 use lib.Seq.{drop-cons}
-use Rattle.notation.specs.Text.{decimal, name, axisMeant, spellPlace, spellSigned, spellStep, tails, joined, openingBytes, closing, enclosed, Lists, spellLists, spellShard, several, spellSome, isNone, spellReplica, spellOffsets, Notation, spell, Short, Each, Sound, NoStar, Plain, Rising, Limits, Within, Correct}
+use Rattle.notation.specs.Quoted.{quotedBytes}
+use Rattle.notation.specs.Text.{decimal, name, axisMeant, spellPlace, spellSigned, spellStep, tails, joined, openingBytes, closing, enclosed, Lists, spellLists, spellShard, spellReplica, spellOffsets, Notation, spell, Short, Each, Sound, isMarked, Plain, Rising, Limits, Within, Correct}
 use Rattle.notation.specs.Machine.{digitOf, continues, initialOf, restOf, wordsToFollow, letter, most, leastAxis, parens, isShard, inOffset, go, stuck, withNumber, withSign, withAxis, stepOf, spotOf, Seen, noLists, here, said, withExtent, withStep, asPart, enter, stateAt, State, firstMove, extentMove, begunMove, minusMove, listMove, offsetMove, follow, sizeMove, atMove, teeMove, namedMove, starredMove, closedMove, plusMove, openedMove, endedMove, phaseMove, moved, stepped}
 use Rattle.notation.specs.declared.Phase.{Phase}
 use Rattle.notation.specs.declared.Phase.the-variants.{First, Extent, Begun, Minus, Size, At, Tee, Named, Starred, Closed, Plus, Opened, Ended, Stuck}
@@ -25,7 +26,7 @@ use Rattle.notation.specs.declared.Event.{Event}
 use Rattle.notation.specs.declared.Event.the-variants.{Same, Part as APart}
 use Rattle.notation.specs.declared.Move.{Move}
 use Rattle.notation.proofs.Numbers.{decimal-snoc, decimal-digit}
-use Rattle.notation.proofs.Lists.{pick, pick-both, both, map-append, lead, lead-snoc, joined-mid, offsets-mid, each-append, rising-snoc, rising-more, rising-length}
+use Rattle.notation.proofs.Lists.{pick, pick-both, both, map-append, lead, lead-snoc, joined-mid, offsets-mid, each-append, rising-snoc, rising-more, rising-length, several, isNone}
 
 -- the bytes from a place of the words up to a zero
 abbrev upTo : List ℕ → List ℕ
@@ -195,14 +196,14 @@ comma-text f o ts t x b e h =
     ap (λ (l : List ℕ). l ++ []) w
 
 -- a list is closed
-close-text : (f o c : List ℕ) (ts : List (List ℕ)) (t x rest : List ℕ) → x ≡ (f ++ (o ++ lead ts)) ++ t → x ++ (c ++ rest) ≡ f ++ ((o ++ (joined (ts ++ (t ∷ [])) ++ c)) ++ rest)
+close-text : (f o c : List ℕ) (ts : List (List ℕ)) (t x rest : List ℕ) → x ≡ (f ++ (o ++ lead ts)) ++ t → x ++ (c ++ rest) ≡ f ++ ((o ++ (joined (quotedBytes ",") (ts ++ (t ∷ [])) ++ c)) ++ rest)
 close-text f o c ts t x rest e =
     ap (λ (l : List ℕ). l ++ (c ++ rest)) e ∙ append-assoc (f ++ (o ++ lead ts)) t (c ++ rest) ∙ append-assoc f (o ++ lead ts) (t ++ (c ++ rest))
     ∙ ap (λ (l : List ℕ). f ++ l)
-    (append-assoc o (lead ts) (t ++ (c ++ rest)) ∙ ap (λ (l : List ℕ). o ++ l) (sym (append-assoc (lead ts) t (c ++ rest)) ∙ ap (λ (l : List ℕ). l ++ (c ++ rest)) (sym (joined-last ts t)) ∙ sym (append-assoc (joined (ts ++ (t ∷ []))) c rest))
-    ∙ sym (append-assoc o (joined (ts ++ (t ∷ [])) ++ c) rest))
+    (append-assoc o (lead ts) (t ++ (c ++ rest)) ∙ ap (λ (l : List ℕ). o ++ l) (sym (append-assoc (lead ts) t (c ++ rest)) ∙ ap (λ (l : List ℕ). l ++ (c ++ rest)) (sym (joined-last ts t)) ∙ sym (append-assoc (joined (quotedBytes ",") (ts ++ (t ∷ []))) c rest))
+    ∙ sym (append-assoc o (joined (quotedBytes ",") (ts ++ (t ∷ [])) ++ c) rest))
   where
-    joined-last : (ts : List (List ℕ)) (t : List ℕ) → joined (ts ++ (t ∷ [])) ≡ lead ts ++ t
+    joined-last : (ts : List (List ℕ)) (t : List ℕ) → joined (quotedBytes ",") (ts ++ (t ∷ [])) ≡ lead ts ++ t
     joined-last ts t = joined-mid ts t [] ∙ ap (λ (l : List ℕ). lead ts ++ l) (append-nil t)
 
 pub most-8 : (part : Part) → most part ≤ 8
@@ -245,7 +246,7 @@ module _ (s : Seen) (v : ℕ) (x : List ℕ) (b : ℕ) (short : Short v) where
   strides-text part i =
       let o : List ℕ = openingBytes (parens part) in
       let f : List ℕ = prefix part (s .shard) in
-      let m : List ℕ = o ++ (joined (map decimal (s .extents) ++ (decimal v ∷ [])) ++ closing (parens part)) in
+      let m : List ℕ = o ++ (joined (quotedBytes ",") (map decimal (s .extents) ++ (decimal v ∷ [])) ++ closing (parens part)) in
       rw (map-append decimal (s .extents) (v ∷ []), i .none)
       (close-text (prefix part (s .shard)) o (closing (parens part)) (map decimal (s .extents)) (decimal v) x (58 ∷ o) (i .read) ∙ ap (λ (l : List ℕ). f ++ (m ++ (58 ∷ l))) (sym (append-nil o)) ∙ sym (append-nil (f ++ (m ++ (58 ∷ (o ++ []))))))
 
@@ -258,14 +259,10 @@ module _ (s : Seen) (v : ℕ) (x : List ℕ) (b : ℕ) (short : Short v) where
 
 -- a replica's list
 several-some : (l : List ℕ) → 2 ≤ length l → (several l ≡ true) × (isNone l ≡ false)
-several-some [] h = absurd (omega arith)
-several-some (a ∷ []) h = absurd (omega arith)
-several-some (a ∷ c ∷ l) h = (refl, refl)
+several-some l h = (lt-ltb 1 (length l) h, ne-eqb (length l) 0 (λ e. omega arith))
 
 single-some : (l : List ℕ) → length l ≡ 1 → (several l ≡ false) × (isNone l ≡ false)
-single-some [] h = absurd (omega arith)
-single-some (a ∷ []) h = (refl, refl)
-single-some (a ∷ c ∷ l) h = absurd (omega arith)
+single-some l h = (rw h refl, rw h refl)
 
 regroup : (f e w : List ℕ) → f ++ (e ++ (58 ∷ w)) ≡ (f ++ (e ++ (58 ∷ []))) ++ w
 regroup f e w = sym (append-assoc f (e ++ (58 ∷ [])) w ∙ ap (λ (l : List ℕ). f ++ l) (append-assoc e (58 ∷ []) w))
@@ -466,7 +463,7 @@ module _ (p : Piece) (place : NamedAxis) (x : List ℕ) (b : ℕ) where
       })
       tt
 
-fine-plain : (part : Part) (t : Step) → Sound t → NoStar (t .place) → Fine part t
+fine-plain : (part : Part) (t : Step) → Sound t → isMarked (t .place) ≡ false → Fine part t
 fine-plain Shard t h u = h
 fine-plain Several t h u = (h, u)
 fine-plain Single t h u = (h, u)
@@ -485,14 +482,14 @@ module _ (p : Piece) (s : Seen) (x : List ℕ) (b : ℕ) where
       pick P (continues (p .value) (digitOf b))
       (λ e. ((digit-more (p .value) b e .0, λ q. omega (arith, i .0 .1 q)), step-more (spellSigned (p .negative) (p .value * 10 + digitOf b)) [] b (i .1) (append-assoc (cond (p .negative) (45 ∷ []) []) (decimal (p .value)) (b ∷ []) ∙ ap (λ (l : List ℕ). cond (p .negative) (45 ∷ []) [] ++ l) (digit-more (p .value) b e .1))))
       (λ _. pick P (eqb b 64) (λ e. (i .0, step-more (sign p ++ (64 ∷ [])) [] b (i .1) (rw (eqb-true b 64 e))))
-      (λ _. good-follow p Bare x b (s .part) s (i .1 .before) (fine-plain (s .part) (stepOf p Bare) (i .0 .0, i .0 .1, omega arith) tt) (i .1 .read ∙ ap (λ (l : List ℕ). front (s .part) s ++ l) (sym (append-nil (sign p)))) (from-low s (s .part) (i .1 .before))))
+      (λ _. good-follow p Bare x b (s .part) s (i .1 .before) (fine-plain (s .part) (stepOf p Bare) (i .0 .0, i .0 .1, omega arith) refl) (i .1 .read ∙ ap (λ (l : List ℕ). front (s .part) s ++ l) (sym (append-nil (sign p)))) (from-low s (s .part) (i .1 .before))))
 
   good-named : Shape Named p s x → Good (enter s (namedMove p (spotOf s) b)) (x ++ (b ∷ []))
   good-named i =
       let P : Move → Type 0 = λ m. Good (enter s m) (x ++ (b ∷ [])) in
       pick-both P (eqb b 42) (isShard (s .part))
       (λ e l. (is-shard (s .part) l, i .1, i .2, step-more (sign p ++ (64 ∷ (name (p .axis) ++ (42 ∷ [])))) [] b (i .3) (rw (eqb-true b 42 e) (append-assoc (sign p) (64 ∷ name (p .axis)) (42 ∷ [])))))
-      (good-follow p (OnAxis (p .axis)) x b (s .part) s (i .3 .before) (fine-plain (s .part) (stepOf p (OnAxis (p .axis))) (i .2 .0, i .2 .1, i .1) tt) (i .3 .read) (i .0))
+      (good-follow p (OnAxis (p .axis)) x b (s .part) s (i .3 .before) (fine-plain (s .part) (stepOf p (OnAxis (p .axis))) (i .2 .0, i .2 .1, i .1) refl) (i .3 .read) (i .0))
     where
       is-shard : (q : Part) → isShard q ≡ true → q ≡ Shard
       is-shard Shard e = refl

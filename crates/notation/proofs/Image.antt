@@ -12,8 +12,8 @@ use Rattle.card.specs.Lists.{padded}
 use Rattle.card.specs.Card.{none}
 use Rattle.card.specs.declared.Iter.{Iter}
 use Rattle.card.specs.declared.Iters.{Iters}
-use Rattle.notation.specs.Text.{axisMeant, Lists, Notation, Correct}
-use Rattle.notation.specs.Meaning.{valueOf, isMarked, markOf, itersSaid, listOf, laid, noOffset, layoutOf}
+use Rattle.notation.specs.Text.{axisMeant, Lists, Notation, Correct, isMarked}
+use Rattle.notation.specs.Meaning.{valueOf, markOf, itersSaid, listOf, laid, noOffset, layoutOf}
 use Rattle.notation.specs.Machine.{digitOf, continues, initialOf, letter, most, leastAxis, parens, isShard, go, stepOf, listMove, follow, phaseMove, moved, inOffset, isStuck, isWhole, ending, lastEvent, adds, nextSpot, readerOf, firstReader, nextReader, moveOf, endsWell, refusedAt, concluded, enter, stepped, start, runs, recorded, extentAdded, stepAdded, addExtent, addStep, Seen, spotOf, noLists, here, said, withExtent, withStep, asPart, seeing, State}
 use Rattle.notation.specs.declared.Layout.{Layout}
 use Rattle.notation.specs.declared.Phase.{Phase}

@@ -8,6 +8,7 @@ pub mod Live
 pub mod Run
 pub mod Image
 pub mod Theorems
+pub mod Carried
 pub mod Back
 pub mod InNumbers
 pub mod Long

@@ -4,9 +4,22 @@ use mathlib.Core.Path.{_≡_, refl, sym, ap, _∙_}
 use mathlib.Core.Bool.{Bool, true, false, cond, _&&_, and-eq-true-iff}
 use mathlib.Core.List.{List, [], _∷_, _++_, append-nil, append-assoc, map}
 use native.Mathlib.Omega.{arith}
+use lib.Dec.{eqb, ltb}
 use lib.ListN.{length}
-use Rattle.notation.specs.Text.{tails, joined, axisMeant, spellStep, spellOffsets, Each, Rising}
+use Rattle.notation.specs.Quoted.{quotedBytes}
+use Rattle.notation.specs.Text.{tails, joined, axisMeant, spellStep, Lists, spellLists, spellOffsets, Each, Rising}
 use Rattle.notation.specs.declared.Step.{Step}
+
+-- more than one, and none
+abbrev pub several : List ℕ → Bool
+several es = ltb 1 (length es)
+
+abbrev pub isNone : List ℕ → Bool
+isNone es = eqb (length es) 0
+
+-- the replica where there is one
+abbrev pub spellSome : Lists → List ℕ
+spellSome l = quotedBytes "+R[" ++ (spellLists (several (l .extents)) l ++ quotedBytes "]")
 
 -- a case of a test
 pub pick : {A : Type 0} (P : A → Type 0) (t : Bool) {x y : A} → (t ≡ true → P x) → (t ≡ false → P y) → P (cond t x y)
@@ -35,14 +48,14 @@ pub lead-snoc : (ts : List (List ℕ)) (t : List ℕ) → lead (ts ++ (t ∷ [])
 lead-snoc [] t = refl
 lead-snoc (u ∷ ts) t = ap (λ (l : List ℕ). u ++ (44 ∷ l)) (lead-snoc ts t) ∙ sym (append-assoc u (44 ∷ lead ts) (t ++ (44 ∷ [])))
 
-tails-mid : (ts : List (List ℕ)) (t : List ℕ) (us : List (List ℕ)) → tails (ts ++ (t ∷ us)) ≡ 44 ∷ (lead ts ++ (t ++ tails us))
+tails-mid : (ts : List (List ℕ)) (t : List ℕ) (us : List (List ℕ)) → tails (quotedBytes ",") (ts ++ (t ∷ us)) ≡ 44 ∷ (lead ts ++ (t ++ tails (quotedBytes ",") us))
 tails-mid [] t us = refl
-tails-mid (u ∷ ts) t us = ap (λ (l : List ℕ). 44 ∷ (u ++ l)) (tails-mid ts t us) ∙ ap (λ (l : List ℕ). 44 ∷ l) (sym (append-assoc u (44 ∷ lead ts) (t ++ tails us)))
+tails-mid (u ∷ ts) t us = ap (λ (l : List ℕ). 44 ∷ (u ++ l)) (tails-mid ts t us) ∙ ap (λ (l : List ℕ). 44 ∷ l) (sym (append-assoc u (44 ∷ lead ts) (t ++ tails (quotedBytes ",") us)))
 
 -- a list around one of its texts
-pub joined-mid : (ts : List (List ℕ)) (t : List ℕ) (us : List (List ℕ)) → joined (ts ++ (t ∷ us)) ≡ lead ts ++ (t ++ tails us)
+pub joined-mid : (ts : List (List ℕ)) (t : List ℕ) (us : List (List ℕ)) → joined (quotedBytes ",") (ts ++ (t ∷ us)) ≡ lead ts ++ (t ++ tails (quotedBytes ",") us)
 joined-mid [] t us = refl
-joined-mid (u ∷ ts) t us = ap (λ (l : List ℕ). u ++ l) (tails-mid ts t us) ∙ sym (append-assoc u (44 ∷ lead ts) (t ++ tails us))
+joined-mid (u ∷ ts) t us = ap (λ (l : List ℕ). u ++ l) (tails-mid ts t us) ∙ sym (append-assoc u (44 ∷ lead ts) (t ++ tails (quotedBytes ",") us))
 
 pub offsets-mid : (ss : List Step) (s : Step) → spellOffsets (ss ++ (s ∷ [])) ≡ spellOffsets ss ++ (43 ∷ spellStep s)
 offsets-mid [] s = append-nil (43 ∷ spellStep s)

@@ -7,7 +7,7 @@ use native.Mathlib.Omega.{arith}
 use lib.ListN.{length, length-append}
 use lib.Dec.{eqb}
 use borrow.Author.Tests.{lt-ltb, le-ltb, le-leb, lt-leb, eq-eqb, ne-eqb, eqb-true, eqb-false}
-use Rattle.notation.specs.Text.{decimal, name, axisMeant, spellPlace, spellSigned, spellStep, Lists, spellShard, spellReplica, spellOffsets, Notation, spell, Short, Each, Sound, NoStar, Plain, Rising, Limits, Within, Correct}
+use Rattle.notation.specs.Text.{decimal, name, axisMeant, spellPlace, spellSigned, spellStep, Lists, spellShard, spellReplica, spellOffsets, Notation, spell, Short, Each, Sound, isMarked, Plain, Rising, Limits, Within, Correct}
 use Rattle.notation.specs.Machine.{letter, most, leastAxis, parens, isShard, inOffset, go, withNumber, withSign, withAxis, stepOf, follow, isStuck, Seen, spotOf, noLists, said, withExtent, withStep, asPart, State, stateAt, enter, stepped}
 use Rattle.notation.specs.Beginning.{Begins}
 use Rattle.notation.specs.declared.Phase.{Phase}
@@ -107,12 +107,12 @@ piece-begins q place p s x Offset e f h i g low =
 size-begins : (p : Piece) (s : Seen) (x : List ℕ) → Shape Size p s x → Begins Correct x
 size-begins p s x i =
     piece-begins Size Bare p s x (s .part) refl (size-follows p s) i (record { before = i .1 .before; read = i .1 .read ∙ ap (λ (l : List ℕ). front (s .part) s ++ l) (sym (append-nil (sign p))) })
-    (λ _. ((i .0 .0, i .0 .1, omega arith), tt)) (from-low s (s .part) (i .1 .before))
+    (λ _. ((i .0 .0, i .0 .1, omega arith), refl)) (from-low s (s .part) (i .1 .before))
 
 named-begins : (p : Piece) (s : Seen) (x : List ℕ) → Shape Named p s x → Begins Correct x
 named-begins p s x i =
     piece-begins Named (OnAxis (p .axis)) p s x (s .part) refl
-    (record { on44 = decides Named 0 p s 44 refl; on41 = decides Named 0 p s 41 refl; on93 = decides Named 0 p s 93 refl }) i (i .3) (λ _. ((i .2 .0, i .2 .1, i .1), tt)) (i .0)
+    (record { on44 = decides Named 0 p s 44 refl; on41 = decides Named 0 p s 41 refl; on93 = decides Named 0 p s 93 refl }) i (i .3) (λ _. ((i .2 .0, i .2 .1, i .1), refl)) (i .0)
 
 starred-begins : (p : Piece) (s : Seen) (x : List ℕ) → Shape Starred p s x → Begins Correct x
 starred-begins p s x i =

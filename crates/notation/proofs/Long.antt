@@ -21,14 +21,15 @@ use Rattle.card.proofs.ReadBack.{OfEight}
 use Rattle.card.specs.declared.Iter.{Iter}
 use Rattle.card.specs.declared.Card.{Card}
 use Rattle.card.specs.declared.Admission.the-variants.{Admitted}
-use Rattle.notation.specs.Text.{digits, decimal, name, axisMeant, spellPlace, spellSigned, spellStep, tails, joined, enclosed, Lists, spellLists, spellShard, several, spellSome, isNone, spellReplica, spellOffsets, Notation, spell, Each, Sound, NoStar, Plain, Rising, Limits, Within, Correct}
+use Rattle.notation.specs.Quoted.{quotedBytes}
+use Rattle.notation.specs.Text.{digits, decimal, name, axisMeant, spellPlace, spellSigned, spellStep, tails, joined, enclosed, Lists, spellLists, spellShard, spellReplica, spellOffsets, Notation, spell, Each, Sound, isMarked, Plain, Rising, Limits, Within, Correct}
 use Rattle.notation.specs.Beginning.{Begins}
 use Rattle.notation.specs.Writing.{stepFor, stepsFor, writtenAs, textOf, writtenAnswer, writeNumbers}
 use Rattle.notation.specs.declared.NamedAxis.{NamedAxis}
 use Rattle.notation.specs.declared.NamedAxis.the-variants.{Bare, At, Marked}
 use Rattle.notation.specs.declared.Step.{Step}
 use Rattle.notation.specs.declared.Written.{Written}
-use Rattle.notation.proofs.Lists.{pick}
+use Rattle.notation.proofs.Lists.{pick, several, isNone, spellSome}
 use Rattle.notation.proofs.InNumbers.{write-in-numbers}
 use Rattle.notation.proofs.Back.{axis-back, numbers, written-within}
 
@@ -86,10 +87,10 @@ place-length Bare h = omega arith
 place-length (At axis) h = omega (arith, room-spent axis h .1)
 place-length (Marked axis) h = omega (arith, length-append (name axis) (42 ∷ []), room-spent axis h .1)
 
-plain-place : (p : NamedAxis) → NoStar p → length (spellPlace p) ≤ length (name (axisMeant p)) + 1
+plain-place : (p : NamedAxis) → isMarked p ≡ false → length (spellPlace p) ≤ length (name (axisMeant p)) + 1
 plain-place Bare u = omega arith
 plain-place (At axis) u = omega arith
-plain-place (Marked axis) u = absurd u
+plain-place (Marked axis) u = absurd (true≢false u)
 
 step-length : (s : Step) → length (spellStep s) ≤ length (spellPlace (s .place)) + 6
 step-length s = omega (arith, length-append (spellSigned (s .negative) (s .size)) (spellPlace (s .place)), signed-length (s .negative) (s .size))
@@ -99,17 +100,17 @@ module _ {A : Type 0} (f : A → List ℕ) (most : ℕ) where
   abbrev pub Brief : A → Type 0
   Brief x = length (f x) ≤ most
 
-  tails-length : (l : List A) → Each Brief l → length (tails (map f l)) ≤ (most + 1) * length l
+  tails-length : (l : List A) → Each Brief l → length (tails (quotedBytes ",") (map f l)) ≤ (most + 1) * length l
   tails-length [] b = omega arith
-  tails-length (x ∷ l) b = omega (arith, length-append (f x) (tails (map f l)), b .0, tails-length l (b .1), mul-suc (most + 1) (length l))
+  tails-length (x ∷ l) b = omega (arith, length-append (f x) (tails (quotedBytes ",") (map f l)), b .0, tails-length l (b .1), mul-suc (most + 1) (length l))
 
-  joined-length : (l : List A) → Each Brief l → length (joined (map f l)) ≤ (most + 1) * length l - 1
+  joined-length : (l : List A) → Each Brief l → length (joined (quotedBytes ",") (map f l)) ≤ (most + 1) * length l - 1
   joined-length [] b = omega arith
-  joined-length (x ∷ l) b = omega (arith, length-append (f x) (tails (map f l)), b .0, tails-length l (b .1), mul-suc (most + 1) (length l))
+  joined-length (x ∷ l) b = omega (arith, length-append (f x) (tails (quotedBytes ",") (map f l)), b .0, tails-length l (b .1), mul-suc (most + 1) (length l))
 
   enclosed-length : (paren : Bool) (l : List A) → Each Brief l → length (enclosed paren (map f l)) ≤ (most + 1) * length l - 1 + 2
-  enclosed-length true l b = omega (arith, length-append (joined (map f l)) (41 ∷ []), joined-length l b)
-  enclosed-length false l b = omega (arith, length-append (joined (map f l)) [], joined-length l b)
+  enclosed-length true l b = omega (arith, length-append (joined (quotedBytes ",") (map f l)) (41 ∷ []), joined-length l b)
+  enclosed-length false l b = omega (arith, length-append (joined (quotedBytes ",") (map f l)) [], joined-length l b)
 
 brief : {A : Type 0} (P Q : A → Type 0) → ((x : A) → P x → Q x) → (l : List A) → Each P l → Each Q l
 brief P Q g [] e = tt

@@ -6,7 +6,7 @@ use mathlib.Core.List.{List, [], _∷_, _++_, append-nil, append-assoc}
 use native.Mathlib.Omega.{arith}
 use borrow.Author.Tests.{lt-ltb, le-ltb, le-leb, lt-leb, eq-eqb, ne-eqb}
 use lib.Dec.{leb, ltb, eqb}
-use Rattle.notation.specs.Text.{decimal, name, axisMeant, spellPlace, spellSigned, spellStep, Short, Sound, NoStar}
+use Rattle.notation.specs.Text.{decimal, name, axisMeant, spellPlace, spellSigned, spellStep, Short, Sound, isMarked}
 use Rattle.notation.specs.Machine.{digitOf, continues, initialOf, restOf, letter, isShard, inOffset, isWhole, go, withNumber, withSign, withAxis, stepOf, phaseMove, follow, moved, Seen, spotOf, said, withStep, asPart, State, stateAt, enter, stepped, ending, runs}
 use Rattle.notation.specs.declared.Phase.{Phase}
 use Rattle.notation.specs.declared.Phase.the-variants.{First, Extent, Begun, Minus, Size, At, Tee, Named, Starred, Closed, Plus, Opened, Ended, Stuck}
@@ -160,9 +160,9 @@ pub record After (r : State) (s : Seen) (t : Step) : Type 0 where
   pub paren : stepped r 41 ≡ enter s (follow (s .part) (t .place) piece (spotOf s) 41)
   pub bracket : stepped r 93 ≡ enter s (follow (s .part) (t .place) piece (spotOf s) 93)
   pub plus : stepped r 43 ≡ enter s (follow (s .part) (t .place) piece (spotOf s) 43)
-  pub whole : s .part ≡ Offset → NoStar (t .place) → Final r s t
+  pub whole : s .part ≡ Offset → isMarked (t .place) ≡ false → Final r s t
 
-pub step-run : (p : Piece) (s : Seen) (r₀ : State) → Starts p s r₀ → (t : Step) → Sound t → s .from ≤ axisMeant (t .place) → (isShard (s .part) ≡ false → NoStar (t .place))
+pub step-run : (p : Piece) (s : Seen) (r₀ : State) → Starts p s r₀ → (t : Step) → Sound t → s .from ≤ axisMeant (t .place) → (isShard (s .part) ≡ false → isMarked (t .place) ≡ false)
     → (r : State) × (runs stepped r₀ (spellStep t) ≡ r) × After r s t
 step-run p s r₀ o t sound low plain = by (t .place) (sound .2) low plain
   where
@@ -178,7 +178,7 @@ step-run p s r₀ o t sound low plain = by (t .place) (sound .2) low plain
     read : runs stepped r₀ (spellSigned n v) ≡ stateAt Size 0 p′ s
     read = signed-run p s r₀ o n v (sound .0) (sound .1)
 
-    by : (place : NamedAxis) → axisMeant place ≤ 7 → s .from ≤ axisMeant place → (isShard (s .part) ≡ false → NoStar place)
+    by : (place : NamedAxis) → axisMeant place ≤ 7 → s .from ≤ axisMeant place → (isShard (s .part) ≡ false → isMarked place ≡ false)
         → (r : State) × (runs stepped r₀ (spellSigned n v ++ spellPlace place) ≡ r) × After r s (record { negative = n; size = v; place = place })
     by Bare high l u = (
       stateAt Size 0 p′ s,
@@ -197,8 +197,8 @@ step-run p s r₀ o t sound low plain = by (t .place) (sound .2) low plain
         let q : Piece = withAxis p′ a in (
           stateAt Starred 0 q s,
           via r₀ (stateAt Size 0 p′ s) (spellSigned n v) (64 ∷ (name a ++ (42 ∷ []))) read
-              (via (stateAt Size 0 p′ s) (stateAt Named (m .0) q s) (64 ∷ name a) (42 ∷ []) (m .2) (decides Named (m .0) q s 42 (m .1) ∙ ap (enter s) (starred (s .part) u))),
-          record { piece = q; is = refl; comma = decides Starred 0 q s 44 refl; paren = decides Starred 0 q s 41 refl; bracket = decides Starred 0 q s 93 refl; plus = decides Starred 0 q s 43 refl; whole = λ _ z. absurd z },
+              (via (stateAt Size 0 p′ s) (stateAt Named (m .0) q s) (64 ∷ name a) (42 ∷ []) (m .2) (decides Named (m .0) q s 42 (m .1) ∙ ap (enter s) (starred (s .part) (λ e. true≢false (u e))))),
+          record { piece = q; is = refl; comma = decides Starred 0 q s 44 refl; paren = decides Starred 0 q s 41 refl; bracket = decides Starred 0 q s 93 refl; plus = decides Starred 0 q s 43 refl; whole = λ _ z. absurd (true≢false z) },
         )
       where
         starred : (part : Part) → (isShard part ≡ false → ⊥) → cond (isShard part) (go Starred 0 (withAxis p′ a) Same) (follow part (OnAxis a) (withAxis p′ a) (spotOf s) 42) ≡ go Starred 0 (withAxis p′ a) Same

@@ -8,8 +8,8 @@ use lib.ListN.{length, getD, set, replicate}
 use lib.IntN.{ℤ, pos}
 use Rattle.card.specs.Card.{none}
 use Rattle.card.specs.declared.Iters.{Iters}
-use Rattle.notation.specs.Text.{axisMeant, Lists, Notation}
-use Rattle.notation.specs.Meaning.{valueOf, isMarked}
+use Rattle.notation.specs.Text.{axisMeant, Lists, Notation, isMarked}
+use Rattle.notation.specs.Meaning.{valueOf, layoutOf}
 use Rattle.notation.specs.Promise.{noLayout}
 use Rattle.answers.specs.declared.Refusal.the-variants.{Notation as NotCorrect}
 use Rattle.notation.specs.declared.Layout.{Layout}
@@ -388,3 +388,11 @@ isEnd r = eqb (letter (r .owed)) 0 && isWhole (r .phase) (r .seen .part)
 -- and says this
 abbrev pub ending : State → Notation
 ending r = said (seeing (lastEvent (r .phase) (r .piece)) (r .piece) (r .seen))
+
+-- what the machine reads from a place on
+abbrev pub readFrom : State → ℕ → List ℕ → Reading
+readFrom r i [] = cond (isEnd r) (record { answer = Done; layout = layoutOf (ending r) }) (refusedAt i)
+readFrom r i (b ∷ t) = cond (isStuck (stepped r b .phase)) (refusedAt i) (readFrom (stepped r b) (i + 1) t)
+
+abbrev pub readRun : List ℕ → Reading
+readRun t = readFrom start 0 t

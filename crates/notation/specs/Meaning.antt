@@ -1,6 +1,6 @@
 -- What a text says of a card: its shard with its marks, its replica and its offset.
 use Prim.Native.Nat.{ℕ}
-use mathlib.Core.Bool.{Bool, true, false, cond}
+use mathlib.Core.Bool.{Bool, false, cond}
 use mathlib.Core.List.{List, [], _∷_, map}
 use lib.IntN.{ℤ, pos, negℤ}
 use lib.ListN.{length, set, replicate}
@@ -8,20 +8,13 @@ use Rattle.card.specs.Lists.{padded}
 use Rattle.card.specs.Card.{none}
 use Rattle.card.specs.declared.Iter.{Iter}
 use Rattle.card.specs.declared.Iters.{Iters}
-use Rattle.notation.specs.Text.{axisMeant, Lists, Notation}
-use Rattle.notation.specs.declared.NamedAxis.{NamedAxis}
-use Rattle.notation.specs.declared.NamedAxis.the-variants.{Bare, At, Marked}
+use Rattle.notation.specs.Text.{axisMeant, isMarked, Lists, Notation}
 use Rattle.notation.specs.declared.Step.{Step}
 use Rattle.notation.specs.declared.Layout.{Layout}
 
 -- a stride or an offset as a number
 abbrev pub valueOf : Step → ℤ
 valueOf s = cond (s .negative) (negℤ (pos (s .size))) (pos (s .size))
-
-abbrev pub isMarked : NamedAxis → Bool
-isMarked Bare = false
-isMarked (At axis) = false
-isMarked (Marked axis) = true
 
 abbrev pub itersSaid : List ℕ → List Step → List Iter
 itersSaid [] steps = []

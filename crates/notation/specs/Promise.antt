@@ -26,6 +26,18 @@ noIters = record { at = replicate 8 none; count = 0 }
 abbrev pub noLayout : Layout
 noLayout = record { shard = noIters; marks = replicate 8 false; replica = noIters; offset = replicate 8 (pos 0) }
 
+-- what reading promises: the layout that a correct text says; else refusal 18, where a is the length of the longest beginning that some correct text also
+-- has, and a record of zeros
+pub record ReadSays (text : List ℕ) (r : Reading) : Type 0 where
+  pub correct : (c : Correct text) → r ≡ record { answer = Done; layout = layoutOf (c .says) }
+  pub wrong : (a : ℕ) → Refused Correct text a → r ≡ record { answer = NotRead (NotCorrect a); layout = noLayout }
+
+-- at number 0 the details of a reading are zero: its layout stands beside it
+abbrev pub readNumbers : Read → Numbers
+readNumbers Done = answer 0 0 0 0
+readNumbers (NotRead refusal) = refusalNumbers refusal
+
+-- The same by cases of the answer, for the crates above; nothing from here on has to be believed.
 -- accepted exactly when the text is correct, with the layout that it says
 pub record Accepted (text : List ℕ) (layout : Layout) : Type 0 where
   pub correct : Correct text
@@ -44,8 +56,3 @@ Comes (NotRead refusal) text layout = NotAccepted text refusal layout
 
 abbrev pub Answered : List ℕ → Reading → Type 0
 Answered text r = Comes (r .answer) text (r .layout)
-
--- at number 0 the details of a reading are zero: its layout stands beside it
-abbrev pub readNumbers : Read → Numbers
-readNumbers Done = answer 0 0 0 0
-readNumbers (NotRead refusal) = refusalNumbers refusal

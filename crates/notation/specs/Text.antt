@@ -3,7 +3,7 @@ use Prim.Native.Nat.{ℕ, zero, suc, _+_, _/_, _%_, _≤_, _<_}
 use mathlib.Core.Path.{_≡_}
 use mathlib.Core.Bool.{Bool, true, false, cond}
 use mathlib.Core.List.{List, [], _∷_, _++_, map}
-use lib.Dec.{ltb}
+use lib.Dec.{eqb, ltb}
 use lib.ListN.{length, getD}
 use Rattle.notation.specs.Quoted.{quotedBytes}
 use Rattle.notation.specs.declared.NamedAxis.{NamedAxis}
@@ -44,14 +44,14 @@ spellSigned negative size = cond negative (quotedBytes "-") [] ++ decimal size
 abbrev pub spellStep : Step → List ℕ
 spellStep s = spellSigned (s .negative) (s .size) ++ spellPlace (s .place)
 
--- parted by commas
-abbrev pub tails : List (List ℕ) → List ℕ
-tails [] = []
-tails (t ∷ ts) = quotedBytes "," ++ (t ++ tails ts)
+-- parted by commas, or by something else
+abbrev pub tails : List ℕ → List (List ℕ) → List ℕ
+tails part [] = []
+tails part (t ∷ ts) = part ++ (t ++ tails part ts)
 
-abbrev pub joined : List (List ℕ) → List ℕ
-joined [] = []
-joined (t ∷ ts) = t ++ tails ts
+abbrev pub joined : List ℕ → List (List ℕ) → List ℕ
+joined part [] = []
+joined part (t ∷ ts) = t ++ tails part ts
 
 -- with parentheses or without
 abbrev pub openingBytes : Bool → List ℕ
@@ -61,7 +61,7 @@ abbrev pub closing : Bool → List ℕ
 closing paren = cond paren (quotedBytes ")") []
 
 abbrev pub enclosed : Bool → List (List ℕ) → List ℕ
-enclosed paren ts = openingBytes paren ++ (joined ts ++ closing paren)
+enclosed paren ts = openingBytes paren ++ (joined (quotedBytes ",") ts ++ closing paren)
 
 -- extents, `:`, strides
 pub record Lists : Type 0 where
@@ -76,20 +76,8 @@ abbrev pub spellShard : Lists → List ℕ
 spellShard l = quotedBytes "S[" ++ (spellLists true l ++ quotedBytes "]")
 
 -- nothing, or +R[..]: a single iter is bare
-abbrev pub several : List ℕ → Bool
-several [] = false
-several (e ∷ []) = false
-several (e ∷ f ∷ es) = true
-
-abbrev pub spellSome : Lists → List ℕ
-spellSome l = quotedBytes "+R[" ++ (spellLists (several (l .extents)) l ++ quotedBytes "]")
-
-abbrev pub isNone : List ℕ → Bool
-isNone [] = true
-isNone (e ∷ es) = false
-
 abbrev pub spellReplica : Lists → List ℕ
-spellReplica l = cond (isNone (l .extents)) [] (spellSome l)
+spellReplica l = cond (eqb (length (l .extents)) 0) [] (quotedBytes "+R[" ++ (spellLists (ltb 1 (length (l .extents))) l ++ quotedBytes "]"))
 
 -- each after a `+`
 abbrev pub spellOffsets : List Step → List ℕ
@@ -116,13 +104,13 @@ Each P (a ∷ l) = P a × Each P l
 abbrev pub Sound : Step → Type 0
 Sound s = Short (s .size) × (s .negative ≡ true → 1 ≤ s .size) × (axisMeant (s .place) ≤ 7)
 
-abbrev pub NoStar : NamedAxis → Type 0
-NoStar Bare = Unit {0}
-NoStar (At axis) = Unit {0}
-NoStar (Marked axis) = ⊥
+abbrev pub isMarked : NamedAxis → Bool
+isMarked Bare = false
+isMarked (At axis) = false
+isMarked (Marked axis) = true
 
 abbrev pub Plain : Step → Type 0
-Plain s = Sound s × NoStar (s .place)
+Plain s = Sound s × (isMarked (s .place) ≡ false)
 
 -- the axes rise
 abbrev pub Rising : ℕ → List Step → ℕ → Type 0

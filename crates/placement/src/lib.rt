@@ -12,7 +12,7 @@ ghost use Prim.Native.Nat.{_≤_, _<_};
 ghost use lib.ListN.{length, take};
 ghost use Rattle.card.specs.Packed.{beyond, cardOf, Whole, Admits};
 ghost use Rattle.card.specs.Card.{copies};
-ghost use Rattle.placement_judged.specs.Placement.{shapeAdmitted, Placing, placementNumbers};
+ghost use Rattle.placement_judged.specs.Placement.{shapeAdmitted, PlacementSays, Placing, placementNumbers};
 ghost use Rattle.placement.specs.Contracts.{Shaped, element, Placed};
 
 // The most dimensions of a shape.
@@ -145,7 +145,7 @@ pub fn place_packed(
 
 // The placement of one element of any card: one cell number per replica combination.
 pub fn place(card: Card, shape: Tuple, coordinates: Tuple, memory: &mut [u32]) -> Placement
-    ensures { λ r. ⌜ Placing card shape coordinates (now (memory .entry)) (now (memory .exit)) r ⌝ }
+    ensures { λ r. ⌜ PlacementSays card shape coordinates (now (memory .entry)) (now (memory .exit)) r ⌝ }
 {
     let packed = card_packed::pack(card);
     let numbers = packed.numbers;

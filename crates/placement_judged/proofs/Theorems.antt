@@ -31,8 +31,8 @@ use Rattle.rules.proofs.Filling.{cells-length, cells-at, outside-least}
 use Rattle.rules.proofs.Theorems.{OneToOne, one-to-one, same-spot}
 use Rattle.idle.specs.Idle.{IdlePair}
 use Rattle.idle.specs.Admission.{fullAdmission}
-use Rattle.idle.proofs.Theorems.{idle-exactly, AfterAdmission, after-admission, past-the-count-idle}
-use Rattle.placement_judged.specs.Placement.{entries, mostDimensions, shapeAdmitted, coordinatesFit, flatten, elementAnswer, afterAdmission, placementAnswer, written, placementMemory, placementNumbers, Placing}
+use Rattle.idle.proofs.Theorems.{checks-from-run, run-from-checks, idle-exactly, AfterAdmission, after-admission, past-the-count-idle}
+use Rattle.placement_judged.specs.Placement.{entries, mostDimensions, shapeAdmitted, coordinatesFit, flatten, elementAnswer, afterAdmission, placementAnswer, written, placementMemory, placementNumbers, PlacementSays, Placing}
 use Rattle.placement_judged.specs.declared.Tuple.{Tuple}
 use Rattle.placement_judged.specs.declared.Placement.{Placement}
 use Rattle.placement_judged.specs.declared.Placement.the-variants.{Copies, Refused}
@@ -49,10 +49,29 @@ flatten-below shape coordinates n admitted fits =
     let within = and-eq-true-iff (eqb (coordinates .count) (shape .count)) (inside (entries shape) (entries coordinates)) .0 fits .1 in
     omega (arith, all, flatten-one-to-one shape .below (entries coordinates) within)
 
+-- what is promised by the pair is what is promised by the run
+pub placement-exactly : (card : Card) (shape coordinates : Tuple) (before after : List ℕ) (p : Placement)
+    → PlacementSays card shape coordinates before after p ↔ Placing card shape coordinates before after p
+unfolding placementAnswer placementMemory
+placement-exactly card shape coordinates before after p = (
+  λ k. by-run (run-from-checks card k) (fullAdmission card) refl,
+  λ placing.
+      checks-from-run card (λ refusal e. (placing .answer-is ∙ rw e refl, placing .memory-is ∙ rw e refl))
+      (λ e. (placing .answer-is ∙ rw e refl, placing .memory-is ∙ rw (sym (placing .answer-is)) refl)),
+)
+  where
+    by-run : ((refusal : Refusal) → fullAdmission card ≡ NoCard refusal → (p ≡ Refused refusal) × (after ≡ before))
+        × (fullAdmission card ≡ Admitted → (p ≡ elementAnswer card shape coordinates (length before)) × (after ≡ written p (copyCells card (flatten shape coordinates)) before))
+        → (a : Admission) → fullAdmission card ≡ a → Placing card shape coordinates before after p
+    by-run k Admitted e = let so = k .1 e in record { answer-is = so .0 ∙ rw e refl; memory-is = so .1 ∙ rw (so .0, e) refl }
+    by-run k (NoCard refusal) e = let so = k .0 refusal e in record { answer-is = so .0 ∙ rw e refl; memory-is = so .1 ∙ rw e refl }
+
 -- two outcomes that the promise of a placement allows are equal, in the answer and in every entry of the lent memory
 pub placement-settled : (card : Card) (shape coordinates : Tuple) (before m n : List ℕ) (p q : Placement)
-    → Placing card shape coordinates before m p → Placing card shape coordinates before n q → (p ≡ q) × (m ≡ n)
-placement-settled card shape coordinates before m n p q a b =
+    → PlacementSays card shape coordinates before m p → PlacementSays card shape coordinates before n q → (p ≡ q) × (m ≡ n)
+placement-settled card shape coordinates before m n p q h k =
+    let a = placement-exactly card shape coordinates before m p .0 h in
+    let b = placement-exactly card shape coordinates before n q .0 k in
     (a .answer-is ∙ sym (b .answer-is), a .memory-is ∙ sym (b .memory-is))
 
 -- pinning the numbers pins the answer

@@ -16,7 +16,7 @@ use Rattle.card.specs.declared.Admission.the-variants.{Admitted, Refused as NoC
 use Rattle.rules.specs.RowMajor.{rowMajor, inside}
 use Rattle.rules.specs.Rules.{axes}
 use Rattle.rules.specs.Copies.{copyCells, outsideAxis}
-use Rattle.idle.specs.Admission.{fullAdmission}
+use Rattle.idle.specs.Admission.{FullChecks, fullAdmission}
 use Rattle.placement_judged.specs.declared.Tuple.{Tuple}
 use Rattle.placement_judged.specs.declared.Placement.{Placement}
 use Rattle.placement_judged.specs.declared.Placement.the-variants.{Copies, Refused}
@@ -50,6 +50,23 @@ elementAnswer card shape coordinates room =
     (Refused (CopyOutside (record { 0 = flatten shape coordinates }) (outsideAxis card (flatten shape coordinates))))
     (Copies (copies card)))))
 
+-- the lent memory: the cells of the copies, entries past the last as they were; a refusal touches nothing
+abbrev pub written : Placement → List ℕ → List ℕ → List ℕ
+written (Copies n) cells before = cells ++ drop n before
+written (Refused refusal) cells before = before
+
+-- what the placement of one element promises of its answer and of the lent memory before and after
+abbrev pub PlacementSays : Card → Tuple → Tuple → List ℕ → List ℕ → Placement → Type 0
+PlacementSays card shape coordinates before after placement =
+    FullChecks card (λ refusal. (placement ≡ Refused refusal) × (after ≡ before))
+    ((placement ≡ elementAnswer card shape coordinates (length before)) × (after ≡ written placement (copyCells card (flatten shape coordinates)) before))
+
+-- at number 0 the copies
+abbrev pub placementNumbers : Placement → Numbers
+placementNumbers (Copies n) = answer 0 n 0 0
+placementNumbers (Refused refusal) = refusalNumbers refusal
+
+-- The same by the run of the checks, for the crates above; nothing from here on has to be believed.
 abbrev pub afterAdmission : Admission → Placement → Placement
 afterAdmission Admitted placement = placement
 afterAdmission (NoCard refusal) placement = Refused refusal
@@ -58,21 +75,10 @@ afterAdmission (NoCard refusal) placement = Refused refusal
 unfoldable pub placementAnswer : Card → Tuple → Tuple → ℕ → Placement
 placementAnswer card shape coordinates room = afterAdmission (fullAdmission card) (elementAnswer card shape coordinates room)
 
--- the lent memory: the cells of the copies, entries past the last as they were; a refusal touches nothing
-abbrev pub written : Placement → List ℕ → List ℕ → List ℕ
-written (Copies n) cells before = cells ++ drop n before
-written (Refused refusal) cells before = before
-
 unfoldable pub placementMemory : Card → Tuple → Tuple → List ℕ → List ℕ
 placementMemory card shape coordinates before =
     written (placementAnswer card shape coordinates (length before)) (copyCells card (flatten shape coordinates)) before
 
--- what the placement of one element promises of its answer and of the lent memory before and after
 pub record Placing (card : Card) (shape coordinates : Tuple) (before after : List ℕ) (placement : Placement) : Type 0 where
   pub answer-is : placement ≡ placementAnswer card shape coordinates (length before)
   pub memory-is : after ≡ placementMemory card shape coordinates before
-
--- at number 0 the copies
-abbrev pub placementNumbers : Placement → Numbers
-placementNumbers (Copies n) = answer 0 n 0 0
-placementNumbers (Refused refusal) = refusalNumbers refusal

@@ -21,7 +21,9 @@ use Rattle.card.specs.Admission.{spaceFits}
 use Rattle.card.specs.declared.Card.{Card}
 use Rattle.claims.specs.Claims.{occupied}
 use Rattle.judgement.specs.Judgement.{Judgement, NotAdmitted, NoRoom, OutsideAt, Clashing, Passed, ComesTo}
+use Rattle.judgement.specs.Plain.{VerdictSays}
 use Rattle.judgement.specs.Verdict.{verdictOf, tableAfter, VerdictPromise}
+use Rattle.judgement.proofs.Plain.{verdict-exactly}
 use Rattle.judgement.specs.Run.{judge}
 use Rattle.judgement.specs.declared.Verdict.{Verdict}
 use Rattle.judgement.specs.declared.Verdict.the-variants.{Approved, Refused as NotApproved}
@@ -40,7 +42,10 @@ cells-whole lengths n eight fits e =
     let whole : n ≡ min (product lengths) beyond = e ∙ ap (λ (l : List ℕ). min (product l) beyond) (take-whole 8 lengths eight) in
     omega arith
 
-module _ {one : Card} (two : Card) {first : List ℕ} (second : List ℕ) {after : List ℕ} {v : Verdict} (w : VerdictPromise one first after v) where
+module _ {one : Card} (two : Card) {first : List ℕ} (second : List ℕ) {after : List ℕ} {v : Verdict} (says : VerdictSays one first after v) where
+  w : VerdictPromise one first after v
+  w = verdict-exactly one first after v .0 says
+
   -- both verdicts, where the first approves
   pub both-judged : {after-other : List ℕ} {p : Pairing} {n o c : ℕ} → v ≡ Approved n o c → OtherPromise one two n second after-other p
       → BothPromise one two first second after after-other p

@@ -12,7 +12,9 @@ use lib.ListN.{length, getD, take, drop, length-take, drop-of-length-le}
 use lib.Seq.{drop-cons, getD-take}
 use Rattle.card.specs.Lists.{same}
 use Rattle.card.specs.declared.Card.{Card}
-use Rattle.judgement.specs.Verdict.{verdictOf, VerdictPromise}
+use Rattle.judgement.specs.Plain.{VerdictSays}
+use Rattle.judgement.specs.Verdict.{verdictOf}
+use Rattle.judgement.proofs.Plain.{verdict-exactly}
 use Rattle.judgement.specs.declared.Verdict.{Verdict}
 use Rattle.plans_judged.specs.Pair.{anyMark, marked}
 use Rattle.plans_second.specs.Contracts.{pairedBy, OtherPromise}
@@ -69,11 +71,13 @@ not-below-both k n m e = split (ltb k n) (ltb k m) refl refl e
     split false b f g e = omega (arith, ltb-false k n f)
 
 -- the second verdict
-pub other-judged : {one two : Card} {n : ℕ} {second after : List ℕ} {v : Verdict} {p : Pairing} → VerdictPromise two second after v → (a b : Bool)
+pub other-judged : {one two : Card} {n : ℕ} {second after : List ℕ} {v : Verdict} {p : Pairing} → VerdictSays two second after v → (a b : Bool)
     → a ≡ marked one → b ≡ marked two → p ≡ pairedBy v (a || b) n → OtherPromise one two n second after p
-other-judged {one} {two} {n} {second} {after} {v} {p} w a b ea eb e = record {
-  other = w .judgement;
-  comes-other = w .comes;
-  answers = e ∙ ap (λ (u : Verdict). pairedBy u (a || b) n) (w .answers) ∙ ap₂ (λ (x y : Bool). pairedBy (verdictOf two (w .judgement)) (x || y) n) ea eb;
-  leaves-other = w .leaves;
-}
+other-judged {one} {two} {n} {second} {after} {v} {p} says a b ea eb e =
+    let w = verdict-exactly two second after v .0 says in
+    record {
+      other = w .judgement;
+      comes-other = w .comes;
+      answers = e ∙ ap (λ (u : Verdict). pairedBy u (a || b) n) (w .answers) ∙ ap₂ (λ (x y : Bool). pairedBy (verdictOf two (w .judgement)) (x || y) n) ea eb;
+      leaves-other = w .leaves;
+    }

@@ -10,7 +10,7 @@ ghost use mathlib.Core.Path.{_≡_};
 ghost use lib.IntN.{pos};
 ghost use lib.ListN.{replicate};
 ghost use Rattle.notation.specs.declared.Read.the-variants.{Done};
-ghost use Rattle.notation.specs.Promise.{noIters, noLayout, Answered, readNumbers};
+ghost use Rattle.notation.specs.Promise.{noIters, noLayout, ReadSays, readNumbers};
 ghost use Rattle.notation.specs.Machine.{refusedAt};
 ghost use Rattle.reading.specs.Parts.{OffsetsAnswered, ReplicaAnswered, SeveralAnswered, SingleAnswered, PlusAnswered};
 
@@ -187,7 +187,7 @@ fn after_plus(text: &[u8], from: usize, layout: Layout) -> Reading
 
 // Reads a text: the layout that it says, or the length of its longest beginning.
 pub fn read(text: &[u8]) -> Reading
-    ensures { λ r. ⌜ Answered (now (text .entry)) r ⌝ }
+    ensures { λ r. ⌜ ReadSays (now (text .entry)) r ⌝ }
 {
     let open = reading_tokens::word(text, 0, OPEN, 0);
     if !open.fits {

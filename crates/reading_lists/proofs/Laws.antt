@@ -11,9 +11,9 @@ use lib.IntN.{ℤ, pos}
 use lib.ListN.{length, getD, set, replicate}
 use Rattle.card.specs.declared.Iter.{Iter}
 use Rattle.card.specs.declared.Iters.{Iters}
-use Rattle.notation.specs.Text.{axisMeant}
+use Rattle.notation.specs.Text.{axisMeant, isMarked}
 use Rattle.card.specs.Card.{none}
-use Rattle.notation.specs.Meaning.{valueOf, isMarked}
+use Rattle.notation.specs.Meaning.{valueOf}
 use Rattle.notation.specs.Promise.{Answered, noIters}
 use Rattle.notation.specs.Machine.{digitOf, continues, most, leastAxis, parens, isShard, inOffset, after, go, withNumber, stepOf, listMove, follow, moveOf, recorded, addExtent, addStep, extentAdded, isStuck, stuck, refusedAt, endsWell, lastEvent}
 use Rattle.notation.specs.declared.Layout.{Layout}

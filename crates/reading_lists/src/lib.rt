@@ -9,9 +9,9 @@ ghost use mathlib.Core.Bool.{cond, false};
 ghost use Prim.Native.Nat.{_<_, _≤_};
 ghost use lib.IntN.{pos, negℤ};
 ghost use lib.ListN.{replicate};
-ghost use Rattle.notation.specs.Text.{axisMeant};
+ghost use Rattle.notation.specs.Text.{axisMeant, isMarked};
 ghost use Rattle.card.specs.Card.{none};
-ghost use Rattle.notation.specs.Meaning.{valueOf, isMarked};
+ghost use Rattle.notation.specs.Meaning.{valueOf};
 ghost use Rattle.reading_lists.specs.Lists.{ExtentsFrom, Paced, Listed, Singled, Offsets};
 
 // The places of what stands between two lists and of what closes them among the words of `reading_letters::expected`.

@@ -7,8 +7,8 @@ use mathlib.Core.List.{List}
 use lib.Dec.{leb, ltb}
 use lib.ListN.{length, getD, take}
 use Rattle.notation.specs.Promise.{Answered}
-use Rattle.notation.specs.Text.{axisMeant}
-use Rattle.notation.specs.Meaning.{isMarked, layoutOf}
+use Rattle.notation.specs.Text.{axisMeant, isMarked}
+use Rattle.notation.specs.Meaning.{layoutOf}
 use Rattle.notation.specs.Machine.{digitOf, continues, letter, go, withNumber, withSign, withAxis, stepOf, isShard, inOffset, begunMove, follow, lastEvent, moveOf, nextSpot, adds, isStuck, endsWell, refusedAt, readerOf, runs, stepped, start, said}
 use Rattle.notation.specs.declared.Layout.{Layout}
 use Rattle.notation.specs.declared.Phase.{Phase}

@@ -13,6 +13,8 @@ use Rattle.answers.specs.Refusals.{refusalNumbers}
 use Rattle.answers.specs.declared.Refusal.{Refusal}
 use Rattle.answers.specs.declared.Refusal.the-variants.{TooShort}
 use Rattle.notation.specs.Text.{decimal}
+use Rattle.notation.specs.Quoted.{quotedBytes}
+use Rattle.notation.specs.Machine.{readRun}
 use Rattle.notation.specs.Promise.{Comes, Answered, readNumbers}
 use Rattle.notation.specs.Machine.{stepped, moved}
 use Rattle.notation.specs.Writing.{textOf, writtenAnswer}
@@ -21,27 +23,26 @@ use Rattle.notation.specs.declared.Read.{Read}
 use Rattle.notation.specs.declared.Read.the-variants.{Done, Refused as NotRead}
 use Rattle.notation.specs.declared.Reading.{Reading}
 use Rattle.notation.specs.declared.Written.the-variants.{Length, Refused}
-use Rattle.sheet_notation.specs.Run.{textBytes, readRun}
 use Rattle.sheet_notation.specs.Loads.{Wrong, wrongTexts, Right, right, layoutCard, rightTexts}
-use Rattle.sheet_notation.proofs.Run.{read-carried}
+use Rattle.notation.proofs.Carried.{read-carried}
 use Rattle.sheet_notation.proofs.Same.{sameLayout, layout-same}
 
 ends : ℕ → Wrong → Bool
-ends k load = let n = readNumbers (readRun (textBytes (load .text)) .answer) in eqb (n .number) 18 && eqb (n .a) (load .a)
+ends k load = let n = readNumbers (readRun (quotedBytes (load .text)) .answer) in eqb (n .number) 18 && eqb (n .a) (load .a)
 
 test : every ends 0 wrongTexts ≡ true
 unfolding ends wrongTexts stepped moved
 test = refl
 
 -- every reading of a wrong text that the promise allows is refusal 18 with the stated a
-pub wrong-refused : (other : Wrong) (k : ℕ) → k < length wrongTexts → (r : Reading) → Answered (textBytes (getD wrongTexts k other .text)) r
+pub wrong-refused : (other : Wrong) (k : ℕ) → k < length wrongTexts → (r : Reading) → Answered (quotedBytes (getD wrongTexts k other .text)) r
     → (readNumbers (r .answer) .number ≡ 18) × (readNumbers (r .answer) .a ≡ getD wrongTexts k other .a)
 unfolding ends
 wrong-refused other k h r allowed =
     let load = getD wrongTexts k other in
-    let n = readNumbers (readRun (textBytes (load .text)) .answer) in
+    let n = readNumbers (readRun (quotedBytes (load .text)) .answer) in
     let t = and-eq-true-iff (eqb (n .number) 18) (eqb (n .a) (load .a)) .0 (every-at ends wrongTexts other test k h) in
-    rw (read-carried (textBytes (load .text)) r allowed) (eqb-true (n .number) 18 (t .0), eqb-true (n .a) (load .a) (t .1))
+    rw (read-carried (quotedBytes (load .text)) r allowed) (eqb-true (n .number) 18 (t .0), eqb-true (n .a) (load .a) (t .1))
 
 -- what holds of each load, and of the one at k
 abbrev All : (Right → Type 0) → List Right → Type 0
@@ -55,7 +56,7 @@ all-at P (x ∷ xs) other a (suc k) h = all-at P xs other (a .1) k (le-of-suc-le
 
 -- two layouts are the same, tested
 same-reading : ℕ → Right → Bool
-same-reading k load = let r = readRun (textBytes (load .text)) in eqb (readNumbers (r .answer) .number) 0 && sameLayout (r .layout) (load .layout)
+same-reading k load = let r = readRun (quotedBytes (load .text)) in eqb (readNumbers (r .answer) .number) 0 && sameLayout (r .layout) (load .layout)
 
 right-test : every same-reading 0 right ≡ true
 unfolding same-reading right stepped moved
@@ -66,12 +67,12 @@ done Done e t l c = refl
 done (NotRead refusal) e t l c = absurd (let z : 18 ≡ 0 = ap (λ (x : Refusal). refusalNumbers x .number) (sym (c .eighteen)) ∙ e in omega (arith, z))
 
 -- every reading of a correct text that the promise allows gives its layout
-pub right-read : (other : Right) (k : ℕ) → k < length right → (r : Reading) → Answered (textBytes (getD right k other .text)) r
+pub right-read : (other : Right) (k : ℕ) → k < length right → (r : Reading) → Answered (quotedBytes (getD right k other .text)) r
     → r ≡ record { answer = Done; layout = getD right k other .layout }
 unfolding same-reading
 right-read other k h r allowed =
     let load = getD right k other in
-    let t = textBytes (load .text) in
+    let t = quotedBytes (load .text) in
     let run = readRun t in
     let passed = and-eq-true-iff (eqb (readNumbers (run .answer) .number) 0) (sameLayout (run .layout) (load .layout)) .0 (every-at same-reading right other right-test k h) in
     let same : r ≡ run = read-carried t r allowed in
@@ -83,8 +84,8 @@ right-read other k h r allowed =
 abbrev Writes : Right → Type 0
 Writes load =
     let card = layoutCard (load .layout) in
-    let n = length (textBytes (load .text)) in
-    (textOf card ≡ textBytes (load .text)) × (writtenAnswer card n ≡ Length n) × (writtenAnswer card (n - 1) ≡ Refused (TooShort n))
+    let n = length (quotedBytes (load .text)) in
+    (textOf card ≡ quotedBytes (load .text)) × (writtenAnswer card n ≡ Length n) × (writtenAnswer card (n - 1) ≡ Refused (TooShort n))
 
 writes : All Writes rightTexts
 unfolding rightTexts textOf decimal

@@ -15,10 +15,12 @@ use Rattle.laws.proofs.Order.{le-or-lt}
 use Rattle.notation.specs.declared.Read.{Read}
 use Rattle.notation.specs.declared.Read.the-variants.{Done, Refused as NotRead}
 use Rattle.notation.specs.declared.Reading.{Reading}
-use Rattle.typed_lengths.specs.Line.{further, spaced, LineSays, LengthsCome as LineComes, LengthsAnswered as LineAnswered}
+use Rattle.typed_lengths.specs.Line.{LineSays, LengthsCome as LineComes, LengthsAnswered as LineAnswered}
 use Rattle.typed_lengths.specs.declared.LineOfLengths.{LineOfLengths}
 use Rattle.judgement.specs.declared.Verdict.{Verdict}
-use Rattle.typed.specs.Judge.{JudgePromise}
+use Rattle.typed_lengths.proofs.Run.{further, spaced}
+use Rattle.typed.specs.Judge.{JudgePromise, JudgeRead}
+use Rattle.typed.proofs.Theorems.{judge-exactly}
 
 -- eight lengths
 further-length : (ns : List ℕ) → length (further ns) ≤ 6 * length ns
@@ -70,9 +72,9 @@ module _ (t : List ℕ) (k : ℕ) (some : 352 < k) (kept : k ≤ length t) where
       by (NotRead refusal) c = record { a = c .a; eighteen = c .eighteen; longest = long-refused (c .a) (c .longest); zeros = c .zeros }
 
 -- two lines of which so many bytes are kept
-pub judge-kept : (first second before after : List ℕ) (verdict : Verdict) (k : ℕ) → 352 < k → JudgePromise (take k first) (take k second) before after verdict
-    → JudgePromise first second before after verdict
-judge-kept first second before after verdict k some p =
+read-kept : (first second before after : List ℕ) (verdict : Verdict) (k : ℕ) → 352 < k → JudgeRead (take k first) (take k second) before after verdict
+    → JudgeRead first second before after verdict
+read-kept first second before after verdict k some p =
     record {
       line = p .line;
       line-read =
@@ -84,3 +86,9 @@ judge-kept first second before after verdict k some p =
           (λ (gt : k < length second). long-text second k some (omega arith) (p .reading) (p .text-read)) (le-or-lt (length second) k);
       outcome = p .outcome;
     }
+
+pub judge-kept : (first second before after : List ℕ) (verdict : Verdict) (k : ℕ) → 352 < k → JudgePromise (take k first) (take k second) before after verdict
+    → JudgePromise first second before after verdict
+judge-kept first second before after verdict k some p =
+    judge-exactly first second before after verdict .1
+    (read-kept first second before after verdict k some (judge-exactly (take k first) (take k second) before after verdict .0 p))

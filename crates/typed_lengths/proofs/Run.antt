@@ -2,25 +2,33 @@
 use Prim.Native.Nat.{ℕ, zero, suc, _+_, _-_, _*_, _≤_, _<_}
 use mathlib.Core.Path.{_≡_, refl, sym, ap, _∙_, subst, subst⁻¹}
 use mathlib.Core.Bool.{Bool, true, false, cond, _&&_, false≢true, true≢false}
-use mathlib.Core.List.{List, [], _∷_, _++_, append-nil, append-assoc}
+use mathlib.Core.List.{List, [], _∷_, _++_, append-nil, append-assoc, map}
 use native.Mathlib.Omega.{arith}
 use native.Mathlib.Numerals.{add-one}
 use borrow.Author.Tests.{lt-ltb, le-leb, ltb-true, ltb-false, leb-true, eqb-true}
 use lib.Dec.{leb, ltb, eqb}
 use lib.ListN.{length, getD, set, take, replicate, length-set}
 use lib.Seq.{take-suc, take-suc-set, take-all}
-use Rattle.notation.specs.Text.{decimal, Short, Each}
+use Rattle.notation.specs.Quoted.{quotedBytes}
+use Rattle.notation.specs.Text.{decimal, Short, Each, tails, joined}
 use Rattle.notation.specs.Machine.{digitOf, continues, runs}
 use Rattle.notation.proofs.Exact.{runs-append}
 use Rattle.notation.proofs.Numbers.{decimal-digit, decimal-snoc, reads-number}
 use Rattle.notation.proofs.Steps.{digit-of}
 use Rattle.notation.proofs.Lists.{pick, pick-both, both, each-append}
-use Rattle.typed_lengths.specs.Line.{further, spaced, LineSays, LengthsCome, LengthsAnswered}
+use Rattle.typed_lengths.specs.Line.{LineSays, LengthsCome, LengthsAnswered}
 use Rattle.typed_lengths.specs.Machine.{lineAt, zeros, halted, lineStart, beforeMove, insideMove, linePhaseMove, lineStepped, isInside, lineConcluded}
 use Rattle.typed_lengths.specs.declared.LinePhase.{LinePhase}
 use Rattle.typed_lengths.specs.declared.LinePhase.the-variants.{Before, Inside, Stuck}
 use Rattle.typed_lengths.specs.declared.LineReader.{LineReader}
 use Rattle.typed_lengths.specs.declared.LineOfLengths.{LineOfLengths}
+
+-- numbers after spaces, and numbers parted by them
+abbrev pub further : List ℕ → List ℕ
+further ns = tails (quotedBytes " ") (map decimal ns)
+
+abbrev pub spaced : List ℕ → List ℕ
+spaced ns = joined (quotedBytes " ") (map decimal ns)
 
 -- over eight lengths
 

@@ -2,23 +2,16 @@
 use Prim.Native.Nat.{ℕ}
 use mathlib.Core.Path.{_≡_}
 use mathlib.Core.Bool.{Bool, true, false}
-use mathlib.Core.List.{List, [], _∷_, _++_}
+use mathlib.Core.List.{List, map}
 use lib.ListN.{length, replicate}
-use Rattle.notation.specs.Text.{decimal, Short, Each}
+use Rattle.notation.specs.Quoted.{quotedBytes}
+use Rattle.notation.specs.Text.{decimal, joined, Short, Each}
 use Rattle.typed_lengths.specs.declared.LineOfLengths.{LineOfLengths}
-
-abbrev pub further : List ℕ → List ℕ
-further [] = []
-further (n ∷ ns) = 32 ∷ (decimal n ++ further ns)
-
-abbrev pub spaced : List ℕ → List ℕ
-spaced [] = []
-spaced (n ∷ ns) = decimal n ++ further ns
 
 pub record LineSays (line lengths : List ℕ) : Type 0 where
   pub eight : length lengths ≡ 8
   pub short : Each Short lengths
-  pub spelled : line ≡ spaced lengths
+  pub spelled : line ≡ joined (quotedBytes " ") (map decimal lengths)
 
 -- correct exactly when the line says eight lengths, and then these; else zeros
 abbrev pub LengthsCome : Bool → List ℕ → List ℕ → Type 0

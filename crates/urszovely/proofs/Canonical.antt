@@ -13,7 +13,7 @@ use Rattle.card.specs.declared.Iter.{Iter}
 use Rattle.card.specs.declared.Card.{Card}
 use Rattle.card.specs.declared.Admission.{Admission}
 use Rattle.card.specs.declared.Admission.the-variants.{Admitted, Refused}
-use Rattle.judgement.specs.Verdict.{VerdictPromise}
+use Rattle.judgement.specs.Plain.{VerdictSays}
 use Rattle.canonical.specs.Rule.{isK, plain, pieces, usesLBO, acrossRows, acrossColumns}
 use Rattle.canonical.specs.Canonical.{checked, inElements, canonicalCard, builtBy, built, PromiseBy, reportedNumbers}
 use Rattle.canonical.specs.declared.Canonical.{Canonical}
@@ -139,6 +139,6 @@ canonical-by-card q before after encodings answer e h =
     let card : canonicalCard q ≡ cardFrom (cardNumbers (built q .card)) 0 = sym (ap (λ (c : Admission). builtBy c q .card) e) ∙ sym (card-back q) in
     record {
       verdict = h .reported .verdict;
-      allowed = subst (λ (c : Card). VerdictPromise c before after (h .reported .verdict)) card (p .0);
+      allowed = subst (λ (c : Card). VerdictSays c before after (h .reported .verdict)) card (p .0);
       numbers = h .numbers;
     }

@@ -6,11 +6,15 @@ use mathlib.Core.List.{List, [], _∷_}
 use Rattle.fragment.specs.Fragment.{HolderAnswer, holderNumbers}
 use Rattle.fragment.specs.declared.Place.{Place}
 use Rattle.fragment.specs.declared.Holder.{Holder}
-use Rattle.placement_judged.specs.Placement.{Placing, placementNumbers}
+use Rattle.card.specs.Admission.{admissionNumbers}
+use Rattle.card.specs.declared.Admission.{Admission}
+use Rattle.idle.specs.Admission.{AdmissionSays}
+use Rattle.placement_judged.specs.Placement.{PlacementSays, placementNumbers}
 use Rattle.placement_judged.specs.declared.Placement.{Placement}
-use Rattle.notation.specs.Promise.{Answered, readNumbers}
+use Rattle.notation.specs.Promise.{ReadSays, readNumbers}
 use Rattle.notation.specs.declared.Reading.{Reading}
-use Rattle.judgement.specs.Verdict.{VerdictPromise, OwnerPromise, verdictNumbers, ownerNumbers}
+use Rattle.judgement.specs.Plain.{VerdictSays, OwnerSays}
+use Rattle.judgement.specs.Verdict.{verdictNumbers, ownerNumbers}
 use Rattle.judgement.specs.declared.Verdict.{Verdict}
 use Rattle.judgement.specs.declared.Owner.{Owner}
 use Rattle.c_bits.specs.declared.Bits.{Bits}
@@ -27,24 +31,29 @@ pub record AsHolder (kind : ℕ) (place : Place) (answer : List ℕ) : Type 0 wh
 -- the card with the layout that was read, and its marks
 pub record AsReading (text before card marks answer : List ℕ) : Type 0 where
   pub reading : Reading
-  pub allowed : Answered text reading
+  pub allowed : ReadSays text reading
   pub of-card : card ≡ cardWith (reading .layout) before
   pub of-marks : marks ≡ markBits (reading .layout .marks) ∷ []
   pub numbers : answer ≡ four (readNumbers (reading .answer))
 
+pub record AsAdmission (card : List ℕ) (marks : ℕ) (answer : List ℕ) : Type 0 where
+  pub admission : Admission
+  pub allowed : AdmissionSays (cardFrom card marks) admission
+  pub numbers : answer ≡ four (admissionNumbers admission)
+
 pub record AsPlacement (card : List ℕ) (marks : ℕ) (shape coordinates before entriesAfter answer : List ℕ) : Type 0 where
   pub placement : Placement
-  pub allowed : Placing (cardFrom card marks) (tupleFrom shape) (tupleFrom coordinates) before entriesAfter placement
+  pub allowed : PlacementSays (cardFrom card marks) (tupleFrom shape) (tupleFrom coordinates) before entriesAfter placement
   pub numbers : answer ≡ four (placementNumbers placement)
 
 pub record AsVerdict (card : List ℕ) (marks : ℕ) (before entriesAfter answer : List ℕ) : Type 0 where
   pub verdict : Verdict
-  pub allowed : VerdictPromise (cardFrom card marks) before entriesAfter verdict
+  pub allowed : VerdictSays (cardFrom card marks) before entriesAfter verdict
   pub numbers : answer ≡ four (verdictNumbers verdict)
 
 pub record AsOwner (card : List ℕ) (marks : ℕ) (coordinates before entriesAfter answer : List ℕ) : Type 0 where
   pub owner : Owner
-  pub allowed : OwnerPromise (cardFrom card marks) coordinates before entriesAfter owner
+  pub allowed : OwnerSays (cardFrom card marks) coordinates before entriesAfter owner
   pub numbers : answer ≡ four (ownerNumbers owner)
 
 -- registers written back to three arrays, as they were and as they are after

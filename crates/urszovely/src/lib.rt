@@ -14,7 +14,6 @@ ghost use Rattle.fragment.specs.Fragment.{heldAnswer, heldNumbers};
 ghost use Rattle.descriptor.specs.Descriptor.{fieldsAnswer, fieldsNumbers, shiftLimit, descriptorAnswer, descriptorNumbers};
 ghost use Rattle.mask.specs.Mask.{maskAnswer, maskMemory, maskNumbers};
 ghost use Rattle.card.specs.Admission.{admissionNumbers};
-ghost use Rattle.idle.specs.Admission.{fullAdmission};
 ghost use Rattle.stretch_judged.specs.Stretch.{stretchAnswer, stretchNumbers};
 ghost use Rattle.values.specs.Registers.{dealAnswer, collectAnswer, movedNumbers};
 ghost use Rattle.values.specs.Holdings.{dealHoldingsAnswer, collectHoldingsAnswer};
@@ -24,7 +23,7 @@ ghost use Rattle.c_card.specs.Card.{cardFrom, four};
 ghost use Rattle.c_fields.specs.Fields.{fieldsFrom, bytesOf};
 ghost use Rattle.canonical.specs.Canonical.{built};
 ghost use Rattle.book.specs.Book.{readAnswer as blockAnswer};
-ghost use Rattle.urszovely.specs.Answers.{AsHolder, AsReading, AsPlacement, AsVerdict, AsOwner, RegistersWritten};
+ghost use Rattle.urszovely.specs.Answers.{AsHolder, AsReading, AsAdmission, AsPlacement, AsVerdict, AsOwner, RegistersWritten};
 ghost use Rattle.urszovely.specs.Canonical.{cardNumbers, AsCanonical};
 ghost use Rattle.urszovely.specs.Book.{notePlace, AsBlock, AsPage};
 ghost use Rattle.urszovely.specs.Plans.{AsCheck, AsPlan};
@@ -272,7 +271,7 @@ pub extern "C" fn urszovely_mask(
 // A card's own checks: 1 to 6, then 17.
 #[no_mangle]
 pub extern "C" fn urszovely_admit(card: &[u64; 57], marks: u64, answer: &mut [u64; 4])
-    ensures { λ r. ⌜ now (answer .exit) ≡ four (admissionNumbers (fullAdmission (cardFrom (now (card .entry)) marks))) ⌝ }
+    ensures { λ r. ⌜ AsAdmission (now (card .entry)) marks (now (answer .exit)) ⌝ }
 {
     let mut numbers = [0u64; 56];
     let mut strides = [0i64; 24];

@@ -13,6 +13,7 @@ ghost use Rattle.card.specs.Card.{cells};
 ghost use Rattle.card.specs.Packed.{cardOf, Whole};
 ghost use Rattle.card.specs.declared.Admission.the-variants.{Admitted};
 ghost use Rattle.idle.specs.Admission.{fullAdmission};
+ghost use Rattle.judgement.specs.Plain.{VerdictSays, OwnerSays};
 ghost use Rattle.judgement.specs.Verdict.{VerdictPromise, OwnerPromise};
 ghost use Rattle.verdict.specs.Contracts.{ReadAt};
 
@@ -57,7 +58,7 @@ pub fn judge_packed(numbers: &[u64; 56], strides: &[i64; 24], table: &mut [u32])
 
 // The verdict on any card.
 pub fn judge(card: Card, table: &mut [u32]) -> Verdict
-    ensures { λ r. ⌜ VerdictPromise card (now (table .entry)) (now (table .exit)) r ⌝ }
+    ensures { λ r. ⌜ VerdictSays card (now (table .entry)) (now (table .exit)) r ⌝ }
 {
     let packed = card_packed::pack(card);
     let numbers = packed.numbers;
@@ -105,7 +106,7 @@ fn owner_packed(
 
 // The owner of the cell that eight coordinates name, for any card.
 pub fn owner_of(card: Card, coordinates: [u64; 8], table: &mut [u32]) -> Owner
-    ensures { λ r. ⌜ OwnerPromise card coordinates (now (table .entry)) (now (table .exit)) r ⌝ }
+    ensures { λ r. ⌜ OwnerSays card coordinates (now (table .entry)) (now (table .exit)) r ⌝ }
 {
     let packed = card_packed::pack(card);
     let numbers = packed.numbers;

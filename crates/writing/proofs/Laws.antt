@@ -13,11 +13,13 @@ use lib.IntN.{ℤ, pos, negsuc, natAbs}
 use lib.ListN.{length, getD, set, take, drop, replicate, length-append, length-set, take-append-drop}
 use lib.Seq.{take-suc, drop-cons, slice, slice-empty, length-take-le}
 use Rattle.card.specs.declared.Iter.{Iter}
-use Rattle.notation.specs.Text.{digits, tails, joined, several, isNone, spellStep, spellOffsets}
+use Rattle.notation.specs.Quoted.{quotedBytes}
+use Rattle.notation.specs.Text.{digits, tails, joined, spellStep, spellOffsets}
 use Rattle.notation.specs.Writing.{isBelow, stepFor, stepsFor, offsetsFrom}
 use Rattle.notation.specs.declared.Step.{Step}
 use Rattle.writing.specs.Out.{overlay, wrote, noText, joint, words}
 use Rattle.writing.specs.declared.Out.{Out}
+use Rattle.notation.proofs.Lists.{several, isNone}
 
 overlay-more : (l : List ℕ) (k : ℕ) (s t : List ℕ) → overlay (overlay l k s) (k + length s) t ≡ overlay l k (s ++ t)
 overlay-more l k [] t = ap (λ (n : ℕ). overlay l n t) (omega arith)
@@ -116,15 +118,15 @@ sign-natural (pos n) e = refl
 sign-natural (negsuc n) e = absurd (apart (cc))
 
 -- lists, parted by commas
-joined-snoc : (ts : List (List ℕ)) (t : List ℕ) → joined (ts ++ (t ∷ [])) ≡ joined ts ++ (joint (length ts) ++ t)
+joined-snoc : (ts : List (List ℕ)) (t : List ℕ) → joined (quotedBytes ",") (ts ++ (t ∷ [])) ≡ joined (quotedBytes ",") ts ++ (joint (length ts) ++ t)
 joined-snoc [] t = append-nil t
-joined-snoc (u ∷ ts) t = ap (λ (l : List ℕ). u ++ l) (tails-snoc ts t) ∙ sym (append-assoc u (tails ts) (44 ∷ t)) ∙ comma
+joined-snoc (u ∷ ts) t = ap (λ (l : List ℕ). u ++ l) (tails-snoc ts t) ∙ sym (append-assoc u (tails (quotedBytes ",") ts) (44 ∷ t)) ∙ comma
   where
-    tails-snoc : (ts : List (List ℕ)) (t : List ℕ) → tails (ts ++ (t ∷ [])) ≡ tails ts ++ (44 ∷ t)
+    tails-snoc : (ts : List (List ℕ)) (t : List ℕ) → tails (quotedBytes ",") (ts ++ (t ∷ [])) ≡ tails (quotedBytes ",") ts ++ (44 ∷ t)
     tails-snoc [] t = ap (λ (l : List ℕ). 44 ∷ l) (append-nil t)
-    tails-snoc (v ∷ ts) t = ap (λ (l : List ℕ). 44 ∷ (v ++ l)) (tails-snoc ts t) ∙ ap (λ (l : List ℕ). 44 ∷ l) (sym (append-assoc v (tails ts) (44 ∷ t)))
+    tails-snoc (v ∷ ts) t = ap (λ (l : List ℕ). 44 ∷ (v ++ l)) (tails-snoc ts t) ∙ ap (λ (l : List ℕ). 44 ∷ l) (sym (append-assoc v (tails (quotedBytes ",") ts) (44 ∷ t)))
 
-    comma : (u ++ tails ts) ++ (44 ∷ t) ≡ (u ++ tails ts) ++ (joint (suc (length ts)) ++ t)
+    comma : (u ++ tails (quotedBytes ",") ts) ++ (44 ∷ t) ≡ (u ++ tails (quotedBytes ",") ts) ++ (joint (suc (length ts)) ++ t)
     comma = rw (ne-eqb (suc (length ts)) 0 (omega arith))
 
 map-snoc : {A B : Type 0} (f : A → B) (l : List A) (x : A) → map f (l ++ (x ∷ [])) ≡ map f l ++ (f x ∷ [])
@@ -137,22 +139,22 @@ map-length f (a ∷ l) = ap suc (map-length f l)
 
 -- one more of a list
 pub joined-next : {A : Type 0} (f : A → List ℕ) (l : List A) (k : ℕ) (other : A) → k < length l
-    → joined (map f (take k l)) ++ (joint k ++ f (getD l k other)) ≡ joined (map f (take (k + 1) l))
+    → joined (quotedBytes ",") (map f (take k l)) ++ (joint k ++ f (getD l k other)) ≡ joined (quotedBytes ",") (map f (take (k + 1) l))
 joined-next f l k other h =
     let more : take (k + 1) l ≡ take k l ++ (getD l k other ∷ []) = rw (add-one k) (take-suc l k other h) in
     let long : length (map f (take k l)) ≡ k = map-length f (take k l) ∙ length-take-le k l (omega arith) in
-    sym (ap (λ (m : List _). joined (map f m)) more ∙ ap joined (map-snoc f (take k l) (getD l k other)) ∙ joined-snoc (map f (take k l)) (f (getD l k other))
-    ∙ ap (λ (n : ℕ). joined (map f (take k l)) ++ (joint n ++ f (getD l k other))) long)
+    sym (ap (λ (m : List _). joined (quotedBytes ",") (map f m)) more ∙ ap (joined (quotedBytes ",")) (map-snoc f (take k l) (getD l k other)) ∙ joined-snoc (map f (take k l)) (f (getD l k other))
+    ∙ ap (λ (n : ℕ). joined (quotedBytes ",") (map f (take k l)) ++ (joint n ++ f (getD l k other))) long)
 
 map-map : {A B C : Type 0} (g : B → C) (f : A → B) (l : List A) → map g (map f l) ≡ map (λ a. g (f a)) l
 map-map g f [] = refl
 map-map g f (a ∷ l) = ap (λ (k : List _). g (f a) ∷ k) (map-map g f l)
 
 pub extents-next : {A : Type 0} (g : ℕ → List ℕ) (f : A → ℕ) (l : List A) (k : ℕ) (other : A) → k < length l
-    → joined (map g (map f (take k l))) ++ (joint k ++ g (f (getD l k other))) ≡ joined (map g (map f (take (k + 1) l)))
+    → joined (quotedBytes ",") (map g (map f (take k l))) ++ (joint k ++ g (f (getD l k other))) ≡ joined (quotedBytes ",") (map g (map f (take (k + 1) l)))
 extents-next g f l k other h =
-    ap (λ (m : List (List ℕ)). joined m ++ (joint k ++ g (f (getD l k other)))) (map-map g f (take k l)) ∙ joined-next (λ a. g (f a)) l k other h
-    ∙ ap joined (sym (map-map g f (take (k + 1) l)))
+    ap (λ (m : List (List ℕ)). joined (quotedBytes ",") m ++ (joint k ++ g (f (getD l k other)))) (map-map g f (take k l)) ∙ joined-next (λ a. g (f a)) l k other h
+    ∙ ap (joined (quotedBytes ",")) (sym (map-map g f (take (k + 1) l)))
 
 -- strides with their marks
 steps-snoc : (k : ℕ) (ms : List Bool) (is : List Iter) (other : Iter) → k < length ms → k < length is
@@ -174,14 +176,14 @@ steps-long (suc k) [] (i ∷ is) h = ap suc (unmarked k is (omega arith))
 steps-long (suc k) (m ∷ ms) (i ∷ is) h = ap suc (steps-long k ms is (omega arith))
 
 pub strides-next : (ms : List Bool) (is : List Iter) (k : ℕ) (other : Iter) → k < length ms → k < length is
-    → joined (map spellStep (stepsFor (take k ms) (take k is))) ++ (joint k ++ spellStep (stepFor (getD is k other .stride) (getD ms k false) (getD is k other .axis)))
-    ≡ joined (map spellStep (stepsFor (take (k + 1) ms) (take (k + 1) is)))
+    → joined (quotedBytes ",") (map spellStep (stepsFor (take k ms) (take k is))) ++ (joint k ++ spellStep (stepFor (getD is k other .stride) (getD ms k false) (getD is k other .axis)))
+    ≡ joined (quotedBytes ",") (map spellStep (stepsFor (take (k + 1) ms) (take (k + 1) is)))
 strides-next ms is k other h l =
     let t : Step = stepFor (getD is k other .stride) (getD ms k false) (getD is k other .axis) in
     let so : List Step = stepsFor (take k ms) (take k is) in
     let more : stepsFor (take (k + 1) ms) (take (k + 1) is) ≡ so ++ (t ∷ []) = rw (add-one k) (steps-snoc k ms is other h l) in
-    sym (ap (λ (s : List Step). joined (map spellStep s)) more ∙ ap joined (map-snoc spellStep so t) ∙ joined-snoc (map spellStep so) (spellStep t)
-    ∙ ap (λ (n : ℕ). joined (map spellStep so) ++ (joint n ++ spellStep t)) (map-length spellStep so ∙ steps-long k ms is (omega arith)))
+    sym (ap (λ (s : List Step). joined (quotedBytes ",") (map spellStep s)) more ∙ ap (joined (quotedBytes ",")) (map-snoc spellStep so t) ∙ joined-snoc (map spellStep so) (spellStep t)
+    ∙ ap (λ (n : ℕ). joined (quotedBytes ",") (map spellStep so) ++ (joint n ++ spellStep t)) (map-length spellStep so ∙ steps-long k ms is (omega arith)))
 
 -- marks past the list play no part
 pub steps-cut : (n : ℕ) (ms : List Bool) (is : List Iter) → stepsFor (take n ms) (take n is) ≡ stepsFor ms (take n is)
@@ -214,9 +216,7 @@ offsets-next zs k h =
 
 -- how many extents a list has
 pub some-there : (es : List ℕ) → 1 ≤ length es → (isNone es ≡ false) × (several es ≡ ltb 1 (length es))
-some-there [] h = absurd (omega arith)
-some-there (e ∷ []) h = (refl, refl)
-some-there (e ∷ f ∷ es) h = (refl, sym (lt-ltb 1 (suc (suc (length es))) (omega arith)))
+some-there es h = (ne-eqb (length es) 0 (λ e. omega arith), refl)
 
 -- one more of the words
 drop-front : (n : ℕ) (a b : List ℕ) → n ≤ length a → drop n (a ++ b) ≡ drop n a ++ b

@@ -17,6 +17,7 @@ ghost use lib.Seq.{slice};
 ghost use Rattle.card.specs.Card.{listed, extentOf};
 ghost use Rattle.card.specs.Admission.{fieldChecks};
 ghost use Rattle.card.specs.declared.Admission.the-variants.{Admitted};
+ghost use Rattle.notation.specs.Quoted.{quotedBytes as quoted};
 ghost use Rattle.notation.specs.Text.{digits, decimal, name, spellSigned, spellStep, joined, spellLists, spellShard, spellReplica, spellOffsets};
 ghost use Rattle.notation.specs.Writing.{isBelow, stepFor, stepsFor, offsetsFrom, noMarks, listsFor, textOf, writtenAnswer, bytesAfter, writeNumbers};
 ghost use Rattle.writing.specs.Out.{wrote, Free, noText, joint, words};
@@ -180,7 +181,7 @@ fn put_joint(out: Out, k: usize) -> Out
 // The extents of a list, parted by commas.
 fn put_extents(out: Out, iters: Iters) -> Out
     requires { ⌜ Free 48 out × (iters .count ≤ 8) ⌝ }
-    ensures { λ r. ⌜ (r ≡ wrote out (joined (map decimal (map extentOf (listed iters))))) × (r .length ≤ out .length + 48) ⌝ }
+    ensures { λ r. ⌜ (r ≡ wrote out (joined (quoted ",") (map decimal (map extentOf (listed iters))))) × (r .length ≤ out .length + 48) ⌝ }
 {
     let mut written = out;
     let count = iters.count as usize;
@@ -197,7 +198,7 @@ fn put_extents(out: Out, iters: Iters) -> Out
 // The strides of a list, parted by commas.
 fn put_strides(out: Out, iters: Iters, marks: [bool; 8]) -> Out
     requires { ⌜ Free 120 out × (iters .count ≤ 8) ⌝ }
-    ensures { λ r. ⌜ (r ≡ wrote out (joined (map spellStep (stepsFor (take (iters .count) marks) (listed iters))))) × (r .length ≤ out .length + 120) ⌝ }
+    ensures { λ r. ⌜ (r ≡ wrote out (joined (quoted ",") (map spellStep (stepsFor (take (iters .count) marks) (listed iters))))) × (r .length ≤ out .length + 120) ⌝ }
 {
     let mut written = out;
     let count = iters.count as usize;

@@ -4,6 +4,7 @@ use native.Mathlib.Omega.{arith}
 use borrow.Author.Needs.{needs}
 use borrow.Author.Tests.{not-true, not-false}
 use Rattle.notation.specs.declared.Phase.the-variants.{Closed}
+use Rattle.notation.proofs.Carried.{read-exactly}
 use Rattle.reading_lists.specs.Lists.{spotIn, Standing}
 use Rattle.notation.specs.declared.Part.the-variants.{Shard}
 use Rattle.reading.proofs.Laws.{open-wrong, shard-wrong, shard-right, shardLayout, shard-stops, closed-wrong, closed-plus}
@@ -13,13 +14,13 @@ use Rattle.reading.proofs.read.Tie as tie
 returns : tie.Need-returns
 returns c =
     let w = c .before .before .before in
-    rw (c .refuse .ensures) (open-wrong (w .before .before .args .text .now) (w .word .result) (w .word .ensures) (not-true _ (c .before .if1 .taken)))
+    rw (c .refuse .ensures) (read-exactly _ _ .1 (open-wrong (w .before .before .args .text .now) (w .word .result) (w .word .ensures) (not-true _ (c .before .if1 .taken))))
 
 returns-2 : tie.Need-returns-2
 returns-2 c =
     let k = c .before .before .before .before .before in
     let w = k .before .before .before in
-    rw (c .refuse2 .ensures) (shard-wrong (w .before .before .args .text .now) (w .word .result) (k .read-list .result) (w .word .ensures) (not-false _ (k .before .if1 .left)) (k .read-list .ensures) (not-true _ (c .before .if2 .taken)))
+    rw (c .refuse2 .ensures) (read-exactly _ _ .1 (shard-wrong (w .before .before .args .text .now) (w .word .result) (k .read-list .result) (w .word .ensures) (not-false _ (k .before .if1 .left)) (k .read-list .ensures) (not-true _ (c .before .if2 .taken))))
 
 -- where the shard ends
 shard : (c : tie.After-shard-alone)
@@ -37,7 +38,7 @@ returns-3 c =
     let k = s .before .before .before .before .before in
     let t = k .before .before .before .before .before .args .text .now in
     let n = k .read-list .result .iters .count in
-    rw (c .done .ensures, s .shard-alone .ensures) (shard-stops t (k .read-list .result .next) (spotIn Shard n n) (shardLayout (k .read-list .result .iters) (k .read-list .result .marks)) (omega arith) (shard s))
+    rw (c .done .ensures, s .shard-alone .ensures) (read-exactly _ _ .1 (shard-stops t (k .read-list .result .next) (spotIn Shard n n) (shardLayout (k .read-list .result .iters) (k .read-list .result .marks)) (omega arith) (shard s)))
 
 returns-4 : tie.Need-returns-4
 returns-4 c =
@@ -45,7 +46,7 @@ returns-4 c =
     let k = s .before .before .before .before .before in
     let t = k .before .before .before .before .before .args .text .now in
     let n = k .read-list .result .iters .count in
-    rw (c .refuse3 .ensures) (closed-wrong t (k .read-list .result .next) (spotIn Shard n n) (shardLayout (k .read-list .result .iters) (k .read-list .result .marks)) (omega arith) (c .before .if4 .taken) (shard s))
+    rw (c .refuse3 .ensures) (read-exactly _ _ .1 (closed-wrong t (k .read-list .result .next) (spotIn Shard n n) (shardLayout (k .read-list .result .iters) (k .read-list .result .marks)) (omega arith) (c .before .if4 .taken) (shard s)))
 
 returns-5 : tie.Need-returns-5
 returns-5 c =
@@ -53,8 +54,9 @@ returns-5 c =
     let k = s .before .before .before .before .before in
     let t = k .before .before .before .before .before .args .text .now in
     let n = k .read-list .result .iters .count in
-    (rw (s .shard-alone .ensures) at (c .after-plus .ensures)) (refl, refl) (spotIn Shard n n)
-    (closed-plus t (k .read-list .result .next) (spotIn Shard n n) (shardLayout (k .read-list .result .iters) (k .read-list .result .marks)) (omega arith) (c .before .if4 .left) (shard s))
+    read-exactly t (c .after-plus .result) .1
+    ((rw (s .shard-alone .ensures) at (c .after-plus .ensures)) (refl, refl) (spotIn Shard n n)
+    (closed-plus t (k .read-list .result .next) (spotIn Shard n n) (shardLayout (k .read-list .result .iters) (k .read-list .result .marks)) (omega arith) (c .before .if4 .left) (shard s)))
 
 pub read-spec : {M : Type 1} → statement M
 read-spec =

@@ -1,6 +1,6 @@
 -- `urszovely::urszovely_owner` answers what the library's question answers, in its four numbers.
-use mathlib.Core.Path.{sym}
 use borrow.Author.Needs.{needs}
+use Rattle.urszovely.proofs.Theorems.{owner-between}
 use Rattle.urszovely.proofs.urszovely_owner.Statement.{statement}
 use Rattle.urszovely.proofs.urszovely_owner.Tie as tie
 
@@ -11,7 +11,7 @@ returns c =
     let k = j .before .before .before in
     record {
       owner = j .owner-of .result;
-      allowed = rw (sym (k .card .ensures)) (j .owner-of .ensures);
+      allowed = owner-between _ _ _ _ _ (j .owner-of .result) (k .card .ensures) (j .owner-of .ensures);
       numbers = rw (c .four .ensures, n .owner-numbers .ensures);
     }
 

@@ -1,6 +1,6 @@
 -- `urszovely::urszovely_place` answers what the library's question answers of the card that it packs, in its four numbers.
-use mathlib.Core.Path.{sym}
 use borrow.Author.Needs.{needs}
+use Rattle.urszovely.proofs.Theorems.{placed-between}
 use Rattle.urszovely.proofs.urszovely_place.Statement.{statement}
 use Rattle.urszovely.proofs.urszovely_place.Tie as tie
 
@@ -13,7 +13,9 @@ returns c =
     let k = one .before .before .before in
     record {
       placement = p .place-packed .result;
-      allowed = rw (sym (k .pack .ensures .same-card), sym (one .tuple .ensures), sym (two .tuple2 .ensures)) (p .place-packed .ensures);
+      allowed =
+          placed-between _ _ _ _ _ _ _ _ (p .place-packed .result) (k .pack .ensures .same-card) (one .tuple .ensures) (two .tuple2 .ensures)
+          (p .place-packed .ensures);
       numbers = rw (c .four .ensures, n .placement-numbers .ensures);
     }
 

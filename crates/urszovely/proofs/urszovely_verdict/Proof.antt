@@ -1,6 +1,7 @@
 -- `urszovely::urszovely_verdict` answers what the library's question answers of the card that it packs, in its four numbers.
 use mathlib.Core.Path.{sym}
 use borrow.Author.Needs.{needs}
+use Rattle.judgement.proofs.Plain.{verdict-exactly}
 use Rattle.urszovely.proofs.urszovely_verdict.Statement.{statement}
 use Rattle.urszovely.proofs.urszovely_verdict.Tie as tie
 
@@ -11,7 +12,7 @@ returns c =
     let k = j .before .before .before .before in
     record {
       verdict = j .judge-packed .result;
-      allowed = rw (sym (k .pack .ensures .same-card)) (j .judge-packed .ensures);
+      allowed = rw (sym (k .pack .ensures .same-card)) (verdict-exactly _ _ _ _ .1 (j .judge-packed .ensures));
       numbers = rw (c .four .ensures, n .verdict-numbers .ensures);
     }
 

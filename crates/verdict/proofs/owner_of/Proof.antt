@@ -4,6 +4,7 @@ use borrow.Author.Needs.{needs}
 use lib.ListN.{length}
 use Rattle.card.specs.declared.Card.{Card}
 use Rattle.judgement.specs.Verdict.{OwnerPromise}
+use Rattle.judgement.proofs.Plain.{owner-exactly}
 use Rattle.verdict.proofs.owner_of.Statement.{statement}
 use Rattle.verdict.proofs.owner_of.Tie as tie
 
@@ -18,8 +19,9 @@ returns c =
     let p = c .before .before in
     let k = p .before .before .before .before .before .before .before in
     let a = k .before .before .args in
-    subst (λ (card : Card). OwnerPromise card (a .t2) (a .table .now) (p .owner-packed .last .1 .1 .1 .0) (p .owner-packed .result))
-    (k .pack .ensures .same-card) (p .owner-packed .ensures)
+    let after = p .owner-packed .last .1 .1 .1 .0 in
+    owner-exactly (a .card) (a .t2) (a .table .now) after (p .owner-packed .result) .1
+    (subst (λ (card : Card). OwnerPromise card (a .t2) (a .table .now) after (p .owner-packed .result)) (k .pack .ensures .same-card) (p .owner-packed .ensures))
 
 pub owner-of-spec : {M : Type 1} → statement M
 owner-of-spec = tie.close (tie.spec (λ c κs. search needs) owner-packed-requires (λ c. search needs) returns)

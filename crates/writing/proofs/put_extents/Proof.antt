@@ -5,6 +5,7 @@ use mathlib.Core.List.{List, map, append-assoc}
 use lib.ListN.{length, take, getD}
 use Rattle.laws.proofs.Lists.{length-of}
 use Rattle.card.specs.Card.{extentOf, none}
+use Rattle.notation.specs.Quoted.{quotedBytes}
 use Rattle.notation.specs.Text.{decimal, joined}
 use Rattle.writing.specs.Out.{wrote, joint}
 use native.Mathlib.Omega.{arith}
@@ -14,7 +15,7 @@ use Rattle.writing.proofs.put_extents.Statement.{statement}
 use Rattle.writing.proofs.put_extents.Tie as tie
 
 abbrev Inv-loop : tie.InvT-loop
-Inv-loop out count at k₀ written k = (k ≤ count) × (count ≤ 8) × (length at ≡ 8) × (written ≡ wrote out (joined (map decimal (map extentOf (take k at))))) × (written .length ≤ out .length + 6 * k)
+Inv-loop out count at k₀ written k = (k ≤ count) × (count ≤ 8) × (length at ≡ 8) × (written ≡ wrote out (joined (quotedBytes ",") (map decimal (map extentOf (take k at))))) × (written .length ≤ out .length + 6 * k)
 
 abbrev μ-loop : tie.MeasureT-loop
 μ-loop out count at k₀ written k = count - k
@@ -35,7 +36,7 @@ loop-again c =
     let s = l .before .before in
     let k = l .loop .k in
     let at = s .args .iters .at in
-    let so = joined (map decimal (map extentOf (take k at))) in
+    let so = joined (quotedBytes ",") (map decimal (map extentOf (take k at))) in
     let e = decimal (getD at k none .extent) in (
       omega arith,
       l .loop .inv .1,

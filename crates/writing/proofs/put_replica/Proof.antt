@@ -6,10 +6,10 @@ use lib.Dec.{ltb}
 use lib.ListN.{length, take, length-map}
 use lib.Seq.{length-take-le}
 use Rattle.card.specs.Card.{listed, extentOf}
-use Rattle.notation.specs.Text.{several}
 use Rattle.notation.specs.Writing.{noMarks}
 use native.Mathlib.Omega.{arith}
 use borrow.Author.Needs.{needs}
+use Rattle.notation.proofs.Lists.{several}
 use Rattle.writing.proofs.Laws.{wrote-none, wrote-3, some-there, steps-cut}
 use Rattle.writing.proofs.put_replica.Statement.{statement}
 use Rattle.writing.proofs.put_replica.Tie as tie

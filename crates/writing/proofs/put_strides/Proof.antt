@@ -8,6 +8,7 @@ use mir.Syntax.{w64}
 use mir.Facts.{toZ-ofZ}
 use Rattle.laws.proofs.Lists.{length-of}
 use Rattle.card.specs.Card.{none}
+use Rattle.notation.specs.Quoted.{quotedBytes}
 use Rattle.notation.specs.Text.{spellStep, joined}
 use Rattle.notation.specs.Writing.{stepFor, stepsFor}
 use Rattle.writing.specs.Out.{wrote, joint}
@@ -19,7 +20,7 @@ use Rattle.writing.proofs.put_strides.Tie as tie
 
 abbrev Inv-loop : tie.InvT-loop
 Inv-loop marks out count at k₀ written k =
-    (k ≤ count) × (count ≤ 8) × (length at ≡ 8) × (length marks ≡ 8) × (written ≡ wrote out (joined (map spellStep (stepsFor (take k marks) (take k at))))) × (written .length ≤ out .length + 15 * k)
+    (k ≤ count) × (count ≤ 8) × (length at ≡ 8) × (length marks ≡ 8) × (written ≡ wrote out (joined (quotedBytes ",") (map spellStep (stepsFor (take k marks) (take k at))))) × (written .length ≤ out .length + 15 * k)
 
 abbrev μ-loop : tie.MeasureT-loop
 μ-loop marks out count at k₀ written k = count - k
@@ -42,7 +43,7 @@ loop-again c =
     let k = l .loop .k in
     let at = s .args .iters .at in
     let marks = s .args .t3 in
-    let so = joined (map spellStep (stepsFor (take k marks) (take k at))) in
+    let so = joined (quotedBytes ",") (map spellStep (stepsFor (take k marks) (take k at))) in
     let stride-back = toZ-ofZ {w = w64} {z = getD at k none .stride} (record { sfits = told .struct-told .given .1 .0 .1 }) in
     let e = spellStep (stepFor (getD at k none .stride) (getD marks k false) (getD at k none .axis)) in (
       omega arith,
