@@ -1,3 +1,4 @@
 pub mod Theorems
+pub mod Plain
 pub mod InNumbers
 pub mod Run

@@ -4,7 +4,7 @@ use mathlib.Core.Bool.{cond}
 use mathlib.Core.List.{List, _++_}
 use Prim.Native.Nat.{ℕ, zero, suc, _*_}
 use lib.Dec.{ltb}
-use lib.ListN.{length, drop, replicate}
+use lib.ListN.{length, take, drop, replicate}
 use Rattle.answers.specs.Refusals.{answer, refusalNumbers}
 use Rattle.answers.specs.declared.Numbers.{Numbers}
 use Rattle.answers.specs.declared.Refusal.{Refusal}
@@ -13,8 +13,10 @@ use Rattle.card.specs.Card.{cells}
 use Rattle.card.specs.declared.Card.{Card}
 use Rattle.claims.specs.Claims.{occupied}
 use Rattle.judgement.specs.Judgement.{Judgement, ComesTo}
+use Rattle.judgement.specs.Plain.{VerdictSays}
+use Rattle.judgement.specs.declared.Verdict.{Verdict}
 use Rattle.plans.specs.Plans.{carried, firstOutside, firstWrong, firstShared, planned}
-use Rattle.plans_judged.specs.Pair.{Opening, Untouched, Emptied, Ready, opening}
+use Rattle.plans_judged.specs.Pair.{Opening, Untouched, Emptied, Ready, afterVerdicts, openingOf, opening}
 use Rattle.plans_judged.specs.declared.Checked.{Checked}
 use Rattle.plans_judged.specs.declared.Checked.the-variants.{Accepted, Refused}
 use Rattle.plans_judged.specs.declared.Planning.{Planning}
@@ -54,7 +56,23 @@ endingOf size refused ready (Untouched refusal) = Kept (refused refusal)
 endingOf size refused ready (Emptied refusal) = Left (emptying size (refused refusal))
 endingOf size refused ready (Ready first second) = Left (ready first second)
 
--- the promise of a question on two cards: what each comes to, how the question then ends, and the answer and the tables that follow from it
+-- the promise of a question on two cards: each card's own verdict and the table that it would leave, how the question then ends, and the answer and the
+-- tables that follow from it
+pub record PairSays {A : Type 0} (one two : Card) (refused : Refusal → A) (ready : List ℕ → List ℕ → CellsHeld A)
+    (first second first-after second-after : List ℕ) (answer : A) : Type 0 where
+  pub verdict : Verdict
+  pub table : List ℕ
+  pub says : VerdictSays one first table verdict
+  pub verdict-other : Verdict
+  pub table-other : List ℕ
+  pub says-other : VerdictSays two second table-other verdict-other
+  pub ending : Ending A
+  pub follows : ending ≡ endingOf (cells one) refused ready (openingOf one two (length first) (length second) (afterVerdicts one two verdict verdict-other (take (cells one) table) (take (cells two) table-other)))
+  pub answers : answer ≡ answerOf ending
+  pub leaves : first-after ≡ firstAfter (cells one) ending first
+  pub leaves-other : second-after ≡ secondAfter (cells one) ending second
+
+-- the same by what each card comes to, for the crates above
 pub record PairPromise {A : Type 0} (one two : Card) (refused : Refusal → A) (ready : List ℕ → List ℕ → CellsHeld A)
     (first second first-after second-after : List ℕ) (answer : A) : Type 0 where
   pub judgement : Judgement
@@ -79,6 +97,9 @@ planChecked size plan first second =
     checkedBy size (carried plan first) second (firstOutside size plan) (firstWrong (carried plan first) second)
 
 -- the promise of checking a plan
+abbrev pub CheckSays : Card → Card → (plan first second first-after second-after : List ℕ) → Checked → Type 0
+CheckSays one two plan = PairSays one two Refused (planChecked (cells one) plan)
+
 abbrev pub CheckPromise : Card → Card → (plan first second first-after second-after : List ℕ) → Checked → Type 0
 CheckPromise one two plan = PairPromise one two Refused (planChecked (cells one) plan)
 
@@ -105,6 +126,10 @@ memoryAfter (Kept answer) memory = memory
 memoryAfter (Left held) memory = memoryIn held memory
 
 -- the promise of writing a plan
+pub record PlanSays (one two : Card) (memory first second memory-after first-after second-after : List ℕ) (answer : Planning) : Type 0 where
+  pub pair : PairSays one two NoPlan (planWritten (cells one) (length memory)) first second first-after second-after answer
+  pub writes : memory-after ≡ memoryAfter (pair .ending) memory
+
 pub record PlanPromise (one two : Card) (memory first second memory-after first-after second-after : List ℕ) (answer : Planning) : Type 0 where
   pub pair : PairPromise one two NoPlan (planWritten (cells one) (length memory)) first second first-after second-after answer
   pub writes : memory-after ≡ memoryAfter (pair .ending) memory

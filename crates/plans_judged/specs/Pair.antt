@@ -27,14 +27,6 @@ anyMark (mark ∷ marks) = mark || anyMark marks
 abbrev pub marked : Card → Bool
 marked card = anyMark (marksOf card)
 
--- the owners that a judgement leaves in the cells
-abbrev pub ownersOf : Judgement → List ℕ
-ownersOf (NotAdmitted refusal) = []
-ownersOf NoRoom = []
-ownersOf (OutsideAt flat axis) = []
-ownersOf (Clashing x y cell) = []
-ownersOf (Passed owners count) = owners
-
 -- what the two cards come to: refused with nothing touched, refused with the cells of both tables emptied, or both approved, each with its owners
 pub data Opening : Type 0 where
   Untouched : (refusal : Refusal) → Opening
@@ -46,18 +38,33 @@ abbrev pub afterVerdict : Verdict → Opening → Opening
 afterVerdict (Approved n o c) then = then
 afterVerdict (Refused refusal) then = Emptied refusal
 
--- both approved, the first judged first; no reuse mark on either; equally many elements
-abbrev pub afterBoth : Card → Card → Judgement → Judgement → Opening
-afterBoth one two j k =
-    afterVerdict (verdictOf one j)
-    (afterVerdict (verdictOf two k)
+-- both approved, the first judged first; no reuse mark on either; equally many elements; then the owners of both
+abbrev pub afterVerdicts : Card → Card → Verdict → Verdict → List ℕ → List ℕ → Opening
+afterVerdicts one two verdict other first second =
+    afterVerdict verdict
+    (afterVerdict other
     (cond (marked one || marked two) (Emptied Limits)
     (cond (not (eqb (elements one) (elements two))) (Emptied Shape)
-    (Ready (ownersOf j) (ownersOf k)))))
+    (Ready first second))))
 
 -- the space, then the two tables of so many entries
-abbrev pub opening : Card → Card → ℕ → ℕ → Judgement → Judgement → Opening
-opening one two room other j k =
+abbrev pub openingOf : Card → Card → ℕ → ℕ → Opening → Opening
+openingOf one two room other then =
     cond (not (oneSpace (one .lengths) (two .lengths))) (Untouched Space)
     (cond (ltb room (cells one) || ltb other (cells one)) (Untouched (TooShort (cells one)))
-    (afterBoth one two j k))
+    then)
+
+-- The same by two judgements, for the crates above; nothing from here on has to be believed.
+-- the owners that a judgement leaves in the cells
+abbrev pub ownersOf : Judgement → List ℕ
+ownersOf (NotAdmitted refusal) = []
+ownersOf NoRoom = []
+ownersOf (OutsideAt flat axis) = []
+ownersOf (Clashing x y cell) = []
+ownersOf (Passed owners count) = owners
+
+abbrev pub afterBoth : Card → Card → Judgement → Judgement → Opening
+afterBoth one two j k = afterVerdicts one two (verdictOf one j) (verdictOf two k) (ownersOf j) (ownersOf k)
+
+abbrev pub opening : Card → Card → ℕ → ℕ → Judgement → Judgement → Opening
+opening one two room other j k = openingOf one two room other (afterBoth one two j k)

@@ -7,6 +7,7 @@ use lib.Seq.{length-take-le}
 use Rattle.card.specs.Card.{cells}
 use Rattle.plans_judged.specs.Endings.{planChecked}
 use Rattle.plans_judged.specs.declared.Checked.the-variants.{Refused}
+use Rattle.plans_judged.proofs.Plain.{check-exactly}
 use Rattle.planning.proofs.Promises.{Begun, begun, long-first, long-second, out, refused-before}
 use borrow.Author.Needs.{needs}
 use Rattle.planning.proofs.check_plan.Statement.{statement}
@@ -37,14 +38,16 @@ returns c =
     let p = call .before .before .before in
     let s = start (judged p) in
     let plan : List ℕ = s .args .plan .now in
-    out (judged p .open-pair .ensures) (ready p) Refused (planChecked (cells (s .args .one)) plan) (λ (n : ℕ) (l r : List ℕ). planChecked n plan l r)
-    (λ l r. refl) (call .check-cells .ensures)
+    check-exactly (s .args .one) (s .args .two) (s .args .first .now) (s .args .second .now) plan _ _ _ .1
+    (out (judged p .open-pair .ensures) (ready p) Refused (planChecked (cells (s .args .one)) plan) (λ (n : ℕ) (l r : List ℕ). planChecked n plan l r)
+    (λ l r. refl) (call .check-cells .ensures))
 
 returns-2 : tie.Need-returns-2
 returns-2 c =
     let k = c .before .before .before .before .before .before .before in
     let s = start k in
-    refused-before (k .open-pair .ensures) Refused (planChecked (cells (s .args .one)) (s .args .plan .now)) (c .before .opened2 .given .1)
+    check-exactly (s .args .one) (s .args .two) (s .args .first .now) (s .args .second .now) (s .args .plan .now) _ _ _ .1
+    (refused-before (k .open-pair .ensures) Refused (planChecked (cells (s .args .one)) (s .args .plan .now)) (c .before .opened2 .given .1))
 
 pub check-plan-spec : {M : Type 1} → statement M
 check-plan-spec =

@@ -5,6 +5,7 @@ use lib.ListN.{length, take}
 use lib.Seq.{length-take-le}
 use Rattle.claims.specs.Claims.{occupied}
 use Rattle.plans.specs.Plans.{Matched}
+use Rattle.plans_judged.proofs.Plain.{plan-exactly}
 use Rattle.planning.proofs.Promises.{Begun, begun, take-first, take-second, long-first, long-second, written-out, not-planned}
 use borrow.Author.Needs.{needs}
 use Rattle.planning.proofs.write_plan.Statement.{statement}
@@ -45,12 +46,16 @@ returns c =
     let call = c .before .before .before .before .before .before in
     let p = call .before .before .before .before in
     let done = call .write-cells .ensures in
-    written-out (judged p .open-pair .ensures) (ready p) (start (judged p) .args .plan .now) (done .0) (done .1)
+    let a = start (judged p) .args in
+    plan-exactly (a .one) (a .two) (a .first .now) (a .second .now) (a .plan .now) _ _ _ _ .1
+    (written-out (judged p .open-pair .ensures) (ready p) (a .plan .now) (done .0) (done .1))
 
 returns-2 : tie.Need-returns-2
 returns-2 c =
     let k = c .before .before .before .before .before .before .before in
-    not-planned (k .open-pair .ensures) (start k .args .plan .now) (c .before .opened2 .given .1)
+    let a = start k .args in
+    plan-exactly (a .one) (a .two) (a .first .now) (a .second .now) (a .plan .now) _ _ _ _ .1
+    (not-planned (k .open-pair .ensures) (a .plan .now) (c .before .opened2 .given .1))
 
 pub write-plan-spec : {M : Type 1} → statement M
 write-plan-spec =
