@@ -1,7 +1,7 @@
--- `c_columns::last_column` has the counts, M, B, S and the sizes.
+-- `c_packed::last_column` has the counts, M, B, S and the sizes.
 use borrow.Author.Needs.{needs}
-use Rattle.c_columns.proofs.last_column.Statement.{statement}
-use Rattle.c_columns.proofs.last_column.Tie as tie
+use Rattle.c_packed.proofs.last_column.Statement.{statement}
+use Rattle.c_packed.proofs.last_column.Tie as tie
 
 returns : tie.Need-returns
 returns c = rw (c .before .before .elements .ensures, c .before .copies .ensures, c .cells .ensures)

@@ -1,4 +1,4 @@
--- `c_columns::mark` is the bit of a shard iter, which is 0 or 1.
+-- `c_packed::mark` is the bit of a shard iter, which is 0 or 1.
 use Prim.Native.Nat.{ℕ, zero, suc, _/_, _%_, _^_, _<_}
 use mathlib.Core.Path.{_≡_, refl}
 use native.Mathlib.Nat.{mod-lt}
@@ -6,8 +6,8 @@ use native.Mathlib.Omega.{arith}
 use borrow.Author.Needs.{needs}
 use lib.Dec.{eqb}
 use Rattle.card.specs.Card.{markNumber}
-use Rattle.c_columns.proofs.mark.Statement.{statement}
-use Rattle.c_columns.proofs.mark.Tie as tie
+use Rattle.c_packed.proofs.mark.Statement.{statement}
+use Rattle.c_packed.proofs.mark.Tie as tie
 
 one-bit : (n : ℕ) → n < 2 → n ≡ markNumber (eqb n 1)
 one-bit zero h = refl

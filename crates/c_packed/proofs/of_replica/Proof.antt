@@ -1,8 +1,8 @@
--- `c_columns::of_replica` reads one of the four iters that are there, and 0 past them.
+-- `c_packed::of_replica` reads one of the four iters that are there, and 0 past them.
 use borrow.Author.Needs.{needs}
 use borrow.Author.Tests.{lt-ltb, le-ltb}
-use Rattle.c_columns.proofs.of_replica.Statement.{statement}
-use Rattle.c_columns.proofs.of_replica.Tie as tie
+use Rattle.c_packed.proofs.of_replica.Statement.{statement}
+use Rattle.c_packed.proofs.of_replica.Tie as tie
 
 returns : tie.Need-returns
 returns c = rw (lt-ltb (c .before .before .args .k) 4 (c .before .if1 .taken))
