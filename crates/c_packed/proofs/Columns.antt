@@ -14,47 +14,42 @@ use Rattle.card.specs.Packed.{lastColumn, Packs}
 use Rattle.card.specs.declared.Iter.{Iter}
 use Rattle.card.specs.declared.Card.{Card}
 use Rattle.card.proofs.ReadBack.{eight-at, numberAt, strideAt, OfEight, packs}
-use Rattle.c_card.specs.Card.{signed64, iterFrom, replicaFrom, marksFrom, cardFrom}
+use Rattle.c_card.specs.Card.{signed64, cardFrom}
 
 module _ (v : List ℕ) (bits : ℕ) where
   abbrev card : Card
   card = cardFrom v bits
 
   -- what is written
-  abbrev slot : ℕ → ℕ → ℕ
-  slot at j = cond (ltb j 4) (getD v at 0) 0
+  abbrev pub slot : ℕ → ℕ → ℕ
+  slot at j = cond (ltb j 4) (getD v (at + 3 * j) 0) 0
 
   abbrev pub numberFrom : List ℕ → ℕ → ℕ → ℕ
   numberFrom last zero j = getD v (1 + 3 * j) 0
-  numberFrom last (suc zero) j = getD v (1 + 3 * j + 2) 0
-  numberFrom last (suc (suc zero)) j = slot (26 + 3 * j) j
-  numberFrom last (suc (suc (suc zero))) j = slot (26 + 3 * j + 2) j
+  numberFrom last (suc zero) j = getD v (3 + 3 * j) 0
+  numberFrom last (suc (suc zero)) j = slot 26 j
+  numberFrom last (suc (suc (suc zero))) j = slot 28 j
   numberFrom last (suc (suc (suc (suc zero)))) j = getD v (46 + j) 0
   numberFrom last (suc (suc (suc (suc (suc zero))))) j = getD last j 0
   numberFrom last (suc (suc (suc (suc (suc (suc c)))))) j = markNumber (yes j bits)
 
   abbrev pub strideFrom : ℕ → ℕ → ℤ
-  strideFrom zero j = signed64 (getD v (1 + 3 * j + 1) 0)
-  strideFrom (suc zero) j = signed64 (slot (26 + 3 * j + 1) j)
+  strideFrom zero j = signed64 (getD v (2 + 3 * j) 0)
+  strideFrom (suc zero) j = signed64 (slot 27 j)
   strideFrom (suc (suc c)) j = signed64 (getD v (38 + j) 0)
 
   -- is what the card has
-  shard-at : (j : ℕ) → j < 8 → getD (card .shard .at) j none ≡ iterFrom v (1 + 3 * j)
-  shard-at j h = eight-at (λ k. iterFrom v (1 + 3 * k)) none j h
+  abbrev of-shard : ℕ → Iter
+  of-shard j = record { extent = getD v (1 + 3 * j) 0; stride = signed64 (getD v (2 + 3 * j) 0); axis = getD v (3 + 3 * j) 0 }
 
-  abbrev there : ℕ → Iter
-  there j = record { extent = slot (26 + 3 * j) j; stride = signed64 (slot (26 + 3 * j + 1) j); axis = slot (26 + 3 * j + 2) j }
+  abbrev of-replica : ℕ → Iter
+  of-replica j = record { extent = slot 26 j; stride = signed64 (slot 27 j); axis = slot 28 j }
 
-  replica-at : (j : ℕ) → j < 8 → getD (card .replica .at) j none ≡ there j
-  replica-at zero h = refl
-  replica-at (suc zero) h = refl
-  replica-at (suc (suc zero)) h = refl
-  replica-at (suc (suc (suc zero))) h = refl
-  replica-at (suc (suc (suc (suc zero)))) h = refl
-  replica-at (suc (suc (suc (suc (suc zero))))) h = refl
-  replica-at (suc (suc (suc (suc (suc (suc zero)))))) h = refl
-  replica-at (suc (suc (suc (suc (suc (suc (suc zero))))))) h = refl
-  replica-at (suc (suc (suc (suc (suc (suc (suc (suc k)))))))) h = absurd (omega arith)
+  shard-at : (j : ℕ) → j < 8 → getD (card .shard .at) j none ≡ of-shard j
+  shard-at j h = eight-at of-shard none j h
+
+  replica-at : (j : ℕ) → j < 8 → getD (card .replica .at) j none ≡ of-replica j
+  replica-at j h = eight-at of-replica none j h
 
   number-same : (last : List ℕ) (c j : ℕ) → j < 8 → numberFrom last c j ≡ numberAt (card .shard .at) (card .replica .at) (card .lengths) last (card .marks) c j
   number-same last zero j h = sym (ap extentOf (shard-at j h))

@@ -1,5 +1,5 @@
 -- `c_packed::copies` is the capped product of the replica's extents up to the count, and all eight where the count is more.
-use mathlib.Core.Path.{_≡_, refl, ap, _∙_}
+use mathlib.Core.Path.{_≡_, refl, ap, ap₂, _∙_}
 use mathlib.Core.List.{List, map}
 use Prim.Native.Nat.{ℕ, min}
 use native.Mathlib.Omega.{arith}
@@ -21,12 +21,13 @@ product-requires c κs = omega (arith, c .named .ensures)
 returns : tie.Need-returns
 returns c =
     let n = c .before in
-    let iters : Iters = replicaFrom (n .before .before .before .before .before .before .args .card .now) in
+    let o = n .before .before in
+    let iters : Iters = replicaFrom (o .before .args .card .now) in
     let extents = map extentOf (iters .at) in
     c .product .ensures
-    ∙ ap (λ (k : ℕ). min (product (take k extents)) beyond) (n .named .ensures)
+    ∙ ap₂ (λ (k : ℕ) (l : List ℕ). min (product (take k l)) beyond) (n .named .ensures) (o .of-replica .ensures)
     ∙ ap (λ (l : List ℕ). min (product l) beyond) (take-min (iters .count) 8 extents refl)
     ∙ ap (λ (k : ℕ). min k beyond) (listed-product extentOf iters refl)
 
 pub copies-spec : {M : Type 1} → statement M
-copies-spec = tie.close (tie.spec (λ c. search needs) (λ c. search needs) (λ c. search needs) (λ c. search needs) (λ c. search needs) (λ c κs. search needs) product-requires returns)
+copies-spec = tie.close (tie.spec (λ c κs. search needs) (λ c. search needs) (λ c κs. search needs) product-requires returns)

@@ -1,14 +1,13 @@
--- `c_packed::of_replica` reads one of the four iters that are there, and 0 past them.
+-- `c_packed::of_replica` reads every third of the numbers from a place on, four of them, and zeros.
+use Prim.Native.Nat.{ℕ}
 use borrow.Author.Needs.{needs}
-use borrow.Author.Tests.{lt-ltb, le-ltb}
+use lib.ListN.{getD}
+use Rattle.c_packed.proofs.Puts.{first-at}
 use Rattle.c_packed.proofs.of_replica.Statement.{statement}
 use Rattle.c_packed.proofs.of_replica.Tie as tie
 
 returns : tie.Need-returns
-returns c = rw (lt-ltb (c .before .before .args .k) 4 (c .before .if1 .taken))
-
-returns-2 : tie.Need-returns-2
-returns-2 c = rw (le-ltb (c .before .args .k) 4 (c .if1 .left))
+returns c = let a = c .before .before .before .before .args in first-at (λ (n : ℕ). getD (a .card .now) n 0) (a .at) _
 
 pub of-replica-spec : {M : Type 1} → statement M
-of-replica-spec = tie.close (tie.spec (λ c. search needs) (λ c. search needs) returns returns-2)
+of-replica-spec = tie.close (tie.spec (λ c. search needs) (λ c. search needs) (λ c. search needs) (λ c. search needs) (λ c. search needs) (λ c. search needs) (λ c. search needs) (λ c. search needs) (λ c. search needs) (λ c. search needs) (λ c. search needs) returns)
