@@ -14,7 +14,7 @@ use Rattle.card.specs.Card.{elements}
 use Rattle.card.specs.Packed.{beyond, cardOf, Admits}
 use Rattle.card.proofs.Admitted.{Sized, sized}
 use Rattle.rules_linear.specs.Leaving.{Sought, Leaves}
-use Rattle.outside_ends.specs.Contracts.{blocksOf}
+use Rattle.outside_ends.specs.Contracts.{blocksOf, BetweenTo}
 use Rattle.outside_ends.proofs.Packed.{length-at, spaced}
 use Rattle.outside_axis.specs.Straying.{Strays, beyondEnd}
 use Rattle.outside_axis.specs.Contracts.{AxisEnded as EndedOn}
@@ -77,3 +77,10 @@ pub leaves-there : (numbers : List ℕ) (strides : List ℤ) → Admits numbers 
     → Sought (λ f. Leaves (cardOf numbers strides) f axis) (elements (cardOf numbers strides)) flat
 leaves-there numbers strides admits axis flat h s =
     strays-leaves (cardOf numbers strides) axis (elements (cardOf numbers strides)) flat h (rw (length-at numbers strides admits axis (omega arith)) s)
+
+-- none leaves on the axes on which the far ends lie inside
+pub none-leaves : {numbers : List ℕ} {strides low high : List ℤ} → Ended numbers strides low high → (axes : ℕ) → axes ≤ lastAxis → BetweenTo axes low high numbers
+    → (a : ℕ) → a < axes → Sought (λ f. Leaves (cardOf numbers strides) f a) (elements (cardOf numbers strides)) (elements (cardOf numbers strides))
+none-leaves {numbers} {strides} {low} {high} e axes few b a h =
+    leaves-there numbers strides (e .admits) a _ (omega arith)
+    (none-astray (ended-on e a (getD numbers (32 + a) 0) (omega arith) (short-length e a (omega arith))) (b .from-zero a h) (b .below a h))

@@ -62,9 +62,9 @@ strays-leaves-m card n i same =
     })
     (λ f k l. subst (λ (bound : ℕ). Strays card lastAxis bound f) same (leaves-strays card f l))
 
--- no axis so far, one more, and m, which is looked at only before the first element so far
-pub no-word : (card : Card) → FirstWord card 0 (8 * elements card)
-no-word card = record { most = omega arith; leaves = λ h. absurd (omega arith); least = λ f a h k. absurd (omega arith) }
+-- none on the axes so far, one more, and m, which is looked at only before the first element so far
+pub no-word : (card : Card) (axes : ℕ) → ((a : ℕ) → a < axes → Sought (λ f. Leaves card f a) (elements card) (elements card)) → FirstWord card axes (8 * elements card)
+no-word card axes none = record { most = omega arith; leaves = λ h. absurd (omega arith); least = λ f a h k l. omega (arith, none a k .least f h l) }
 
 module _ (card : Card) (word flat : ℕ) where
   smaller-leaves : (axis : ℕ) → axis < 8 → FirstWord card axis word → (8 * flat + axis < word → Leaves card flat axis) → min word (8 * flat + axis) < 8 * elements card

@@ -51,8 +51,8 @@ module _ (numbers : List ℕ) (strides : List ℤ) (a : Admits numbers strides) 
     low = λ axis small.
         elim (ℕ-discrete axis lastAxis) [
           | yes m ↦ rw (m, sym (l .there lastAxis (omega arith))) (b .m .from-zero)
-          | no other ↦ rw (sym (l .there axis small)) (b .from-zero axis (omega arith))
+          | no other ↦ rw (sym (l .there axis small)) (b .axes .from-zero axis (omega arith))
         ];
-    high = λ axis small. rw (sym (h .there axis (omega arith)), length-at axis (omega arith)) (b .below axis small);
+    high = λ axis small. rw (sym (h .there axis (omega arith)), length-at axis (omega arith)) (b .axes .below axis small);
     m-high = rw (sym (h .there lastAxis (omega arith)), length-at lastAxis (omega arith)) (b .m .below);
   }

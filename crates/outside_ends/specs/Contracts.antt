@@ -37,10 +37,14 @@ pub record MBetween (low high : ℤ) (numbers : List ℕ) : Type 0 where
   pub from-zero : pos 0 ≤ℤ low
   pub below : high <ℤ pos (blocksOf numbers)
 
--- the sums low and high lie inside the lengths of a packed card, on m inside whole blocks
+-- the sums low and high lie inside the lengths of a packed card on the first so many axes
+pub record BetweenTo (axes : ℕ) (low high : List ℤ) (numbers : List ℕ) : Type 0 where
+  pub from-zero : (axis : ℕ) → axis < axes → pos 0 ≤ℤ getD low axis (pos 0)
+  pub below : (axis : ℕ) → axis < axes → getD high axis (pos 0) <ℤ pos (getD numbers (32 + axis) 0)
+
+-- and on m inside whole blocks
 pub record Between (low high : List ℤ) (numbers : List ℕ) : Type 0 where
-  pub from-zero : (axis : ℕ) → axis < 7 → pos 0 ≤ℤ getD low axis (pos 0)
-  pub below : (axis : ℕ) → axis < 7 → getD high axis (pos 0) <ℤ pos (getD numbers (32 + axis) 0)
+  pub axes : BetweenTo 7 low high numbers
   pub m : MBetween (getD low 7 (pos 0)) (getD high 7 (pos 0)) numbers
 
 -- what they are judged by: lengths and a swizzle that were admitted

@@ -6,7 +6,7 @@ ghost use lib.ListN.{length};
 ghost use Rattle.card.specs.Packed.{itersOf, cardOf, Admits};
 ghost use Rattle.copies_sums.specs.Walks.{Walkable, Sums};
 ghost use Rattle.outside_ends.specs.Ends.{farEnd};
-ghost use Rattle.outside_ends.specs.Contracts.{Moves, EndSums, blocksOf, MBetween, Between, Spaced};
+ghost use Rattle.outside_ends.specs.Contracts.{Moves, EndSums, blocksOf, MBetween, BetweenTo, Spaced};
 
 // The axis m, the last.
 const M: usize = card::LAST_AXIS as usize;
@@ -70,8 +70,8 @@ pub fn whole_blocks(numbers: &[u64; 56]) -> u64
     (numbers[card::LENGTHS + M] >> bits) << bits
 }
 
-// Whether m between two sums lies inside whole blocks.
-fn m_between(low: i64, high: i64, numbers: &[u64; 56]) -> bool
+// Whether m between two sums lies inside whole blocks. Public, with a requires, for the crate above.
+pub fn m_between(low: i64, high: i64, numbers: &[u64; 56]) -> bool
     requires { ⌜ Spaced (now numbers) ⌝ }
     ensures { λ r. ⌜ (r ≡ true → MBetween low high (now (numbers .entry))) ⌝ }
 {
@@ -79,19 +79,19 @@ fn m_between(low: i64, high: i64, numbers: &[u64; 56]) -> bool
     (0 <= low) & (high < whole as i64)
 }
 
-// Whether the far ends lie inside the lengths: then all of the card does. Public, with a requires, for the
-// crate above.
-pub fn between(low: &[i64; 8], high: &[i64; 8], numbers: &[u64; 56]) -> bool
+// The first axis other than m on which the far ends do not lie inside the length, or m. Public, with a
+// requires, for the crate above.
+pub fn first_axis(low: &[i64; 8], high: &[i64; 8], numbers: &[u64; 56]) -> usize
     requires { ⌜ (length (now low) ≡ 8) × (length (now high) ≡ 8) × Spaced (now numbers) ⌝ }
-    ensures { λ r. ⌜ (r ≡ true → Between (now (low .entry)) (now (high .entry)) (now (numbers .entry))) ⌝ }
+    ensures { λ r. ⌜ (r ≤ 7) × BetweenTo r (now (low .entry)) (now (high .entry)) (now (numbers .entry)) ⌝ }
 {
     let mut axis: usize = 0;
     while axis < M {
         let length = numbers[card::LENGTHS + axis] as i64;
         if (low[axis] < 0) | (length <= high[axis]) {
-            return false;
+            return axis;
         }
         axis += 1;
     }
-    m_between(low[M], high[M], numbers)
+    M
 }

@@ -1,9 +1,14 @@
 -- `outside::find_outside` finds nothing where the far ends lie inside, and else what the smallest number says.
 use mathlib.Core.Path.{_≡_}
-use mathlib.Core.Bool.{true}
+use mathlib.Core.Bool.{true, and-eq-true-iff}
 use native.Mathlib.Omega.{arith}
 use borrow.Author.Needs.{needs}
+use borrow.Author.Tests.{eqb-true}
+use lib.Dec.{eqb}
+use lib.IntN.{pos}
 use lib.ListN.{length, getD}
+use mir.Syntax.{w64}
+use mir.Facts.{toZ-ofZ}
 use Rattle.card.specs.Card.{elements}
 use Rattle.card.specs.Admission.{spaceFits}
 use Rattle.card.specs.Packed.{cardOf}
@@ -35,26 +40,45 @@ asked c = c .before .before
 ends-requires : tie.Need-ends-requires
 ends-requires c κs = let o = c .before .before in (o .before .before .pre, o .before .offset .ensures, o .offset2 .ensures)
 
-between-requires : tie.Need-between-requires
-between-requires c κs =
+first-axis-requires : tie.Need-first-axis-requires
+first-axis-requires c κs =
     let e = asked c in
     let s = start e in
     (e .ends .ensures .0 .eight, e .ends .ensures .1 .eight, spaced (s .args .numbers .now) (s .args .strides .now) (s .pre))
 
+abbrev looked : tie.After-first-axis → tie.After-ends
+looked c = asked (c .before)
+
+m-between-requires : tie.Need-m-between-requires
+m-between-requires c κs = let s = start (looked (c .before .before)) in spaced (s .args .numbers .now) (s .args .strides .now) (s .pre)
+
 returns : tie.Need-returns
 returns c =
-    let e = asked (c .before .before) in
+    let m = c .before in
+    let f = m .before .before .before in
+    let e = looked f in
     let s = start e in
+    let both = and-eq-true-iff (eqb (f .first-axis .result) 7) (m .m-between .result) .0 (c .if1 .taken) in
+    let axes = eqb-true (f .first-axis .result) 7 (both .0) in
+    let on-m = rw (
+      toZ-ofZ {w = w64} {z = getD (e .ends .last .1 .1 .0) 7 (pos 0)} (record { sfits = m .before .before .m-between-arg .given }),
+      toZ-ofZ {w = w64} {z = getD (e .ends .last .1 .1 .1 .0) 7 (pos 0)} (record { sfits = m .before .m-between-arg2 .given }),
+    ) at (m .m-between .ensures (both .1)) in
     stays-inside (card s) (s .pre .admitted) (eight s)
-    (ends-stay (s .args .numbers .now) (s .args .strides .now) (s .pre) (e .ends .ensures .0) (e .ends .ensures .1) (c .before .between .ensures (c .if1 .taken)))
+    (ends-stay (s .args .numbers .now) (s .args .strides .now) (s .pre) (e .ends .ensures .0) (e .ends .ensures .1)
+    (record { axes = rw axes at (f .first-axis .ensures .1); m = on-m }))
+
+abbrev axes-found : tie.After-first-of-all → tie.After-first-axis
+axes-found c = c .before .before .before .before .before .before .before
 
 abbrev found : tie.After-first-of-all → tie.After-ends
-found c = asked (c .before .before .before .before .before)
+found c = looked (axes-found c)
 
 first-of-all-requires : tie.Need-first-of-all-requires
 first-of-all-requires c κs =
-    let e = asked (c .before .before .before .before) in
-    record { admits = start e .pre; low-there = e .ends .ensures .0; high-there = e .ends .ensures .1 }
+    let f = c .before .before .before .before .before .before in
+    let e = looked f in
+    (record { admits = start e .pre; low-there = e .ends .ensures .0; high-there = e .ends .ensures .1 }, f .first-axis .ensures .0, f .first-axis .ensures .1)
 
 all : (s : tie.Start) → getD (s .args .numbers .now) 45 0 ≡ elements (card s)
 all s = measured (s .args .numbers .now) (s .args .strides .now) (s .pre) .elements-are
@@ -74,5 +98,5 @@ returns-3 c =
 pub find-outside-spec : {M : Type 1} → statement M
 find-outside-spec =
     tie.close
-    (tie.spec (λ c κs. c .pre .whole .all-strides) (λ c κs. c .before .pre .whole .all-strides) ends-requires between-requires returns first-of-all-requires (λ c. search needs)
-    (λ c. let s = start (found (c .before)) in omega (arith, all s, sized (card s) (s .pre .admitted) .most-elements)) returns-2 returns-3)
+    (tie.spec (λ c κs. c .pre .whole .all-strides) (λ c κs. c .before .pre .whole .all-strides) ends-requires first-axis-requires (λ c. search needs) (λ c. search needs) m-between-requires returns
+    first-of-all-requires (λ c. search needs) (λ c. let s = start (found (c .before)) in omega (arith, all s, sized (card s) (s .pre .admitted) .most-elements)) returns-2 returns-3)

@@ -35,8 +35,8 @@ first-astray-requires c κs =
       toZ-ofZ {w = w64} {z = getD (a .low .now) lastAxis (pos 0)} (record { sfits = c .before .first-astray-arg .given }),
       toZ-ofZ {w = w64} {z = getD (a .high .now) lastAxis (pos 0)} (record { sfits = c .first-astray-arg2 .given }),
     )
-    (ended-on (s .pre) lastAxis (w .whole-blocks .result) (omega arith)
-    (omega (arith, w .whole-blocks .ensures, few-blocks (spaced (a .numbers .now) (a .strides .now) (s .pre .admits)))))
+    (ended-on (s .pre .0) lastAxis (w .whole-blocks .result) (omega arith)
+    (omega (arith, w .whole-blocks .ensures, few-blocks (spaced (a .numbers .now) (a .strides .now) (s .pre .0 .admits)))))
 
 -- the elements before the one found so far
 few : (w : tie.After-whole-blocks) → w .before .first-on-axes .result / 8 ≤ elements (card (start w))
@@ -47,7 +47,7 @@ strayed c = c .before .before .before
 
 -- the first that strays from the whole blocks is one of the elements, or past them
 early : (c : tie.After-first-astray) → c .first-astray .result .0 ≤ 65536
-early c = omega (arith, c .first-astray .ensures .most, sizes (start (strayed c) .pre) .most-elements)
+early c = omega (arith, c .first-astray .ensures .most, sizes (start (strayed c) .pre .0) .most-elements)
 
 returns : tie.Need-returns
 returns c =
@@ -56,22 +56,22 @@ returns c =
     let s = start w in
     rw (c .smaller .ensures)
     (word-more (card s) (w .before .first-on-axes .result) (f .first-astray .result .0) lastAxis (omega arith) (w .before .first-on-axes .ensures)
-    (leaves-on-m (s .pre) (f .first-astray .result .0) (w .whole-blocks .result) (w .whole-blocks .ensures) (c .before .before .if1 .taken) (f .first-astray .ensures)))
+    (leaves-on-m (s .pre .0) (f .first-astray .result .0) (w .whole-blocks .result) (w .whole-blocks .ensures) (c .before .before .if1 .taken) (f .first-astray .ensures)))
 
 first-leaving-requires : tie.Need-first-leaving-requires
 first-leaving-requires c κs =
     let f = c .before .before in
     let w = strayed f in
     let s = start w in (
-      s .pre .admits,
-      none-before (s .pre) (f .first-astray .result .0) (w .before .first-on-axes .result / 8) (few w)
+      s .pre .0 .admits,
+      none-before (s .pre .0) (f .first-astray .result .0) (w .before .first-on-axes .result / 8) (few w)
           (subst (λ (n : ℕ). Sought (Strays (card s) lastAxis n) (elements (card s)) (f .first-astray .result .0)) (w .whole-blocks .ensures) (f .first-astray .ensures)),
     )
 
 small : (c : tie.After-first-leaving) → c .first-leaving .result .0 ≤ 65536
 small c =
     let w = strayed (c .before .before .before) in
-    omega (arith, c .first-leaving .ensures .most, few w, sizes (start w .pre) .most-elements)
+    omega (arith, c .first-leaving .ensures .most, few w, sizes (start w .pre .0) .most-elements)
 
 returns-2 : tie.Need-returns-2
 returns-2 c =
@@ -83,5 +83,5 @@ returns-2 c =
 pub first-of-all-spec : {M : Type 1} → statement M
 first-of-all-spec =
     tie.close
-    (tie.spec (λ c κs. search needs) (λ c κs. let s = c .before in spaced (s .args .numbers .now) (s .args .strides .now) (s .pre .admits)) (λ c. search needs) (λ c. search needs) first-astray-requires
+    (tie.spec (λ c κs. search needs) (λ c κs. let s = c .before in spaced (s .args .numbers .now) (s .args .strides .now) (s .pre .0 .admits)) (λ c. search needs) (λ c. search needs) first-astray-requires
     (λ c. search needs) (λ c. search needs) (λ c. search needs) (λ c. omega (arith, early (c .before .before .before))) (λ c. omega (arith, early (c .before .before .before))) (λ c κs. search needs) returns first-leaving-requires (λ c. omega (arith, small (c .before))) (λ c. omega (arith, small (c .before))) (λ c κs. search needs) returns-2)

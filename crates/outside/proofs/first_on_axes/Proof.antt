@@ -12,26 +12,29 @@ use Rattle.card.specs.declared.Card.{Card}
 use Rattle.card.proofs.Admitted.{measured}
 use Rattle.outside.specs.Outside.{FirstWord}
 use Rattle.outside.proofs.Words.{no-word, word-more}
-use Rattle.outside.proofs.Packed.{ended-on, short-length, sizes}
+use Rattle.outside.proofs.Packed.{ended-on, short-length, sizes, none-leaves}
 use Rattle.outside.proofs.first_on_axes.Statement.{statement}
 use Rattle.outside.proofs.first_on_axes.Tie as tie
 
 abbrev Inv-loop : tie.InvT-loop
-Inv-loop numbers strides low high word₀ axis₀ word axis = (axis ≤ 7) × FirstWord (cardOf numbers strides) axis word
+Inv-loop numbers strides first low high word₀ axis₀ word axis = (axis ≤ 7) × FirstWord (cardOf numbers strides) axis word
 
 abbrev μ-loop : tie.MeasureT-loop
-μ-loop numbers strides low high word₀ axis₀ word axis = 7 - axis
+μ-loop numbers strides first low high word₀ axis₀ word axis = 7 - axis
 
 abbrev card : tie.Start Inv-loop μ-loop → Card
 card s = cardOf (s .args .numbers .now) (s .args .strides .now)
 
 few : (s : tie.Start Inv-loop μ-loop) → getD (s .args .numbers .now) 45 0 ≤ 65536
-few s = omega (arith, measured (s .args .numbers .now) (s .args .strides .now) (s .pre .admits) .elements-are, sizes (s .pre) .most-elements)
+few s = omega (arith, measured (s .args .numbers .now) (s .args .strides .now) (s .pre .0 .admits) .elements-are, sizes (s .pre .0) .most-elements)
 
 loop-holds : tie.Need-loop-holds Inv-loop μ-loop
 loop-holds c =
-    let s = c .before in
-    (omega arith, rw (measured (s .args .numbers .now) (s .args .strides .now) (s .pre .admits) .elements-are) (no-word (card s)))
+    let s = c .before in (
+      s .pre .1,
+      rw (measured (s .args .numbers .now) (s .args .strides .now) (s .pre .0 .admits) .elements-are)
+          (no-word (card s) (s .args .first) (none-leaves (s .pre .0) (s .args .first) (s .pre .1) (s .pre .2))),
+    )
 
 abbrev turn : tie.After-first-on-axis-arg2 Inv-loop μ-loop → tie.In-loop Inv-loop μ-loop
 turn c = c .before .before
@@ -49,10 +52,10 @@ first-on-axis-requires c κs =
       toZ-ofZ {w = w64} {z = getD (a .low .now) axis (pos 0)} (record { sfits = c .before .first-on-axis-arg .given }),
       toZ-ofZ {w = w64} {z = getD (a .high .now) axis (pos 0)} (record { sfits = c .first-on-axis-arg2 .given }),
     )
-    (ended-on (s .pre) axis (getD (a .numbers .now) (32 + axis) 0) (omega (arith, t .loop-test .taken)) (short-length (s .pre) axis (omega (arith, t .loop-test .taken))), t .loop-test .taken)
+    (ended-on (s .pre .0) axis (getD (a .numbers .now) (32 + axis) 0) (omega (arith, t .loop-test .taken)) (short-length (s .pre .0) axis (omega (arith, t .loop-test .taken))), t .loop-test .taken)
 
 small : (c : tie.After-first-on-axis Inv-loop μ-loop) → c .first-on-axis .result .0 ≤ 65536
-small c = let s = start (turn (c .before)) in omega (arith, c .first-on-axis .ensures .most, sizes (s .pre) .most-elements)
+small c = let s = start (turn (c .before)) in omega (arith, c .first-on-axis .ensures .most, sizes (s .pre .0) .most-elements)
 
 loop-again : tie.Need-loop-again Inv-loop μ-loop
 loop-again c =

@@ -1,11 +1,10 @@
--- `reach::between` asks one axis after the other, and m at last: where it comes to the end, all that were asked lie inside.
-use mathlib.Core.Path.{_≡_, refl, sym}
+-- `reach::first_axis` asks one axis after the other: all that were passed lie inside.
+use mathlib.Core.Path.{_≡_, refl}
 use mathlib.Core.Bool.{Bool, true, false, _||_, true≢false}
 use mathlib.Core.List.{List}
 use Prim.Native.Nat.{ℕ, _+_, _-_, _^_, _≤_, _<_}
 use native.Mathlib.Omega.{arith}
 use borrow.Author.Count.{below-more}
-use borrow.Author.Needs.{needs}
 use lib.IntN.{ℤ, pos}
 use lib.ListN.{getD}
 use lib.Signed.{_≤ℤ_, _<ℤ_, leZ, ltZ}
@@ -14,8 +13,9 @@ use mir.Val.{toZ}
 use mir.Facts.{toZ-ofZ, toZ-pos}
 use Rattle.laws.proofs.Signed.{far-fits}
 use Rattle.laws.proofs.Parts.{leZ-false, ltZ-false}
-use Rattle.outside_ends.proofs.between.Statement.{statement}
-use Rattle.outside_ends.proofs.between.Tie as tie
+use Rattle.outside_ends.specs.Contracts.{BetweenTo}
+use Rattle.outside_ends.proofs.first_axis.Statement.{statement}
+use Rattle.outside_ends.proofs.first_axis.Tie as tie
 
 -- one axis lies inside
 abbrev On : List ℤ → List ℤ → List ℕ → ℕ → Type 0
@@ -52,24 +52,26 @@ loop-again c =
       below-more (On (a .low .now) (a .high .now) (a .numbers .now)) (l .axis) (l .inv .1) (ltZ-false low (pos 0) (both .0), leZ-false (pos length) high (both .1)),
     )
 
-returns-2 : tie.Need-returns-2 Inv-loop μ-loop
-returns-2 c = λ e.
-    let x = c .before .before .before in
-    let l = x .before .loop in
-    let s = x .before .before in
-    record {
-      from-zero = λ axis h. l .inv .1 axis (omega (arith, x .loop-test .left)) .0;
-      below = λ axis h. l .inv .1 axis (omega (arith, x .loop-test .left)) .1;
-      m =
-          rw (
-            toZ-ofZ {w = w64} {z = getD (s .args .low .now) 7 (pos 0)} (record { sfits = c .before .before .m-between-arg .given }),
-            toZ-ofZ {w = w64} {z = getD (s .args .high .now) 7 (pos 0)} (record { sfits = c .before .m-between-arg2 .given }),
-          ) at (c .m-between .ensures e);
-    }
+-- where it stops, the axes before lie inside
+passed : (low high : List ℤ) (numbers : List ℕ) (axis : ℕ) → ((j : ℕ) → j < axis → On low high numbers j) → BetweenTo axis low high numbers
+passed low high numbers axis on = record { from-zero = λ j h. on j h .0; below = λ j h. on j h .1 }
 
-pub between-spec : {M : Type 1} → statement M
-between-spec =
+returns : tie.Need-returns Inv-loop μ-loop
+returns c =
+    let t = c .before .before .before .before in
+    let l = t .before .loop in
+    let a = t .before .before .args in
+    (l .inv .0, passed (a .low .now) (a .high .now) (a .numbers .now) (l .axis) (l .inv .1))
+
+returns-2 : tie.Need-returns-2 Inv-loop μ-loop
+returns-2 c =
+    let l = c .before .loop in
+    let a = c .before .before .args in
+    let end : l .axis ≡ 7 = omega (arith, l .inv .0, c .loop-test .left) in
+    (omega arith, passed (a .low .now) (a .high .now) (a .numbers .now) 7 (rw end at (l .inv .1)))
+
+pub first-axis-spec : {M : Type 1} → statement M
+first-axis-spec =
     tie.close
     (tie.spec Inv-loop μ-loop (λ c. (omega arith, λ j h. absurd (omega arith))) (λ c. omega arith) (λ c. omega arith) (λ c. omega arith) (λ c. far-fits (omega (arith, short (c .before)))) (λ c. omega arith) (λ c. omega arith)
-    (λ c. omega arith) (λ c. omega arith) (λ c. λ e. absurd (true≢false (sym e))) (λ c. omega arith) (λ c. omega arith) loop-again (λ c. search needs) (λ c. search needs)
-    (λ c κs. c .before .before .before .before .pre .2) returns-2)
+    (λ c. omega arith) (λ c. omega arith) returns (λ c. omega arith) (λ c. omega arith) loop-again returns-2)
