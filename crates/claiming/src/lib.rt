@@ -37,7 +37,8 @@ fn claim_twice(
     claiming_in_order::claim_runs(numbers, strides, elements, levels, ms, row, table)
 }
 
-// The pass over the elements: what each copy adds is made once, then the runs are claimed.
+// The pass over the elements: what each copy adds is made once, then the runs are claimed. One copy of one element
+// is claimed at once.
 fn claim_all(
     numbers: &[u64; 56],
     strides: &[i64; 24],
@@ -50,6 +51,14 @@ fn claim_all(
     ensures { λ r. ⌜ VerdictPromise (cardOf (now (numbers .entry)) (now (strides .entry))) (now (table .entry)) (now (table .exit)) r ⌝ }
 {
     let copies = row.len();
+    if (elements == 1) & (copies == 1) {
+        let occupied = claiming_elements::claim_alone(numbers, strides, table);
+        return Verdict::Approved {
+            elements,
+            occupied,
+            cells: table.len() as u64,
+        };
+    }
     let mut levels = [0i64; card::MOST_COPIES as usize];
     let mut ms = [0i64; card::MOST_COPIES as usize];
     copies_runs::put_copies(numbers, strides, &mut levels[..copies], &mut ms[..copies]);

@@ -3,7 +3,7 @@ use mathlib.Core.Path.{_≡_, refl, ap, _∙_}
 use mathlib.Core.List.{List, [], _∷_}
 use Prim.Native.Nat.{ℕ, zero, suc, _+_, _≤_, _<_}
 use native.Mathlib.Omega.{arith}
-use lib.ListN.{length, getD, set}
+use lib.ListN.{length, getD, set, replicate, getD-replicate}
 use Rattle.card.specs.Card.{copies, cells}
 use Rattle.card.specs.declared.Card.{Card}
 use Rattle.rules.specs.Rules.{spot}
@@ -60,3 +60,10 @@ single-claimed row table f c e h none =
 pub single-row : (card : Card) (flat : ℕ) → copies card ≡ 1 → copyCells card flat ≡ cellOf (spot card flat 0) ∷ []
 unfolding copyCells
 single-row card flat e = ap (cellsOf (spot card flat)) e
+
+-- in cleared cells it meets nobody
+pub single-free : (card : Card) (flat : ℕ) {table : List ℕ} → copies card ≡ 1 → table ≡ replicate (cells card) 0 → cellOf (spot card flat 0) < cells card
+    → entryMet table (copyCells card flat) ≡ 0
+single-free card flat {table} e cleared h =
+    let c = cellOf (spot card flat 0) in
+    ap (entryMet table) (single-row card flat e) ∙ met-one table c ∙ ap (λ (l : List ℕ). getD l c 0) cleared ∙ getD-replicate (cells card) c 0 0 h

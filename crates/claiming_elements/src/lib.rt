@@ -4,12 +4,14 @@ use claiming_runs::Run;
 use copies_runs::LevelAndM;
 use swizzle::Swizzle;
 ghost use mathlib.Core.Path.{_≡_};
-ghost use Rattle.card.specs.Card.{copies};
+ghost use Rattle.card.specs.Card.{copies, cells};
 ghost use Rattle.card.specs.Packed.{swizzleOf, cardOf};
+ghost use Rattle.claims.specs.Claims.{OwnedTable};
 ghost use Rattle.claims.specs.Rows.{RowClaim};
 ghost use Rattle.rules.specs.Copies.{copyCells};
+ghost use Rattle.judgement.specs.Judgement.{placed};
 ghost use Rattle.claiming_runs.specs.Contracts.{Rows, Running};
-ghost use Rattle.claiming_elements.specs.Contracts.{Begun, RunClaim};
+ghost use Rattle.claiming_elements.specs.Contracts.{Begun, Alone, RunClaim};
 
 // What claiming a run comes to: how many elements were claimed before one met an owner, and how many
 // cells they occupied newly.
@@ -36,6 +38,17 @@ fn claim_single(
     }
     table[cell] = flat.0 as u32 + 1;
     1
+}
+
+// Claims the one cell of the one element in the cleared table: how many cells are occupied then. Public, with
+// a requires, for the crate above.
+pub fn claim_alone(numbers: &[u64; 56], strides: &[i64; 24], table: &mut [u32]) -> u64
+    requires { ⌜ Alone (now numbers) (now strides) (now table) ⌝ }
+    ensures { λ r. ⌜ OwnedTable (placed (cardOf (now (numbers .entry)) (now (strides .entry)))) 1 (cells (cardOf (now (numbers .entry)) (now (strides .entry)))) (now (table .exit)) r ⌝ }
+{
+    let by = copies_runs::swizzle_of(numbers);
+    let place = copies_runs::begin(numbers, strides, Flat(0));
+    claim_single(numbers, strides, by, place, Flat(0), table)
 }
 
 // Claims the cells of one element: how many are newly occupied, none where a cell has an owner already.
