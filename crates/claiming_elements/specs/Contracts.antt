@@ -26,7 +26,7 @@ pub record Begun (numbers : List ℕ) (strides : List ℤ) (place : LevelAndM) (
   pub begins : Adds (slice 32 40 numbers) (base (cardOf numbers strides) flat) place
 
 -- a packed card of one element with one copy, which lies inside, and its cleared cells
-pub record Alone (numbers : List ℕ) (strides : List ℤ) (table : List ℕ) : Type 0 where
+pub record OneElement (numbers : List ℕ) (strides : List ℤ) (table : List ℕ) : Type 0 where
   pub admits : Admits numbers strides
   pub inside : AllInside (cardOf numbers strides)
   pub one-element : elements (cardOf numbers strides) ≡ 1

@@ -11,7 +11,7 @@ ghost use Rattle.claims.specs.Rows.{RowClaim};
 ghost use Rattle.rules.specs.Copies.{copyCells};
 ghost use Rattle.judgement.specs.Judgement.{placed};
 ghost use Rattle.claiming_runs.specs.Contracts.{Rows, Running};
-ghost use Rattle.claiming_elements.specs.Contracts.{Begun, Alone, RunClaim};
+ghost use Rattle.claiming_elements.specs.Contracts.{Begun, OneElement, RunClaim};
 
 // What claiming a run comes to: how many elements were claimed before one met an owner, and how many
 // cells they occupied newly.
@@ -43,7 +43,7 @@ fn claim_single(
 // Claims the one cell of the one element in the cleared table: how many cells are occupied then. Public, with
 // a requires, for the crate above.
 pub fn claim_alone(numbers: &[u64; 56], strides: &[i64; 24], table: &mut [u32]) -> u64
-    requires { ⌜ Alone (now numbers) (now strides) (now table) ⌝ }
+    requires { ⌜ OneElement (now numbers) (now strides) (now table) ⌝ }
     ensures { λ r. ⌜ OwnedTable (placed (cardOf (now (numbers .entry)) (now (strides .entry)))) 1 (cells (cardOf (now (numbers .entry)) (now (strides .entry)))) (now (table .exit)) r ⌝ }
 {
     let by = copies_runs::swizzle_of(numbers);

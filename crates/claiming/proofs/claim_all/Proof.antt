@@ -18,7 +18,7 @@ use Rattle.claims.specs.Claims.{OwnedTable}
 use Rattle.judgement.specs.Judgement.{placed}
 use Rattle.claiming_runs.specs.Contracts.{Rows}
 use Rattle.claiming_runs.proofs.Laws.{cleared-size}
-use Rattle.claiming_elements.specs.Contracts.{Alone}
+use Rattle.claiming_elements.specs.Contracts.{OneElement}
 use Rattle.claiming_in_order.proofs.Laws.{admits}
 use Rattle.claiming_in_order.proofs.Promises.{approved-promise}
 use Rattle.claiming.proofs.claim_all.Statement.{statement}
@@ -28,7 +28,7 @@ abbrev card : tie.Start → Card
 card s = cardOf (s .args .numbers .now) (s .args .strides .now)
 
 -- one copy of one element
-alone : (i : tie.Then1) → let s = i .before .before .before in Alone (s .args .numbers .now) (s .args .strides .now) (s .args .table .now)
+alone : (i : tie.Then1) → let s = i .before .before .before in OneElement (s .args .numbers .now) (s .args .strides .now) (s .args .table .now)
 alone i =
     let s = i .before .before .before in
     let both = and-eq-true-iff (eqb (s .args .elements) 1) (eqb (length (s .args .row .now)) 1) .0 (i .if1 .taken) in
