@@ -16,6 +16,7 @@ const BLOCKS: &[&[u8]] = &[
     include_bytes!("../loads/blocks/10-ask-07.txt"),
     include_bytes!("../loads/blocks/11-ask-09.txt"),
     include_bytes!("../loads/blocks/12-ask-13.txt"),
+    include_bytes!("../loads/blocks/13-kinds.txt"),
 ];
 
 /// The lines of full size: 16,384 elements and more, up to 64 copies, tables
@@ -83,6 +84,7 @@ mod tests {
         0x01d1_caef_4ade_f105,
         0x6f26_f574_6e6a_dfb1,
         0xdd2b_8895_fb85_9de1,
+        0x94a7_fbdd_bc77_3166,
     ];
     const LARGE_CHECKS: &[u64] = &[
         0xa6f5_5d97_af13_b392,

@@ -8,6 +8,7 @@ pub mod cards;
 mod copies;
 pub mod every;
 mod full;
+pub mod kinds;
 mod larger;
 mod limits;
 mod malformed;
@@ -77,6 +78,9 @@ const MAKERS: &[Maker] = &[
     ("plan", plans::plan),
     ("carry*", plans::starred_carry),
     ("plan*", plans::starred_plan),
+    ("mma", kinds::mma),
+    ("mma-holder", kinds::holder),
+    ("mma-layout", kinds::layout),
 ];
 
 /// Questions about values, which only the client answers.

@@ -12,6 +12,7 @@ mod layout;
 mod lines;
 mod loads;
 mod mask;
+mod mma;
 mod notation;
 mod plans;
 mod swizzle;
@@ -44,6 +45,7 @@ const USAGE: &str = "usage: second answer [MOST]
        second book-unused
        second mutations
        second exhaustive
+       second mma-all
        second masks SEED
        second random SEED COUNT
        second block WORD SEED COUNT
@@ -108,6 +110,7 @@ fn run(arguments: &[&[u8]], out: &mut impl Write) -> Option<io::Result<()>> {
         [b"book-unused"] => print(out, loads::books::unused()),
         [b"mutations"] => print(out, loads::texts::mutations()),
         [b"exhaustive"] => out.write_all(&every::fragments()),
+        [b"mma-all"] => out.write_all(&loads::kinds::all()),
         [b"masks", seed] => out.write_all(&every::masks(seed)),
         [b"random", seed, count] => print(out, loads::random_lines(seed, number(count)?)),
         [b"block", b"large", seed, count] => print(out, loads::large_block(seed, number(count)?)),

@@ -257,7 +257,7 @@ fn iters(text: &str) -> Option<Vec<(Iter, bool)>> {
 }
 
 /// A card of nothing, in the smallest space, without a swizzle.
-const EMPTY: Card = Card {
+pub const EMPTY: Card = Card {
     shard_count: 0,
     shard_slots: [Iter {
         extent: 0,

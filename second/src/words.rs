@@ -8,6 +8,7 @@ use crate::fragment;
 use crate::layout::{self, Marks, NO_MARKS};
 use crate::lines::{plain, Answer, Number};
 use crate::mask;
+use crate::mma;
 use crate::notation;
 use crate::plans;
 use crate::swizzle;
@@ -204,6 +205,21 @@ pub const WORDS: &[Word] = &[
             plans::answer_plan(marks, numbers, most)
         },
     },
+    Word {
+        name: "mma",
+        count: Just(4),
+        answer: |numbers, _| mma::answer_mma(&plain(numbers)?),
+    },
+    Word {
+        name: "mma-holder",
+        count: Just(4),
+        answer: |numbers, _| mma::answer_holder(&plain(numbers)?),
+    },
+    Word {
+        name: "mma-layout",
+        count: Just(1),
+        answer: |numbers, _| mma::answer_layout(&plain(numbers)?),
+    },
 ];
 
 /// A word after which a text comes in the place of numbers: all that follows
@@ -324,6 +340,9 @@ pub const NUMBERS: &[(&str, &[u64])] = &[
     ("plan", &[0, 1, 2, 3, 4, 5, 6, 7, 8, 9, 11, 17, 23]),
     ("carry*", &[0, 1, 2, 3, 4, 5, 6, 7, 8, 9, 11, 17, 21]),
     ("plan*", &[0, 1, 2, 3, 4, 5, 6, 7, 8, 9, 11, 17, 23]),
+    ("mma", &[0, 14]),
+    ("mma-holder", &[0, 14]),
+    ("mma-layout", &[0, 14]),
 ];
 
 #[cfg(test)]

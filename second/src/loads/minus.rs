@@ -106,6 +106,9 @@ mod tests {
         "stretch 1 11 32 1 1 1 1 2 1 1 6 9 1 1 1 1 1 704",
         "bank 16 72",
         "canonical 1 1 16 2 2 256 512 512 512",
+        "mma 37 3 31 7",
+        "mma-holder 45 3 7 7",
+        "mma-layout 1256",
     ];
 
     fn plain_questions() -> Vec<Question<'static>> {
