@@ -141,8 +141,8 @@ fn put_marks(numbers: &mut [u64; 56], bits: u64)
     }
 }
 
-// Puts a column of the unsigned numbers. All eight are read before one is written, so that they are written by two, and whoever reads
-// two at once finds them together.
+// Puts a column of the unsigned numbers. All eight are read before one is written, so that those that stand in
+// a row are written by two, and whoever reads two at once finds them together.
 fn put(numbers: &mut [u64; 56], column: usize, entries: [u64; 8])
     requires { ⌜ (length (now numbers) ≡ 56) × (column < 7) ⌝ }
     ensures { λ r. ⌜ Put 0 column 8 (λ k. getD entries k 0) (now (numbers .entry)) (now (numbers .exit)) ⌝ }
