@@ -29,13 +29,14 @@ use Rattle.claims.specs.Claims.{occupied}
 use Rattle.claims.proofs.Theorems.{owners-none-share}
 use Rattle.judgement.specs.Judgement.{placed, AllInside, FirstOutside, Judgement, NotAdmitted, NoRoom, OutsideAt, Clashing, Passed, ComesTo}
 use Rattle.judgement.specs.Verdict.{verdictOf, VerdictPromise, askedSpot, OwnerJudgement, NoCell, ByVerdict, OwnerComesTo, readEntry, ownerOf, OwnerPromise, verdictNumbers, ownerNumbers}
-use Rattle.judgement.specs.Plain.{OneClassACell, FirstShared}
+use Rattle.judgement.specs.Plain.{OneClassACell, FirstShared, VerdictSays, OwnerSays}
 use Rattle.judgement.specs.declared.Verdict.{Verdict}
 use Rattle.judgement.specs.declared.Verdict.the-variants.{Approved, Refused as NotApproved}
 use Rattle.judgement.specs.declared.Owner.{Owner}
 use Rattle.judgement.proofs.Unique.{not-both, judgement-unique}
 use Rattle.judgement.proofs.Theorems.{one-class-exactly, first-shared, demand-3, owner-by-verdict}
 use Rattle.judgement.proofs.InNumbers.{table-in-numbers, owner-in-numbers}
+use Rattle.judgement.proofs.Plain.{verdict-exactly, owner-exactly}
 
 -- the numbers of a question that judges a card in a table of so many entries, once it is ready for it
 pub record InTable (ready : Type 0) (card : Card) (room : ℕ) (n approved : Numbers) : Type 0 where
@@ -197,13 +198,14 @@ module _ (card : Card) (before after : List ℕ) (v : Verdict) (p : VerdictPromi
       }
 
 -- the verdict: 1 to 6 and 17, and of a card that is free of them 11, 7, 8 and 0 with elements, occupied cells and cells
-pub verdict-each-number : (card : Card) (before after : List ℕ) (v : Verdict) → VerdictPromise card before after v
+pub verdict-each-number : (card : Card) (before after : List ℕ) (v : Verdict) → VerdictSays card before after v
     → OfAdmission card (verdictNumbers v)
     × InTable (Free card) card (length before) (verdictNumbers v) (answer 0 (elements card) (occupied (take (cells card) after)) (cells card))
-verdict-each-number card before after v p = (
-  begins card before after v p verdictNumbers (λ r. refl) (λ e o c. refl),
-  in-table card before after v p verdictNumbers (λ r. refl) (λ e o c. refl),
-)
+verdict-each-number card before after v says =
+    let p = verdict-exactly card before after v .0 says in (
+      begins card before after v p verdictNumbers (λ r. refl) (λ e o c. refl),
+      in-table card before after v p verdictNumbers (λ r. refl) (λ e o c. refl),
+    )
 
 -- coordinates, one for each axis, name a cell, or one of them is the first that is not below its length
 pub asked-one : (lengths coordinates : List ℕ) → length coordinates ≡ length lengths
@@ -347,8 +349,9 @@ module _ (card : Card) (coordinates before after : List ℕ) (o : Owner) (promis
 
 -- the owner of a cell, for every card and all coordinates
 pub owner-each-number : (card : Card) (coordinates before after : List ℕ) (o : Owner) → length coordinates ≡ length (card .lengths)
-    → OwnerPromise card coordinates before after o → OwnerEachNumber card coordinates (length before) after (ownerNumbers o)
-owner-each-number card coordinates before after o same p =
+    → OwnerSays card coordinates before after o → OwnerEachNumber card coordinates (length before) after (ownerNumbers o)
+owner-each-number card coordinates before after o same says =
+    let p = owner-exactly card coordinates before after o .0 says in
     ⊎-elim (λ (below : EachBelow (card .lengths) coordinates). inside-numbers card coordinates before after o p same below)
     (λ (found : (axis : ℕ) × FirstPast (card .lengths) coordinates axis). outside-numbers card coordinates before after o p same (found .0) (found .1))
     (asked-one (card .lengths) coordinates same)

@@ -20,12 +20,13 @@ use Rattle.idle.specs.Idle.{NoIdlePair}
 use Rattle.claims.specs.Claims.{occupied}
 use Rattle.judgement.specs.Judgement.{LiesInside, AllInside}
 use Rattle.judgement.specs.Verdict.{VerdictPromise, askedSpot, OwnerPromise}
-use Rattle.judgement.specs.Plain.{OneClassACell, HasCopyIn, SmallestIn}
+use Rattle.judgement.specs.Plain.{OneClassACell, HasCopyIn, SmallestIn, VerdictSays}
 use Rattle.judgement.specs.declared.Verdict.{Verdict}
 use Rattle.judgement.specs.declared.Verdict.the-variants.{Approved}
 use Rattle.judgement.specs.declared.Owner.{Owner}
 use Rattle.judgement.proofs.Run.{lies-inside}
 use Rattle.judgement.proofs.Theorems.{IsApproval, Demand3, demand-3}
+use Rattle.judgement.proofs.Plain.{verdict-exactly}
 use Rattle.judgement.proofs.OwnerDemand.{OwnerDemand3, demand-3-owner}
 
 -- demand 3 of a card whose numbers lie within the limits, by their inequalities
@@ -114,9 +115,9 @@ module _ (card : Card) (eight : length (card .lengths) ≡ 8) (within : WithinLi
 -- Demand 3 in these words: every count, extent, stride, offset, axis, length, product and M, B, S within its limits, no two replica combinations with the same
 -- sums, and a long enough table
 pub demand-3-plain : (card : Card) (before after : List ℕ) (verdict : Verdict) → length (card .lengths) ≡ 8 → WithinLimits card
-    → NoIdlePair (card .replica) → cells card ≤ length before → VerdictPromise card before after verdict → PlainDemand3 card after verdict
-demand-3-plain card before after verdict eight within no-pair long p =
-    let d = demand-3-within card before after verdict within no-pair long p in
+    → NoIdlePair (card .replica) → cells card ≤ length before → VerdictSays card before after verdict → PlainDemand3 card after verdict
+demand-3-plain card before after verdict eight within no-pair long says =
+    let d = demand-3-within card before after verdict within no-pair long (verdict-exactly card before after verdict .0 says) in
     let lie = all-lie-exactly card eight within in
     record {
       approved = (
