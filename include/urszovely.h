@@ -160,6 +160,33 @@ void urszovely_fragment(uint64_t kind, uint64_t lane, uint64_t reg, uint64_t ans
 /* Which register holds a place: 0 with lane and register, or 14. */
 void urszovely_holder(uint64_t kind, uint64_t computation, uint64_t row, uint64_t column, uint64_t answer[4]);
 
+/* The further kinds of fragments, as PTX names them: F16 is .bf16 too, S8 .u8, S4 .u4; M16N8_C is C and D of every k and type, M8N8_S32_C those of
+ * .s32; WGMMA_K16_A is A in registers of wgmma m64k16 .f16, WGMMA_K8_A of m64k8 .tf32, WGMMA_K32_A of m64k32 .s8; LDMATRIX is stmatrix too. The
+ * accumulators D of wgmma m64nN are URSZOVELY_WGMMA_D(N), N = 8, 16, .. 256. */
+enum {
+    URSZOVELY_M16N8K8_F16_A = 9, URSZOVELY_M16N8K8_F16_B = 10, URSZOVELY_M16N8_C = 11, URSZOVELY_M16N8K16_F16_A = 12,
+    URSZOVELY_M16N8K16_F16_B = 13, URSZOVELY_M16N8K4_TF32_A = 14, URSZOVELY_M16N8K4_TF32_B = 15, URSZOVELY_M16N8K8_TF32_A = 16,
+    URSZOVELY_M16N8K8_TF32_B = 17, URSZOVELY_M8N8K16_S8_A = 18, URSZOVELY_M8N8K16_S8_B = 19, URSZOVELY_M8N8_S32_C = 20,
+    URSZOVELY_M16N8K16_S8_A = 21, URSZOVELY_M16N8K16_S8_B = 22, URSZOVELY_M16N8K32_S8_A = 23, URSZOVELY_M16N8K32_S8_B = 24,
+    URSZOVELY_M8N8K32_S4_A = 25, URSZOVELY_M8N8K32_S4_B = 26, URSZOVELY_M16N8K32_S4_A = 27, URSZOVELY_M16N8K32_S4_B = 28,
+    URSZOVELY_M16N8K64_S4_A = 29, URSZOVELY_M16N8K64_S4_B = 30, URSZOVELY_M16N8K4_F64_A = 31, URSZOVELY_M16N8K4_F64_B = 32,
+    URSZOVELY_M16N8K8_F64_A = 33, URSZOVELY_M16N8K8_F64_B = 34, URSZOVELY_M16N8K16_F64_A = 35, URSZOVELY_M16N8K16_F64_B = 36,
+    URSZOVELY_WGMMA_K16_A = 37, URSZOVELY_WGMMA_K8_A = 38, URSZOVELY_WGMMA_K32_A = 39, URSZOVELY_LDMATRIX_X1 = 40,
+    URSZOVELY_LDMATRIX_X1_TRANS = 41, URSZOVELY_LDMATRIX_X2 = 42, URSZOVELY_LDMATRIX_X2_TRANS = 43, URSZOVELY_LDMATRIX_X4 = 44,
+    URSZOVELY_LDMATRIX_X4_TRANS = 45
+};
+#define URSZOVELY_WGMMA_D(n) (1000 + (n))
+
+/* What a register of a lane of a warp holds, of the further kinds; registers are counted as PTX counts them, one an element: 0 with matrix, row,
+ * column, or 14. */
+void urszovely_mma(uint64_t kind, uint64_t warp, uint64_t lane, uint64_t reg, uint64_t answer[4]);
+
+/* Which register of the further kinds holds a place: 0 with warp, lane, register, or 14. */
+void urszovely_mma_holder(uint64_t kind, uint64_t matrix, uint64_t row, uint64_t column, uint64_t answer[4]);
+
+/* The layout of a further kind, as a card, its elements matrix by row by column: 0 with no details, or 14 and 57 zeros. urszovely_write makes its text. */
+void urszovely_mma_layout(uint64_t kind, uint64_t card[URSZOVELY_CARD], uint64_t answer[4]);
+
 /* Values. A register is three numbers at one place of three arrays: its sort, 0 empty, 1 a single, 2 a double, any other is a wrong sort;
  * a float, read and written where the sort is 1; a double, where it is 2. A tile has 64, place 8 row + column, the lanes 256, entry
  * 8 lane + register. Values are moved as their bits, 32 or 64, not-a-number patterns too: the library

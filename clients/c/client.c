@@ -295,6 +295,26 @@ static int write_text(void)
     return 1;
 }
 
+/* the layout of a further kind of fragment, and its text; refused, the card is zeros */
+static int mma_layout(void)
+{
+    uint64_t written[4], i;
+    if (!fits(1, 0)) return 0;
+    for (i = 0; i < CARD; i++) card[i] = 165;
+    urszovely_mma_layout(numbers[0], card, answer);
+    put_answer();
+    put_text(" |");
+    if (answer[0]) {
+        for (i = 0; i < CARD; i++)
+            if (card[i]) put_text(" a card that is not zeros");
+        return 1;
+    }
+    urszovely_write(card, 0, text, MOST_TEXT, written);
+    put(' ');
+    for (i = 0; i < written[1]; i++) put((char)text[i]);
+    return 1;
+}
+
 /* a card with the note of a seed, as a block of the layout book */
 static int block(void)
 {
@@ -578,6 +598,8 @@ static int plain(void)
     else if (is("bank") && fits(2, 0)) urszovely_bank(numbers[0], numbers[1], answer);
     else if (is("fragment") && fits(3, 0)) urszovely_fragment(numbers[0], numbers[1], numbers[2], answer);
     else if (is("holder") && fits(4, 0)) urszovely_holder(numbers[0], numbers[1], numbers[2], numbers[3], answer);
+    else if (is("mma") && fits(4, 0)) urszovely_mma(numbers[0], numbers[1], numbers[2], numbers[3], answer);
+    else if (is("mma-holder") && fits(4, 0)) urszovely_mma_holder(numbers[0], numbers[1], numbers[2], numbers[3], answer);
     else return 0;
     put_answer();
     return 1;
@@ -601,6 +623,7 @@ static int ask(void)
     if (is("verdict") || is("owner") || is("place") || is("stretch")) return layout();
     if (is("deal") || is("collect") || is("deal-f64") || is("collect-f64")) return values();
     if (is("write")) return write_text();
+    if (is("mma-layout")) return mma_layout();
     if (is("block")) return block();
     if (is("canonical")) return canonical();
     if (is("carry")) return carry();

@@ -141,6 +141,20 @@ static void guarded_holder(uint64_t kind, uint64_t computation, uint64_t row, ui
     settle(ANSWER, 2, answer, 32);
 }
 
+static void guarded_mma(uint64_t kind, uint64_t warp, uint64_t lane, uint64_t reg, uint64_t *answer)
+{
+    int side;
+    for (side = 0; side < 2; side++) urszovely_mma(kind, warp, lane, reg, blank(side));
+    settle(ANSWER, 2, answer, 32);
+}
+
+static void guarded_mma_holder(uint64_t kind, uint64_t matrix, uint64_t row, uint64_t column, uint64_t *answer)
+{
+    int side;
+    for (side = 0; side < 2; side++) urszovely_mma_holder(kind, matrix, row, column, blank(side));
+    settle(ANSWER, 2, answer, 32);
+}
+
 static void guarded_fields(uint64_t descriptor, uint8_t *fields, uint64_t *answer)
 {
     int side;
@@ -322,6 +336,17 @@ static void guarded_canonical_card(uint64_t major, uint64_t mode, uint64_t bits,
     int side;
     for (side = 0; side < 2; side++) {
         urszovely_canonical_card(major, mode, bits, m, k, lbo, sbo, length_of_m, lent(LENT, side, unlike(side, card, 57 * 8), 57 * 8), blank(side));
+        may_write(LENT, 57 * 8, 0, 57 * 8);
+    }
+    settle(LENT, 2, card, 57 * 8);
+    settle(ANSWER, 2, answer, 32);
+}
+
+static void guarded_mma_layout(uint64_t kind, uint64_t *card, uint64_t *answer)
+{
+    int side;
+    for (side = 0; side < 2; side++) {
+        urszovely_mma_layout(kind, lent(LENT, side, unlike(side, card, 57 * 8), 57 * 8), blank(side));
         may_write(LENT, 57 * 8, 0, 57 * 8);
     }
     settle(LENT, 2, card, 57 * 8);
@@ -564,6 +589,9 @@ static void guarded_collect_f64(uint64_t kind, uint64_t computation, const doubl
 #define urszovely_bank guarded_bank
 #define urszovely_fragment guarded_fragment
 #define urszovely_holder guarded_holder
+#define urszovely_mma guarded_mma
+#define urszovely_mma_holder guarded_mma_holder
+#define urszovely_mma_layout guarded_mma_layout
 #define urszovely_fields guarded_fields
 #define urszovely_descriptor guarded_descriptor
 #define urszovely_mask guarded_mask

@@ -47,6 +47,9 @@ fn ask(
         Word::Block => books::block(numbers),
         Word::Carry => carrying::carry(numbers, lent, second),
         Word::Plan => carrying::plan(numbers, plan, lent, second),
+        Word::Mma => fragments::mma(numbers),
+        Word::MmaHolder => fragments::mma_holder(numbers),
+        Word::MmaLayout => notations::mma_layout(numbers),
         Word::Unknown => reply::unknown(),
     }
 }

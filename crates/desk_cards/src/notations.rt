@@ -1,4 +1,4 @@
-// The words of the layout notation: read and write.
+// The words of the layout notation: read, write and the layout of a kind of fragment.
 use crate::cards;
 use crate::records::layout_values;
 use crate::records::put_marks;
@@ -57,4 +57,14 @@ pub fn write(numbers: &Kept) -> LineReply {
     let length = asked as usize;
     let mut lent = [LENT; 1024];
     ask_write(numbers, &mut lent[0..length])
+}
+
+// mma-layout kind: the text is written to bytes of the program's own, as many as any text has
+pub fn mma_layout(numbers: &Kept) -> LineReply {
+    let layout = mma::layout_of(numbers[0]);
+    let answer = layout.answer;
+    let card = layout.card;
+    let mut text = [0u8; 1024];
+    let written = writing::write_numbers(writing::write(card, &mut text));
+    reply::text(admission::admission_numbers(answer), written.a, &text)
 }

@@ -28,6 +28,9 @@ pub enum Word {
     Block,
     Carry,
     Plan,
+    Mma,
+    MmaHolder,
+    MmaLayout,
     Unknown,
 }
 
@@ -46,7 +49,21 @@ fn is_named(line: &[u8; 4096], end: usize, name: &[u8]) -> bool {
     true
 }
 
-// The line's word, by its name: those of plans,
+// The line's word, by its name: those of the further kinds of fragments,
+fn mma_word(line: &[u8; 4096], end: usize) -> Word {
+    if is_named(line, end, b"mma") {
+        return Word::Mma;
+    }
+    if is_named(line, end, b"mma-holder") {
+        return Word::MmaHolder;
+    }
+    if is_named(line, end, b"mma-layout") {
+        return Word::MmaLayout;
+    }
+    Word::Unknown
+}
+
+// those of plans,
 fn plan_word(line: &[u8; 4096], end: usize) -> Word {
     if is_named(line, end, b"carry") {
         return Word::Carry;
@@ -54,7 +71,7 @@ fn plan_word(line: &[u8; 4096], end: usize) -> Word {
     if is_named(line, end, b"plan") {
         return Word::Plan;
     }
-    Word::Unknown
+    mma_word(line, end)
 }
 
 // those of layouts,
@@ -140,6 +157,9 @@ fn most(word: Word) -> usize {
         Word::Block => places::BLOCK_LENT + 1,
         Word::Carry => places::CARRIED + 256 + 2,
         Word::Plan => places::TABLES_LENT + 2,
+        Word::Mma => 4,
+        Word::MmaHolder => 4,
+        Word::MmaLayout => 1,
         Word::Unknown => 0,
     }
 }

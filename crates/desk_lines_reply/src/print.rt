@@ -85,6 +85,15 @@ fn written(out: &mut [u8; 65536], at: usize, reply: LineReply) -> usize {
     output::byte(out, place, b'\n')
 }
 
+// An answer with a text after it.
+fn texted(out: &mut [u8; 65536], at: usize, reply: LineReply) -> usize {
+    let of = reply.values;
+    let mut place = details(out, at, reply.answer);
+    place = output::text(out, place, b" | ");
+    place = bytes(out, place, of[0] as usize, &of);
+    output::byte(out, place, b'\n')
+}
+
 // One reply, and the next place. A reply has at most 4,096 bytes.
 pub fn put(out: &mut [u8; 65536], at: usize, reply: LineReply) -> usize {
     let room = output::make_room(out, at);
@@ -95,5 +104,6 @@ pub fn put(out: &mut [u8; 65536], at: usize, reply: LineReply) -> usize {
         Form::Barred => barred(out, room, reply, false),
         Form::Signed => barred(out, room, reply, true),
         Form::Written => written(out, room, reply),
+        Form::Text => texted(out, room, reply),
     }
 }

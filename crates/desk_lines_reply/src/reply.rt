@@ -16,10 +16,12 @@ pub enum Form {
     Signed,
     // these, and after the values a text
     Written,
+    // the number and the details, and after a bar a text
+    Text,
 }
 
 // What a line is answered; the values are the first `count`. A text stands behind the first of them, eight bytes
-// to a value, the first the lowest, and is as long as A says: a reply is copied where it is returned, so it has no
+// to a value, the first the lowest, and is as long as A says, or where it stands alone as the first value says: a reply is copied where it is returned, so it has no
 // room that most replies leave empty.
 pub struct LineReply {
     pub form: Form,
@@ -175,5 +177,18 @@ pub fn written(answer: Numbers, from: &[u8]) -> LineReply {
         answer,
         count: 1,
         values: with_text(lent::digest_bytes(from), from, answer.a),
+    }
+}
+
+// At number 0 a text of so many bytes, else nothing after the bar.
+pub fn text(answer: Numbers, length: u64, from: &[u8]) -> LineReply {
+    if answer.number != 0 {
+        return barred(answer, 0, [0; 80]);
+    }
+    LineReply {
+        form: Form::Text,
+        answer,
+        count: 0,
+        values: with_text(length, from, length),
     }
 }

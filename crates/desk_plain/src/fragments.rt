@@ -1,4 +1,4 @@
-// The words of the subject fragment.
+// The words of the subject fragment, and of its further kinds.
 use desk_lines::places::Kept;
 use desk_lines_reply::reply;
 use desk_lines_reply::reply::LineReply;
@@ -13,4 +13,16 @@ pub fn fragment(numbers: &Kept) -> LineReply {
 pub fn holder(numbers: &Kept) -> LineReply {
     let holder = fragment::holder_of(numbers[0], numbers[1], numbers[2], numbers[3]);
     reply::plain(fragment::holder_numbers(holder))
+}
+
+// mma kind warp lane register
+pub fn mma(numbers: &Kept) -> LineReply {
+    let held = mma::held_by(numbers[0], numbers[1], numbers[2], numbers[3]);
+    reply::plain(mma::held_numbers(held))
+}
+
+// mma-holder kind matrix row column
+pub fn mma_holder(numbers: &Kept) -> LineReply {
+    let holder = mma::holder_of(numbers[0], numbers[1], numbers[2], numbers[3]);
+    reply::plain(mma::holder_numbers(holder))
 }

@@ -13,6 +13,7 @@ use Rattle.laws.proofs.Rungs.{apart}
 use Rattle.swizzle.specs.Swizzle.{swizzled}
 use Rattle.swizzle.specs.Mode.{bitLength}
 use Rattle.fragment.specs.Kinds.{computation, registers, place}
+use Rattle.mma_kinds.specs.Kinds.{kindTable as kinds, kindOf}
 use Rattle.descriptor.specs.Descriptor.{descriptorOf}
 use Rattle.mask_pattern.specs.Pattern.{column, columnsNumber, maskBytes, zeroed, firstUsed}
 use Rattle.card.specs.Admission.{admission}
@@ -85,7 +86,7 @@ meets k load = same (repliedTo (load .question)) (load .stated)
 
 -- the computed test
 test : every meets 0 loads ≡ true
-unfolding meets repliedTo loads swizzled bitLength leadingZeros computation registers place descriptorOf column columnsNumber maskBytes zeroed firstUsed admission pairOf fullAdmission position coordinates spot leader copyCells outsideAxis placementAnswer placementMemory
+unfolding meets repliedTo loads swizzled bitLength leadingZeros computation registers place kinds kindOf descriptorOf column columnsNumber maskBytes zeroed firstUsed admission pairOf fullAdmission position coordinates spot leader copyCells outsideAxis placementAnswer placementMemory
 test = refl
 
 -- every load of the sheet has its stated answer

@@ -8,7 +8,8 @@ use lib.ListN.{replicate}
 use Rattle.answers.specs.Refusals.{answer}
 use Rattle.descriptor.specs.Descriptor.{descriptorOf}
 use Rattle.descriptor.specs.declared.Fields.{Fields}
-use Rattle.sheet.specs.Questions.{Question, swizzle, mode, bank, fragment, descriptor, mask, place, verdict, owner, stretch, carry, plan, Reply, reply}
+use Rattle.mma_kinds.specs.Layouts.{mmaCard}
+use Rattle.sheet.specs.Questions.{Question, swizzle, mode, bank, fragment, mma, descriptor, mask, place, verdict, owner, stretch, carry, plan, Reply, reply}
 use Rattle.sheet.specs.Cards.{tuple, tile, tileX, unswizzled, onlyOnM, atM, backwards, lastRowFirst, copiesBack, _by_on_, _back_on_, m, TLane, inTensorMemory, wideTile, doubled, elementCopied, bothSides, scaleFactors, withMarks, reusedFactors, fourEach, sixtyFive, figure189, sayingCounts, inARow, fullCard, twoFrom, twoTurned, twoTwice}
 use Rattle.sheet.specs.Cards.{swizzle as swizzleBy}
 
@@ -124,6 +125,14 @@ loads =
     ∷ (fragment 6 22 0 is reply (answer 0 0 5 2) [])
     ∷ (fragment 7 22 0 is reply (answer 0 0 2 5) [])
     ∷ (fragment 8 21 1 is reply (answer 0 0 5 3) [])
+    -- the further kinds: A of m16n8k16 .f16, ldmatrix .x4.trans, the last register of wgmma m64n256 D; kind 8 is document 01's, and there is no N of 264
+    ∷ (mma 12 0 22 5 is reply (answer 0 0 5 13) [])
+    ∷ (mma 45 0 22 5 is reply (answer 0 2 5 5) [])
+    ∷ (mma 1256 3 31 127 is reply (answer 0 0 63 255) [])
+    ∷ (mma 8 0 0 0 is reply (answer 14 0 0 0) [])
+    ∷ (mma 1264 0 0 0 is reply (answer 14 0 0 0) [])
+    -- and B of m16n8k4 .tf32 as a layout, judged: every cell is occupied
+    ∷ (verdict (mmaCard 15) (table 40) is reply (answer 0 32 32 32) [])
     -- masks, with source document 003's four examples: its example 4, and with sub-masks as long as printed
     ∷ (mask 32 32 0x0203028301020100 fourEntries is reply (answer 0 14 3 0) (0x87 ∷ 0xc3 ∷ 0x1c ∷ 0x38 ∷ []))
     ∷ (mask 32 64 0x0203028301020100 (replicate 8 165)

@@ -7,6 +7,7 @@ use Rattle.swizzle.specs.Swizzle.{swizzleAnswer, swizzleNumbers}
 use Rattle.swizzle.specs.Mode.{modeAnswer, modeNumbers}
 use Rattle.banks_judged.specs.Bank.{bankAnswer, bankNumbers}
 use Rattle.fragment.specs.Fragment.{heldAnswer, heldNumbers}
+use Rattle.mma_kinds.specs.Mma.{mmaAnswer, mmaNumbers}
 use Rattle.descriptor.specs.Descriptor.{shiftLimit, descriptorAnswer, descriptorNumbers}
 use Rattle.mask.specs.Mask.{maskAnswer, maskMemory, maskNumbers}
 use Rattle.descriptor.specs.declared.Fields.{Fields}
@@ -29,6 +30,8 @@ pub data Question : Type 0 where
   bank : ℕ → ℕ → Question
   -- kind, lane and register
   fragment : ℕ → ℕ → ℕ → Question
+  -- kind, warp, lane and register, of the further kinds
+  mma : ℕ → ℕ → ℕ → ℕ → Question
   -- M and the fields
   descriptor : ℕ → Fields → Question
   -- M, N, the descriptor and the lent bytes
@@ -60,6 +63,7 @@ repliedTo (swizzle M B S m) = reply (swizzleNumbers (swizzleAnswer M B S m)) []
 repliedTo (mode bits n) = reply (modeNumbers (modeAnswer bits n)) []
 repliedTo (bank bits address) = reply (bankNumbers (bankAnswer bits address)) []
 repliedTo (fragment kind lane i) = reply (heldNumbers (heldAnswer kind lane i)) []
+repliedTo (mma kind warp lane i) = reply (mmaNumbers (mmaAnswer kind warp lane i)) []
 repliedTo (descriptor M fields) = reply (descriptorNumbers (descriptorAnswer (shiftLimit M) M fields)) []
 repliedTo (mask M N d lent) =
     let generated = maskAnswer (shiftLimit M) M N d (length lent) in

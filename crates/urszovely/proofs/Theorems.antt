@@ -12,6 +12,10 @@ use Rattle.card.specs.declared.Card.{Card}
 use Rattle.idle.proofs.Theorems.{full-admission-settled}
 use Rattle.placement_judged.specs.Placement.{placementNumbers, PlacementSays, Placing}
 use Rattle.placement_judged.specs.declared.Tuple.{Tuple}
+use Rattle.mma_kinds.specs.Mma.{mmaHolderNumbers}
+use Rattle.mma_kinds.specs.declared.MmaPlace.{MmaPlace}
+use Rattle.mma_kinds.specs.declared.MmaHolder.{MmaHolder}
+use Rattle.mma_kinds.proofs.Theorems.{mma-holder-settled}
 use Rattle.placement_judged.specs.declared.Placement.{Placement}
 use Rattle.placement_judged.proofs.Theorems.{placement-settled, placement-exactly}
 use Rattle.notation.specs.Promise.{readNumbers}
@@ -26,7 +30,7 @@ use Rattle.c_bits.specs.declared.Bits.{Bits}
 use Rattle.c_card.specs.Card.{cardFrom, four}
 use Rattle.c_tuple.specs.Tuple.{tupleFrom}
 use Rattle.c_layout.specs.Layout.{cardWith, markBits}
-use Rattle.urszovely.specs.Answers.{AsHolder, AsReading, AsAdmission, AsPlacement, AsVerdict, AsOwner, RegistersWritten}
+use Rattle.urszovely.specs.Answers.{AsHolder, AsReading, AsAdmission, AsPlacement, AsVerdict, AsOwner, RegistersWritten, AsMmaHolder}
 
 pub as-holder-settled : (kind : ℕ) (place : Place) (x y : List ℕ) → AsHolder kind place x → AsHolder kind place y → x ≡ y
 as-holder-settled kind place x y h k =
@@ -37,6 +41,10 @@ as-admission-settled card marks x y h k =
     h .numbers
     ∙ ap (λ (a : Admission). four (admissionNumbers a)) (full-admission-settled (cardFrom card marks) (h .admission) (k .admission) (h .allowed) (k .allowed))
     ∙ sym (k .numbers)
+
+pub as-mma-holder-settled : (kind : ℕ) (place : MmaPlace) (x y : List ℕ) → AsMmaHolder kind place x → AsMmaHolder kind place y → x ≡ y
+as-mma-holder-settled kind place x y h k =
+    h .numbers ∙ ap (λ (r : MmaHolder). four (mmaHolderNumbers r)) (mma-holder-settled kind place (h .holder) (k .holder) (h .allowed) (k .allowed)) ∙ sym (k .numbers)
 
 pub as-placement-settled : (card : List ℕ) (marks : ℕ) (shape coordinates before a b x y : List ℕ) → AsPlacement card marks shape coordinates before a x
     → AsPlacement card marks shape coordinates before b y → (a ≡ b) × (x ≡ y)

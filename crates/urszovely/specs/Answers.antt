@@ -10,6 +10,9 @@ use Rattle.card.specs.Admission.{admissionNumbers}
 use Rattle.card.specs.declared.Admission.{Admission}
 use Rattle.idle.specs.Admission.{AdmissionSays}
 use Rattle.placement_judged.specs.Placement.{PlacementSays, placementNumbers}
+use Rattle.mma_kinds.specs.Mma.{MmaHolderAnswer, mmaHolderNumbers}
+use Rattle.mma_kinds.specs.declared.MmaPlace.{MmaPlace}
+use Rattle.mma_kinds.specs.declared.MmaHolder.{MmaHolder}
 use Rattle.placement_judged.specs.declared.Placement.{Placement}
 use Rattle.notation.specs.Promise.{ReadSays, readNumbers}
 use Rattle.notation.specs.declared.Reading.{Reading}
@@ -27,6 +30,11 @@ pub record AsHolder (kind : ℕ) (place : Place) (answer : List ℕ) : Type 0 wh
   pub holder : Holder
   pub allowed : HolderAnswer kind place holder
   pub numbers : answer ≡ four (holderNumbers holder)
+
+pub record AsMmaHolder (kind : ℕ) (place : MmaPlace) (answer : List ℕ) : Type 0 where
+  pub holder : MmaHolder
+  pub allowed : MmaHolderAnswer kind place holder
+  pub numbers : answer ≡ four (mmaHolderNumbers holder)
 
 -- the card with the layout that was read, and its marks
 pub record AsReading (text before card marks answer : List ℕ) : Type 0 where

@@ -11,6 +11,7 @@ ghost use Rattle.swizzle.specs.Swizzle.{swizzleAnswer, swizzleNumbers};
 ghost use Rattle.swizzle.specs.Mode.{modeAnswer, modeNumbers};
 ghost use Rattle.banks_judged.specs.Bank.{bankAnswer, bankNumbers};
 ghost use Rattle.fragment.specs.Fragment.{heldAnswer, heldNumbers};
+ghost use Rattle.mma_kinds.specs.Mma.{mmaAnswer, mmaNumbers, layoutAnswer};
 ghost use Rattle.descriptor.specs.Descriptor.{fieldsAnswer, fieldsNumbers, shiftLimit, descriptorAnswer, descriptorNumbers};
 ghost use Rattle.mask.specs.Mask.{maskAnswer, maskMemory, maskNumbers};
 ghost use Rattle.card.specs.Admission.{admissionNumbers};
@@ -23,7 +24,7 @@ ghost use Rattle.c_card.specs.Card.{cardFrom, four};
 ghost use Rattle.c_fields.specs.Fields.{fieldsFrom, bytesOf};
 ghost use Rattle.canonical.specs.Canonical.{built};
 ghost use Rattle.book.specs.Book.{readAnswer as blockAnswer};
-ghost use Rattle.urszovely.specs.Answers.{AsHolder, AsReading, AsAdmission, AsPlacement, AsVerdict, AsOwner, RegistersWritten};
+ghost use Rattle.urszovely.specs.Answers.{AsHolder, AsReading, AsAdmission, AsPlacement, AsVerdict, AsOwner, RegistersWritten, AsMmaHolder};
 ghost use Rattle.urszovely.specs.Canonical.{cardNumbers, AsCanonical};
 ghost use Rattle.urszovely.specs.Book.{notePlace, AsBlock, AsPage};
 ghost use Rattle.urszovely.specs.Plans.{AsCheck, AsPlan};
@@ -81,6 +82,38 @@ pub extern "C" fn urszovely_holder(
 {
     let holder = fragment::holder_of(kind, computation, row, column);
     let numbers = fragment::holder_numbers(holder);
+    *answer = c_card::four(numbers);
+}
+
+// What a register of a lane of a warp holds, of the further kinds.
+#[no_mangle]
+pub extern "C" fn urszovely_mma(
+    kind: u64,
+    warp: u64,
+    lane: u64,
+    register: u64,
+    answer: &mut [u64; 4],
+)
+    ensures { λ r. ⌜ now (answer .exit) ≡ four (mmaNumbers (mmaAnswer kind warp lane register)) ⌝ }
+{
+    let held = mma::held_by(kind, warp, lane, register);
+    let numbers = mma::held_numbers(held);
+    *answer = c_card::four(numbers);
+}
+
+// Which register of the further kinds holds a place.
+#[no_mangle]
+pub extern "C" fn urszovely_mma_holder(
+    kind: u64,
+    matrix: u64,
+    row: u64,
+    column: u64,
+    answer: &mut [u64; 4],
+)
+    ensures { λ r. ⌜ AsMmaHolder kind (record { matrix = matrix; row = row; column = column }) (now (answer .exit)) ⌝ }
+{
+    let holder = mma::holder_of(kind, matrix, row, column);
+    let numbers = mma::holder_numbers(holder);
     *answer = c_card::four(numbers);
 }
 
@@ -488,6 +521,20 @@ pub extern "C" fn urszovely_canonical_card(
     let of = built.card;
     *card = card_numbers(of);
     let told = built.answer;
+    let numbers = admission::admission_numbers(told);
+    *answer = c_card::four(numbers);
+}
+
+// The layout of a further kind, as 57 numbers.
+#[no_mangle]
+pub extern "C" fn urszovely_mma_layout(kind: u64, card: &mut [u64; 57], answer: &mut [u64; 4])
+    ensures { λ r. ⌜ now (card .exit) ≡ cardNumbers (layoutAnswer kind .card) ⌝ }
+    ensures { λ r. ⌜ now (answer .exit) ≡ four (admissionNumbers (layoutAnswer kind .answer)) ⌝ }
+{
+    let layout = mma::layout_of(kind);
+    let of = layout.card;
+    *card = card_numbers(of);
+    let told = layout.answer;
     let numbers = admission::admission_numbers(told);
     *answer = c_card::four(numbers);
 }
