@@ -18,7 +18,8 @@ use Rattle.mma_kinds.specs.declared.KindForm.{KindForm}
 use Rattle.mma_kinds.specs.Kinds.{kindTable, noKind, kindsByNumber, accumulator, isAccumulator, kindOf}
 use Rattle.mma_kinds.specs.Mma.{isKind}
 use Rattle.mma_kinds.proofs.Approved.{past-the-rows}
-use Rattle.mma.specs.Contracts.{FormSound, unpacked}
+use Rattle.mma_cards.specs.Contracts.{FormSound}
+use Rattle.mma.specs.Contracts.{unpacked}
 
 -- two answers of a test are the same
 abbrev alike : Bool → Bool → Bool

@@ -7,21 +7,26 @@ use native.Mathlib.Nat.{add-zero, mul-one, mul-le-mul}
 use native.Mathlib.Omega.{arith}
 use borrow.Author.Tests.{le-ltb, ltb-true, ltb-false}
 use lib.Dec.{ltb}
+use lib.IntN.{pos}
+use lib.ListN.{replicate}
 use Rattle.laws.proofs.Tests.{three-of}
 use Rattle.fragment.specs.Fragment.{outside}
 use Rattle.card.specs.Lists.{product}
+use Rattle.card.specs.Card.{counted}
 use Rattle.mma_kinds.specs.declared.KindForm.{KindForm}
 use Rattle.mma_kinds.specs.declared.MmaPlace.{MmaPlace}
 use Rattle.mma_kinds.specs.declared.MmaSlot.{MmaSlot}
 use Rattle.mma_kinds.specs.Kinds.{mmaAt, kindOf}
 use Rattle.mma_kinds.specs.declared.MmaHeld.the-variants.{Place as Holds, Refused as HoldsNot}
+use Rattle.mma_kinds.specs.Layouts.{formIters, cut, mmaCard}
 use Rattle.mma_kinds.specs.Mma.{isMmaSlot, isMmaPlace, isKind, mmaAnswer}
 use Rattle.mma_kinds.specs.Forms.{turnedAt, registerSizes, downSizes, acrossSizes, heldIn, holderIn}
 use Rattle.mma_kinds.proofs.Agree.{every-kind-agrees}
 use Rattle.mma_kinds.proofs.Placed.{held-by-form}
 use Rattle.mma_kinds.proofs.Back.{back, place-back}
 use Rattle.mma_kinds.proofs.Theorems.{back-answers}
-use Rattle.mma.specs.Contracts.{FormSound, formSlot, placeIn, holderAt}
+use Rattle.mma_cards.specs.Contracts.{FormSound, formCard}
+use Rattle.mma.specs.Contracts.{formSlot, placeIn, holderAt}
 
 pub times : (a b m n : ℕ) → a ≤ m → b ≤ n → a * b ≤ m * n
 times a b m n h k = mul-le-mul h k
@@ -166,3 +171,19 @@ place-small f s p e =
     let shape = turnedAt (f .turned) 0 (product (downSizes f)) (product (acrossSizes f)) in
     let t = three-of (ltb (p .matrix) (f .matrices)) (ltb (p .row) (shape .row)) (ltb (p .column) (shape .column)) e in
     omega (arith, ltb-true (p .matrix) (f .matrices) (t .0), s .few-matrices)
+
+-- the card of a kind is that of its form
+pub card-of-form : (kind : ℕ) (f : KindForm) → f ≡ kindOf kind .form → (registers : ℕ) → registers ≡ f .matrices * (f .repeats * (f .halves * f .next))
+    → formCard f registers ≡ mmaCard kind
+card-of-form kind f its registers many =
+    let a = every-kind-agrees kind in
+    ap (formCard f) (many ∙ registers-plain f)
+    ∙ ap (λ (g : KindForm). formCard g (product (registerSizes g))) its
+    ∙ (λ j. record {
+      shard = counted (cut (formIters (kindOf kind .form)));
+      marks = replicate 8 false;
+      replica = counted [];
+      offset = replicate 8 (pos 0);
+      lengths = 1 ∷ sym (a .its-warps) j ∷ 32 ∷ 1 ∷ 1 ∷ 1 ∷ 1 ∷ sym (a .its-registers) j ∷ [];
+      swizzle = record { m = 0; b = 0; s = 3 };
+    })

@@ -1,5 +1,4 @@
 // The further kinds of warp fragments: what a register holds, which register holds a place, and a kind's layout as a card.
-mod cards;
 mod rows;
 
 use answers::Numbers;
@@ -15,7 +14,8 @@ ghost use Prim.Native.Nat.{_+_, _*_, _/_, _%_, _≤_, _<_};
 ghost use Rattle.mma_kinds.specs.Kinds.{mmaAt};
 ghost use Rattle.mma_kinds.specs.Mma.{mmaAnswer, MmaHolderAnswer, layoutAnswer, mmaNumbers, mmaHolderNumbers};
 ghost use Rattle.mma_kinds.specs.Forms.{heldIn};
-ghost use Rattle.mma.specs.Contracts.{FormSound, formSlot, placeIn, holderAt};
+ghost use Rattle.mma_cards.specs.Contracts.{FormSound};
+ghost use Rattle.mma.specs.Contracts.{formSlot, placeIn, holderAt};
 
 // The lanes of a warp.
 const LANES: u64 = 32;
@@ -205,14 +205,14 @@ pub fn layout_of(kind: u64) -> MmaLayout
     ensures { λ r. ⌜ r ≡ layoutAnswer kind ⌝ }
 {
     if !rows::is_kind(kind) {
-        let card = cards::zeros();
+        let card = mma_cards::zeros();
         return MmaLayout {
             answer: Admission::Refused(fragment::outside()),
             card,
         };
     }
     let f = rows::form(kind);
-    let card = cards::card(f, tall(f), wide(f), registers(f));
+    let card = mma_cards::card(f, tall(f), wide(f), registers(f));
     MmaLayout {
         answer: Admission::Admitted,
         card,

@@ -5,7 +5,8 @@ ghost use mathlib.Core.Bool.{true};
 ghost use Prim.Native.Nat.{_≤_, _<_};
 ghost use Rattle.mma_kinds.specs.Kinds.{isAccumulator, kindOf};
 ghost use Rattle.mma_kinds.specs.Mma.{isKind};
-ghost use Rattle.mma.specs.Contracts.{FormSound, unpacked};
+ghost use Rattle.mma_cards.specs.Contracts.{FormSound};
+ghost use Rattle.mma.specs.Contracts.{unpacked};
 
 // The number of the first row: kinds 0 to 8 are document 01's.
 const FIRST: u64 = 9;

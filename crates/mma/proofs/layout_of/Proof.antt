@@ -3,7 +3,7 @@ use mathlib.Core.Path.{_≡_, sym, ap, _∙_}
 use mathlib.Core.Bool.{true, false}
 use borrow.Author.Needs.{needs}
 use borrow.Author.Tests.{not-true, not-false}
-use Rattle.mma.proofs.Pushed.{card-of-form}
+use Rattle.mma.proofs.Laws.{card-of-form}
 use Rattle.mma.proofs.layout_of.Statement.{statement}
 use Rattle.mma.proofs.layout_of.Tie as tie
 

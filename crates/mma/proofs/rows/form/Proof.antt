@@ -4,7 +4,7 @@ use mathlib.Core.Bool.{true, false}
 use native.Mathlib.Omega.{arith}
 use borrow.Author.Needs.{needs}
 use Rattle.mma_kinds.specs.Kinds.{isAccumulator}
-use Rattle.mma.specs.Contracts.{FormSound}
+use Rattle.mma_cards.specs.Contracts.{FormSound}
 use Rattle.mma.proofs.KnownKinds.{accumulator-form, accumulator-sound, form-sound, has-row}
 use Rattle.mma.proofs.rows.form.Statement.{statement}
 use Rattle.mma.proofs.rows.form.Tie as tie

@@ -1,7 +1,7 @@
--- `mma::cards::card` has the parts of the card.
+-- `mma_cards::card` has the parts of the card.
 use borrow.Author.Needs.{needs}
-use Rattle.mma.proofs.cards.card.Statement.{statement}
-use Rattle.mma.proofs.cards.card.Tie as tie
+use Rattle.mma_cards.proofs.card.Statement.{statement}
+use Rattle.mma_cards.proofs.card.Tie as tie
 
 pub card-spec : {M : Type 1} → statement M
 card-spec =

@@ -1,12 +1,12 @@
--- `mma::cards::push_down` pushes three iters.
+-- `mma_cards::push_down` pushes three iters.
 use native.Mathlib.Omega.{arith}
 use borrow.Author.Needs.{needs}
 use mathlib.Core.List.{[], _∷_}
 use Rattle.fragment_layouts.specs.Layouts.{lane, register}
 use Rattle.mma_kinds.specs.Layouts.{warp}
-use Rattle.mma.proofs.Pushed.{follows-more}
-use Rattle.mma.proofs.cards.push_down.Statement.{statement}
-use Rattle.mma.proofs.cards.push_down.Tie as tie
+use Rattle.mma_cards.proofs.Pushed.{follows-more}
+use Rattle.mma_cards.proofs.push_down.Statement.{statement}
+use Rattle.mma_cards.proofs.push_down.Tie as tie
 
 returns : tie.Need-returns
 returns c =

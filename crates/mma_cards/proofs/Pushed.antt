@@ -6,22 +6,16 @@ use Prim.Native.Nat.{ℕ, zero, suc, _+_, _-_, _*_, _≤_, _<_}
 use native.Mathlib.Omega.{arith}
 use borrow.Author.Tests.{eq-eqb, ne-eqb}
 use lib.Dec.{eqb}
-use lib.IntN.{pos}
 use lib.ListN.{length, set, replicate, length-append}
 use lib.Seq.{set-append-seam, append-snoc}
-use Rattle.card.specs.Lists.{product, padded}
+use Rattle.card.specs.Lists.{padded}
 use Rattle.card.specs.Card.{counted, none}
 use Rattle.card.specs.declared.Iter.{Iter}
 use Rattle.card.specs.declared.Iters.{Iters}
-use Rattle.card.specs.declared.Card.{Card}
 use Rattle.fragment_layouts.specs.Layouts.{register}
 use Rattle.mma_kinds.specs.declared.KindForm.{KindForm}
-use Rattle.mma_kinds.specs.Kinds.{kindOf}
-use Rattle.mma_kinds.specs.Layouts.{down, across, formIters, cut, mmaCard}
-use Rattle.mma_kinds.specs.Forms.{registerSizes}
-use Rattle.mma_kinds.proofs.Agree.{every-kind-agrees}
-use Rattle.mma.specs.Contracts.{Follows, formCard}
-use Rattle.mma.proofs.Laws.{registers-plain}
+use Rattle.mma_kinds.specs.Layouts.{down, across, formIters, cut}
+use Rattle.mma_cards.specs.Contracts.{Follows}
 
 cut-append : (a b : List Iter) → cut (a ++ b) ≡ cut a ++ cut b
 cut-append [] b = refl
@@ -83,19 +77,3 @@ module _ (f : KindForm) (a b c : Iters) (e : Iters) (start : e ≡ counted []) w
   shard-straight t one two three =
       follows-more e a c (register (f .matrices) (f .repeats * (f .halves * f .next)) ∷ []) (down f ++ across f) one (follows-more a b c (down f) (across f) two three) [] start (omega arith)
       ∙ rw t refl
-
--- the card of a kind is that of its form
-pub card-of-form : (kind : ℕ) (f : KindForm) → f ≡ kindOf kind .form → (registers : ℕ) → registers ≡ f .matrices * (f .repeats * (f .halves * f .next))
-    → formCard f registers ≡ mmaCard kind
-card-of-form kind f its registers many =
-    let a = every-kind-agrees kind in
-    ap (formCard f) (many ∙ registers-plain f)
-    ∙ ap (λ (g : KindForm). formCard g (product (registerSizes g))) its
-    ∙ (λ j. record {
-      shard = counted (cut (formIters (kindOf kind .form)));
-      marks = replicate 8 false;
-      replica = counted [];
-      offset = replicate 8 (pos 0);
-      lengths = 1 ∷ sym (a .its-warps) j ∷ 32 ∷ 1 ∷ 1 ∷ 1 ∷ 1 ∷ sym (a .its-registers) j ∷ [];
-      swizzle = record { m = 0; b = 0; s = 3 };
-    })

@@ -1,4 +1,4 @@
--- `mma::cards::shard` pushes the iters of the matrix, then of the row, then of the column.
+-- `mma_cards::shard` pushes the iters of the matrix, then of the row, then of the column.
 use native.Mathlib.Omega.{arith}
 use borrow.Author.Needs.{needs}
 use mathlib.Core.Path.{_≡_, ap, subst, sym}
@@ -6,10 +6,10 @@ use mathlib.Core.List.{[], _∷_}
 use Prim.Native.Nat.{ℕ, _*_, _≤_}
 use Rattle.card.specs.declared.Iters.{Iters}
 use Rattle.fragment_layouts.specs.Layouts.{register}
-use Rattle.mma.specs.Contracts.{Follows}
-use Rattle.mma.proofs.Pushed.{shard-turned, shard-straight}
-use Rattle.mma.proofs.cards.shard.Statement.{statement}
-use Rattle.mma.proofs.cards.shard.Tie as tie
+use Rattle.mma_cards.specs.Contracts.{Follows}
+use Rattle.mma_cards.proofs.Pushed.{shard-turned, shard-straight}
+use Rattle.mma_cards.proofs.shard.Statement.{statement}
+use Rattle.mma_cards.proofs.shard.Tie as tie
 
 few : (c : tie.After-push) → c .push .result .count ≤ 1
 few c =

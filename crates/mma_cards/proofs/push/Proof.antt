@@ -1,4 +1,4 @@
--- `mma::cards::push` writes the first empty slot, or nothing.
+-- `mma_cards::push` writes the first empty slot, or nothing.
 use mathlib.Core.Path.{sym, ap, subst}
 use mathlib.Core.List.{[], _∷_}
 use Prim.Native.Nat.{_+_}
@@ -7,10 +7,10 @@ use native.Mathlib.Omega.{arith}
 use borrow.Author.Needs.{needs}
 use lib.IntN.{pos}
 use Rattle.card.specs.declared.Iter.{Iter}
-use Rattle.mma.specs.Contracts.{Follows}
-use Rattle.mma.proofs.Pushed.{follows-one, follows-none}
-use Rattle.mma.proofs.cards.push.Statement.{statement}
-use Rattle.mma.proofs.cards.push.Tie as tie
+use Rattle.mma_cards.specs.Contracts.{Follows}
+use Rattle.mma_cards.proofs.Pushed.{follows-one, follows-none}
+use Rattle.mma_cards.proofs.push.Statement.{statement}
+use Rattle.mma_cards.proofs.push.Tie as tie
 
 returns : tie.Need-returns
 returns c =

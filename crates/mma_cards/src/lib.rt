@@ -1,4 +1,4 @@
-// The card of a kind from its six numbers: an iter of extent 1 does not stand.
+// The card of a further kind of fragment, from its six numbers: an iter of extent 1 does not stand.
 use card::Card;
 use card::Iter;
 use card::Iters;
@@ -12,7 +12,7 @@ ghost use lib.ListN.{length};
 ghost use Rattle.card.specs.Card.{counted, none, noCard};
 ghost use Rattle.card.specs.declared.Iter.{Iter};
 ghost use Rattle.mma_kinds.specs.Layouts.{cut, down, across, formIters};
-ghost use Rattle.mma.specs.Contracts.{FormSound, Follows, formCard};
+ghost use Rattle.mma_cards.specs.Contracts.{FormSound, Follows, formCard};
 
 // The axes warpid, laneid and m.
 const WARPS: u64 = 1;

@@ -1,14 +1,14 @@
--- `mma::cards::push_across` pushes three iters.
+-- `mma_cards::push_across` pushes three iters.
 use native.Mathlib.Omega.{arith}
 use borrow.Author.Needs.{needs}
 use mathlib.Core.Path.{ap, subst, sym}
 use mathlib.Core.List.{[], _∷_}
 use Prim.Native.Nat.{ℕ, _*_}
 use Rattle.fragment_layouts.specs.Layouts.{lane, register}
-use Rattle.mma.specs.Contracts.{Follows}
-use Rattle.mma.proofs.Pushed.{follows-more}
-use Rattle.mma.proofs.cards.push_across.Statement.{statement}
-use Rattle.mma.proofs.cards.push_across.Tie as tie
+use Rattle.mma_cards.specs.Contracts.{Follows}
+use Rattle.mma_cards.proofs.Pushed.{follows-more}
+use Rattle.mma_cards.proofs.push_across.Statement.{statement}
+use Rattle.mma_cards.proofs.push_across.Tie as tie
 
 returns : tie.Need-returns
 returns c =
