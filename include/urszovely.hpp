@@ -401,6 +401,30 @@ inline Answer<Register> holder(Kind kind, Place place)
                         [](const auto &n) { return Register{n[1], n[2]}; });
 }
 
+// A warp's register in a further kind of fragment, and a place in its matrices.
+struct WarpRegister { std::uint64_t warp, lane, index; };
+struct MatrixPlace { std::uint64_t matrix, row, column; };
+
+// What a register holds in a further kind, which register holds a place, and the kind's layout.
+inline Answer<MatrixPlace> mma(Kind kind, WarpRegister held)
+{
+    return inner::asked([&](auto *answer) { urszovely_mma(number_of(kind), held.warp, held.lane, held.index, answer); },
+                        [](const auto &n) { return MatrixPlace{n[1], n[2], n[3]}; });
+}
+
+inline Answer<WarpRegister> mma_holder(Kind kind, MatrixPlace place)
+{
+    return inner::asked([&](auto *answer) { urszovely_mma_holder(number_of(kind), place.matrix, place.row, place.column, answer); },
+                        [](const auto &n) { return WarpRegister{n[1], n[2], n[3]}; });
+}
+
+inline Answer<Card> mma_layout(Kind kind)
+{
+    std::array<std::uint64_t, URSZOVELY_CARD> numbers;
+    return inner::asked([&](auto *answer) { urszovely_mma_layout(number_of(kind), numbers.data(), answer); },
+                        [&](const auto &) { return Card(numbers, 0); });
+}
+
 // Registers as three arrays: of each its sort, URSZOVELY_EMPTY, URSZOVELY_SINGLE or URSZOVELY_DOUBLE, and the value that this names.
 template <std::size_t Count>
 struct Registers {

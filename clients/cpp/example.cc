@@ -86,6 +86,11 @@ void ask_of_a_warp()
     auto held = u::holder(kind, *place);
     std::cout << "\nlane 5, register 6 holds row " << place->row << ", column " << place->column << " of computation " << place->computation
               << ", which lane " << held->lane << " holds in register " << held->index << '\n';
+    const u::Kind further = static_cast<u::Kind>(URSZOVELY_M16N8K16_F16_A);
+    auto element = u::mma(further, {0, 22, 5});
+    auto holder = u::mma_holder(further, *element);
+    std::cout << "A of m16n8k16 .f16: lane 22, register 5 holds row " << element->row << ", column " << element->column << ", which lane " << holder->lane
+              << " holds in register " << holder->index << "; its layout is " << *u::write(*u::mma_layout(further)) << '\n';
 
     u::Tile tile, back;
     u::Lanes lanes;

@@ -26,7 +26,7 @@ use Rattle.mma_kinds.proofs.Placed.{held-by-form}
 use Rattle.mma_kinds.proofs.Back.{back, place-back}
 use Rattle.mma_kinds.proofs.Theorems.{back-answers}
 use Rattle.mma_cards.specs.Contracts.{FormSound, formCard}
-use Rattle.mma.specs.Contracts.{formSlot, placeIn, holderAt}
+use Rattle.mma.specs.Contracts.{formSlot, placeIn, formHolder}
 
 pub times : (a b m n : ℕ) → a ≤ m → b ≤ n → a * b ≤ m * n
 times a b m n h k = mul-le-mul h k
@@ -56,7 +56,7 @@ module _ (f : KindForm) where
         lane = down % 8 * 4 + across / f .next % 4;
         register = matrix * (f .repeats * (f .halves * f .next)) + (across / (4 * f .next) % f .repeats * (f .halves * f .next) + (down / 8 % f .halves * f .next + across / 1 % f .next));
       })
-      ≡ holderAt f matrix down across
+      ≡ formHolder f matrix down across
   holder-plain matrix down across =
       let p = f .next in
       let one = sym (mul-one p) in
@@ -111,14 +111,14 @@ module _ (f : KindForm) (matrix down across : ℕ) where
   -- who holds a place, from its parts
   pub holder-of-parts : (warp thread register : ℕ) → warp ≡ down / (f .halves * 8) % f .warps → thread ≡ across / f .next % 4
       → register ≡ matrix * (f .repeats * (f .halves * f .next)) + (across / (4 * f .next) % f .repeats * (f .halves * f .next) + (down / 8 % f .halves * f .next + across / 1 % f .next))
-      → record { warp = warp; lane = down % 8 * 4 + thread; register = register } ≡ holderAt f matrix down across
+      → record { warp = warp; lane = down % 8 * 4 + thread; register = register } ≡ formHolder f matrix down across
   holder-of-parts warp thread register w t r = (λ j. record { warp = w j; lane = down % 8 * 4 + t j; register = r j }) ∙ holder-plain f matrix down across
 
   -- and from its row and column
-  pub holder-turned : f .turned ≡ true → holderAt f matrix down across ≡ holderIn f (mmaAt matrix across down)
+  pub holder-turned : f .turned ≡ true → formHolder f matrix down across ≡ holderIn f (mmaAt matrix across down)
   holder-turned t = rw t refl
 
-  pub holder-straight : f .turned ≡ false → holderAt f matrix down across ≡ holderIn f (mmaAt matrix down across)
+  pub holder-straight : f .turned ≡ false → formHolder f matrix down across ≡ holderIn f (mmaAt matrix down across)
   holder-straight t = rw t refl
 
 -- the two questions, case by case

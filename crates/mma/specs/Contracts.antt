@@ -34,8 +34,8 @@ unpacked digits =
     }
 
 -- the register that holds what is so far down and so far across in a matrix
-abbrev pub holderAt : KindForm → ℕ → ℕ → ℕ → MmaSlot
-holderAt f matrix down across =
+abbrev pub formHolder : KindForm → ℕ → ℕ → ℕ → MmaSlot
+formHolder f matrix down across =
     let d : List ℕ = components (downSizes f) down in
     let a : List ℕ = components (acrossSizes f) across in
     slotOf f

@@ -15,7 +15,7 @@ ghost use Rattle.mma_kinds.specs.Kinds.{mmaAt};
 ghost use Rattle.mma_kinds.specs.Mma.{mmaAnswer, MmaHolderAnswer, layoutAnswer, mmaNumbers, mmaHolderNumbers};
 ghost use Rattle.mma_kinds.specs.Forms.{heldIn};
 ghost use Rattle.mma_cards.specs.Contracts.{FormSound};
-ghost use Rattle.mma.specs.Contracts.{formSlot, placeIn, holderAt};
+ghost use Rattle.mma.specs.Contracts.{formSlot, placeIn, formHolder};
 
 // The lanes of a warp.
 const LANES: u64 = 32;
@@ -157,7 +157,7 @@ fn register_of(f: KindForm, matrix: u64, down: u64, across: u64) -> u64
 fn slot_holding(f: KindForm, matrix: u64, down: u64, across: u64) -> MmaSlot
     requires { ⌜ FormSound f ⌝ }
     requires { ⌜ matrix ≤ 63 ⌝ }
-    ensures { λ r. ⌜ r ≡ holderAt f matrix down across ⌝ }
+    ensures { λ r. ⌜ r ≡ formHolder f matrix down across ⌝ }
 {
     let warp = digit(down, f.halves * 8, f.warps);
     let thread = digit(across, f.next, 4);

@@ -101,7 +101,7 @@ fn is_accumulator(kind: u64) -> bool
     (1008 <= kind) & (kind <= 1256) & (kind % 8 == 0)
 }
 
-// Whether a number is that of a kind.
+// Whether a number is that of a kind. Asked by this crate alone.
 pub fn is_kind(kind: u64) -> bool
     ensures { λ r. ⌜ r ≡ isKind kind ⌝ }
 {
@@ -116,7 +116,7 @@ fn row(kind: u64) -> u64
     ROWS[(kind - FIRST) as usize]
 }
 
-// The six numbers of a kind.
+// The six numbers of a kind. Asked, with a requires, by this crate alone.
 pub fn form(kind: u64) -> KindForm
     requires { ⌜ isKind kind ≡ true ⌝ }
     ensures { λ r. ⌜ (r ≡ kindOf kind .form) × FormSound r ⌝ }

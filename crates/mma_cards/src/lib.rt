@@ -98,7 +98,7 @@ fn shard(f: KindForm, tall: u64, wide: u64) -> Iters
     push_across(push_down(matrix, f), f, tall)
 }
 
-// The card of a form with so many registers: no marks, no replica, no offset, no swizzle.
+// The card of a form with so many registers: no marks, no replica, no offset, no swizzle. Public, with a requires, for the crate above.
 pub fn card(f: KindForm, tall: u64, wide: u64, registers: u64) -> Card
     requires { ⌜ FormSound f ⌝ }
     requires { ⌜ (tall ≡ f .halves * f .next) × (tall ≤ 16) × (wide ≡ f .repeats * (f .halves * f .next)) × (wide ≤ 512) ⌝ }
