@@ -98,24 +98,24 @@ module _ (rows : ℕ) (sorts singles doubles : List ℕ) where
   }
 
   -- entry j of the three arrays after registers are written back
-  pub record EntryStays (registersHeld : List (List Bits)) (j : ℕ) : Type 0 where
-    pub of-sort : length sorts ≡ 8 * rows → getD (entriesAfter sortAfter registersHeld sorts) j 0 ≡ getD sorts j 0
-    pub of-single : length singles ≡ 8 * rows → getD (entriesAfter singleAfter registersHeld singles) j 0 ≡ getD singles j 0
-    pub of-double : length doubles ≡ 8 * rows → getD (entriesAfter doubleAfter registersHeld doubles) j 0 ≡ getD doubles j 0
+  pub record EntryStays (registers : List (List Bits)) (j : ℕ) : Type 0 where
+    pub of-sort : length sorts ≡ 8 * rows → getD (entriesAfter sortAfter registers sorts) j 0 ≡ getD sorts j 0
+    pub of-single : length singles ≡ 8 * rows → getD (entriesAfter singleAfter registers singles) j 0 ≡ getD singles j 0
+    pub of-double : length doubles ≡ 8 * rows → getD (entriesAfter doubleAfter registers doubles) j 0 ≡ getD doubles j 0
 
   -- a register that stayed leaves its entry
-  entry-stays : (registersHeld : List (List Bits)) (j : ℕ) → j < 8 * rows
-      → entry Empty registersHeld (j / 8) (j % 8) ≡ entry Empty (rowsFrom rows sorts singles doubles) (j / 8) (j % 8) → EntryStays registersHeld j
-  entry-stays registersHeld j h same = record {
+  entry-stays : (registers : List (List Bits)) (j : ℕ) → j < 8 * rows
+      → entry Empty registers (j / 8) (j % 8) ≡ entry Empty (rowsFrom rows sorts singles doubles) (j / 8) (j % 8) → EntryStays registers j
+  entry-stays registers j h same = record {
     of-sort = λ e. stays 0 sortAfter sorts e (sort-kept (getD sorts j 0) (getD singles j 0) (getD doubles j 0));
     of-single = λ e. stays 0 singleAfter singles e (single-kept (eqb (getD sorts j 0) 1) (eqb (getD sorts j 0) 2) (getD singles j 0) (getD doubles j 0));
     of-double = λ e. stays 0 doubleAfter doubles e (double-kept (eqb (getD sorts j 0) 1) (eqb (getD sorts j 0) 2) (getD singles j 0) (getD doubles j 0));
   }
     where
       stays : {A : Type 0} (other : A) (write : Bits → A → A) (l : List A) → length l ≡ 8 * rows
-          → write (registerAt sorts singles doubles j) (getD l j other) ≡ getD l j other → getD (entriesAfter write registersHeld l) j other ≡ getD l j other
+          → write (registerAt sorts singles doubles j) (getD l j other) ≡ getD l j other → getD (entriesAfter write registers l) j other ≡ getD l j other
       stays other write l e kept =
-          each-at (written write registersHeld) l j other (rw e h) ∙ ap (λ (g : Bits). write g (getD l j other)) (same ∙ entry-at j h) ∙ kept
+          each-at (written write registers) l j other (rw e h) ∙ ap (λ (g : Bits). write g (getD l j other)) (same ∙ entry-at j h) ∙ kept
 
 -- what is filled or not stays where filling keeps it
 filled-keeps : (m : Moved) (new given : List (List Bits)) (r k : ℕ) → entry Empty new r k ≡ entry Empty given r k

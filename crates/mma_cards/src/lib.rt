@@ -50,8 +50,8 @@ fn iter(extent: u64, stride: u64, axis: u64) -> Iter
 
 // One more iter, unless its extent is 1.
 fn push(iters: Iters, extent: u64, stride: u64, axis: u64) -> Iters
-    requires { ⌜ (formIters .count < 8) × (stride ≤ 65535) ⌝ }
-    ensures { λ r. ⌜ (r .count ≤ formIters .count + 1) × Follows formIters r (record { extent = extent; stride = pos stride; axis = axis } ∷ []) ⌝ }
+    requires { ⌜ (iters .count < 8) × (stride ≤ 65535) ⌝ }
+    ensures { λ r. ⌜ (r .count ≤ iters .count + 1) × Follows iters r (record { extent = extent; stride = pos stride; axis = axis } ∷ []) ⌝ }
 {
     if extent == 1 {
         return iters;
@@ -67,8 +67,8 @@ fn push(iters: Iters, extent: u64, stride: u64, axis: u64) -> Iters
 // The iters down a matrix, and those across it.
 fn push_down(iters: Iters, f: KindForm) -> Iters
     requires { ⌜ FormSound f ⌝ }
-    requires { ⌜ formIters .count ≤ 4 ⌝ }
-    ensures { λ r. ⌜ (r .count ≤ formIters .count + 3) × Follows formIters r (down f) ⌝ }
+    requires { ⌜ iters .count ≤ 4 ⌝ }
+    ensures { λ r. ⌜ (r .count ≤ iters .count + 3) × Follows iters r (down f) ⌝ }
 {
     let one = push(iters, f.warps, 1, WARPS);
     let two = push(one, f.halves, f.next, REGISTERS);
@@ -77,8 +77,8 @@ fn push_down(iters: Iters, f: KindForm) -> Iters
 
 fn push_across(iters: Iters, f: KindForm, tall: u64) -> Iters
     requires { ⌜ FormSound f ⌝ }
-    requires { ⌜ (formIters .count ≤ 4) × (tall ≡ f .halves * f .next) × (tall ≤ 16) ⌝ }
-    ensures { λ r. ⌜ (r .count ≤ formIters .count + 3) × Follows formIters r (across f) ⌝ }
+    requires { ⌜ (iters .count ≤ 4) × (tall ≡ f .halves * f .next) × (tall ≤ 16) ⌝ }
+    ensures { λ r. ⌜ (r .count ≤ iters .count + 3) × Follows iters r (across f) ⌝ }
 {
     let one = push(iters, f.repeats, tall, REGISTERS);
     let two = push(one, 4, 1, LANES);

@@ -36,7 +36,7 @@ formIters f =
 -- an iter of extent 1 does not stand
 abbrev pub cut : List Iter → List Iter
 cut [] = []
-cut (iter ∷ formIters) = cond (eqb (iter .extent) 1) (cut formIters) (iter ∷ cut formIters)
+cut (iter ∷ iters) = cond (eqb (iter .extent) 1) (cut iters) (iter ∷ cut iters)
 
 -- the space: the kind's warps, 32 lanes, and m as long as a lane has registers
 abbrev pub mmaLengths : ℕ → List ℕ

@@ -49,19 +49,19 @@ pub record AsAdmission (card : List ℕ) (marks : ℕ) (answer : List ℕ) : Typ
   pub allowed : AdmissionSays (cardFrom card marks) admission
   pub numbers : answer ≡ four (admissionNumbers admission)
 
-pub record AsPlacement (card : List ℕ) (marks : ℕ) (shape coordinates before entriesAfter answer : List ℕ) : Type 0 where
+pub record AsPlacement (card : List ℕ) (marks : ℕ) (shape coordinates before after answer : List ℕ) : Type 0 where
   pub placement : Placement
-  pub allowed : PlacementSays (cardFrom card marks) (tupleFrom shape) (tupleFrom coordinates) before entriesAfter placement
+  pub allowed : PlacementSays (cardFrom card marks) (tupleFrom shape) (tupleFrom coordinates) before after placement
   pub numbers : answer ≡ four (placementNumbers placement)
 
-pub record AsVerdict (card : List ℕ) (marks : ℕ) (before entriesAfter answer : List ℕ) : Type 0 where
+pub record AsVerdict (card : List ℕ) (marks : ℕ) (before after answer : List ℕ) : Type 0 where
   pub verdict : Verdict
-  pub allowed : VerdictSays (cardFrom card marks) before entriesAfter verdict
+  pub allowed : VerdictSays (cardFrom card marks) before after verdict
   pub numbers : answer ≡ four (verdictNumbers verdict)
 
-pub record AsOwner (card : List ℕ) (marks : ℕ) (coordinates before entriesAfter answer : List ℕ) : Type 0 where
+pub record AsOwner (card : List ℕ) (marks : ℕ) (coordinates before after answer : List ℕ) : Type 0 where
   pub owner : Owner
-  pub allowed : OwnerSays (cardFrom card marks) coordinates before entriesAfter owner
+  pub allowed : OwnerSays (cardFrom card marks) coordinates before after owner
   pub numbers : answer ≡ four (ownerNumbers owner)
 
 -- registers written back to three arrays, as they were and as they are after
