@@ -12,8 +12,8 @@ use desk_lines_reply::reply::LineReply;
 
 // The check of a plan that a line asks for, in tables as they are lent.
 fn ask_carry(numbers: &Kept, plan: &[u64], first: &mut [u32], second: &mut [u32]) -> LineReply {
-    fill(first, c_registers::TABLE);
-    fill(second, c_registers::SECOND_TABLE);
+    fill(first, lent::TABLE);
+    fill(second, lent::SECOND_TABLE);
     let one = cards::first(numbers);
     let two = cards::second(numbers);
     let checked = planning::check_plan(one, two, plan, first, second);
@@ -49,8 +49,8 @@ pub fn carry(numbers: &Kept, first: &mut [u32], second: &mut [u32]) -> LineReply
 // The plan that a line asks for, in memory as it is lent.
 fn ask_plan(numbers: &Kept, plan: &mut [u64], first: &mut [u32], second: &mut [u32]) -> LineReply {
     fill_plan(plan);
-    fill(first, c_registers::TABLE);
-    fill(second, c_registers::SECOND_TABLE);
+    fill(first, lent::TABLE);
+    fill(second, lent::SECOND_TABLE);
     let one = cards::first(numbers);
     let two = cards::second(numbers);
     let written = planning::write_plan(one, two, plan, first, second);
