@@ -1,4 +1,10 @@
 // The search for idle copies on a packed card, and the admission with which verdict, owner and placement begin.
+// The search goes by keys: each second from 1 on, and for each the firsts below it, at most 64 combinations. A combination is walked once
+// and has one key (`keyOf`), a fixed function of its eight sums; a second's key is looked for among those below it, and sums are compared
+// only where keys agree. Equal sums have equal keys whatever the function is (`none-passed`), so nothing has to be believed of it: it turns
+// by nine bits for each axis, so that small sums of different axes seldom meet. Sums are counted from 2^40, so that none is below zero and
+// each is a word as it stands. The search for a key ends at the second's own, so it asks for no bound. A card without replica is not
+// searched. What the functions promise is the record, so the quicker search moved no promise.
 use answers::Refusal;
 use card::Admission;
 use card::Card;

@@ -1,4 +1,8 @@
 // The first element of which a copy strays from a bound on an axis, found from the slowest iter on without a look at the others.
+// The first element outside is the one near enough to the far end: an element leaves an axis upwards exactly where it falls short of the
+// shard's far end by no more than the card's far end lies beyond the length. So from the slowest iter on each stays back as many steps as
+// what is spare allows, and one walk serves both ways, without negative numbers.
+// An element and its axis are one number, 8 * flat + axis: the smallest is the first element, and of it the smallest axis.
 use answers::Flat;
 ghost use Prim.Native.Nat.{_≤_, min};
 ghost use mathlib.Core.Path.{_≡_};

@@ -1,4 +1,8 @@
 // The far ends of a card, and whether they lie inside the space: then all of it does.
+// Far ends are copies of the card, not a bound of their own: the index whose components are the last or 0, by the sign of each stride, so
+// that its sums are made by the walk that makes all sums, and that nothing lies beyond them is one law over the iters.
+// On m whole blocks are asked for, whatever B: with B = 0 and M = 0 a block is one address and the question is exact; with B = 0 and M above
+// 0 it asks for more than it must, and m is looked at from the first element on that reaches beyond the whole blocks.
 ghost use mathlib.Core.Path.{_≡_};
 ghost use mathlib.Core.Bool.{true, false};
 ghost use Prim.Native.Nat.{_≤_};

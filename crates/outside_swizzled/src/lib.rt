@@ -1,4 +1,7 @@
 // The first element that leaves the space on m where the swizzle leaves it in doubt: m of one element after the other, in runs.
+// Only m is looked at element by element, where the blocks of its swizzle numbers are not whole at its length, from the first one that
+// reaches beyond the whole blocks to the first that leaves on another axis, in runs: one walk for each run, then one addition for an element
+// and one for each copy, what the copies add written once.
 use answers::Flat;
 ghost use Prim.Native.Nat.{_+_, _≤_, _<_};
 ghost use mathlib.Core.Path.{_≡_};

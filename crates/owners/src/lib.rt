@@ -1,6 +1,8 @@
 // The cells of a lent owner table, cleared, and claimed a row at a time: per cell the flat index plus 1, or 0 for nobody.
 // The table is lent as exactly the cells. Public, with a requires, only for the crates above, which place the rows. Between the calls for two elements
 // nothing is kept but the table.
+// A claim answers one word, the cells newly occupied, 0 exactly when an owner is met; x and the smallest shared cell are looked for only
+// then.
 use answers::Cell;
 use answers::Flat;
 use answers::Refusal;

@@ -1,4 +1,6 @@
 // A stretch of a lent owner table: the cells under one prefix of axis coordinates.
+// A stretch is pinned by its place too: the block and the byte at which the part begins, against those of the lent table. Equal entries
+// elsewhere would not do: the caller asked for these cells of its own table, not for their values.
 use answers::Cell;
 use answers::Numbers;
 use answers::Refusal;

@@ -1,4 +1,6 @@
 // The verdict on a layout card, and the owner of a cell.
+// The verdict on an admitted card is a function of its own, `judge_admitted`, which both questions call after their own checks, so that the
+// owner does not admit its card twice.
 use answers::Cell;
 use answers::Refusal;
 use card::Admission;
