@@ -1,4 +1,4 @@
--- `lent_holdings::collect_holdings` writes the entries one after the other: each of its three arrays' by what `put` makes of it with the register that `collected_from` gives.
+-- `c_holdings::collect_holdings` writes the entries one after the other: each of its three arrays' by what `put` makes of it with the register that `collected_from` gives.
 use mathlib.Core.Path.{ap, _∙_}
 use mathlib.Core.List.{List}
 use Prim.Native.Nat.{ℕ, _-_}

@@ -1,4 +1,4 @@
--- `lent_holdings::collected_from` reads the register that the place is held by: the number that says so picks the branch.
+-- `c_holdings::collected_from` reads the register that the place is held by: the number that says so picks the branch.
 use mathlib.Core.Path.{sym, _∙_}
 use mathlib.Core.List.{List}
 use native.Mathlib.Omega.{arith}

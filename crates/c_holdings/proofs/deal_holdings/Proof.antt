@@ -1,4 +1,4 @@
--- `lent_holdings::deal_holdings` writes the numbers one after the other: each by what `put_double` makes of it with the register that `dealt_to_field` gives.
+-- `c_holdings::deal_holdings` writes the numbers one after the other: each by what `put_double` makes of it with the register that `dealt_to_field` gives.
 use mathlib.Core.Path.{ap, _∙_}
 use mathlib.Core.List.{List, []}
 use Prim.Native.Nat.{ℕ, _-_, _/_, _%_}

@@ -1,4 +1,4 @@
--- `lent_holdings::dealt_to_field` reads what the register of the field is dealt: the number that says which it is picks the branch.
+-- `c_holdings::dealt_to_field` reads what the register of the field is dealt: the number that says which it is picks the branch.
 use mathlib.Core.Path.{sym, _∙_}
 use mathlib.Core.List.{List, []}
 use Prim.Native.Nat.{ℕ, _/_, _%_}

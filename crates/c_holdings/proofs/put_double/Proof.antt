@@ -1,4 +1,4 @@
--- `lent_holdings::put_double` writes what the register leaves of the number: where it has no double the number is as it was.
+-- `c_holdings::put_double` writes what the register leaves of the number: where it has no double the number is as it was.
 use mathlib.Core.Path.{refl, sym}
 use borrow.Author.Needs.{needs}
 use lib.Seq.{set-getD}

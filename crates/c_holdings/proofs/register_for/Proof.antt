@@ -1,4 +1,4 @@
--- `lent_holdings::register_for` is the definition: the branch taken is the one that kind and field pick.
+-- `c_holdings::register_for` is the definition: the branch taken is the one that kind and field pick.
 use borrow.Author.Tests.{eq-eqb, ne-eqb}
 use Rattle.c_holdings.proofs.register_for.Statement.{statement}
 use Rattle.c_holdings.proofs.register_for.Tie as tie

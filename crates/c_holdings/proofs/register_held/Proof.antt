@@ -1,4 +1,4 @@
--- `lent_holdings::register_held` is the definition: the branch taken is the one that kind and register pick.
+-- `c_holdings::register_held` is the definition: the branch taken is the one that kind and register pick.
 use mathlib.Core.Path.{sym}
 use native.Mathlib.Omega.{arith}
 use borrow.Author.Needs.{needs}

@@ -1,4 +1,4 @@
--- `lent::collect` writes the entries one after the other: each of its three arrays' by what `put` makes of it with the register that `collected_at` gives.
+-- `c_registers::collect` writes the entries one after the other: each of its three arrays' by what `put` makes of it with the register that `collected_at` gives.
 use mathlib.Core.Path.{ap, _∙_}
 use mathlib.Core.List.{List}
 use Prim.Native.Nat.{ℕ, _-_}

@@ -1,4 +1,4 @@
--- `lent::deal` writes the entries one after the other: each of its three arrays' by what `put` makes of it with the register that `dealt_at` gives.
+-- `c_registers::deal` writes the entries one after the other: each of its three arrays' by what `put` makes of it with the register that `dealt_at` gives.
 use mathlib.Core.Path.{ap, _∙_}
 use mathlib.Core.List.{List}
 use Prim.Native.Nat.{ℕ, _-_}

@@ -1,4 +1,4 @@
--- `lent::put` writes what the register leaves of each of the three entries: in each arm an entry that is not stored is as it was.
+-- `c_registers::put` writes what the register leaves of each of the three entries: in each arm an entry that is not stored is as it was.
 use mathlib.Core.Path.{refl, sym}
 use borrow.Author.Needs.{needs}
 use lib.Seq.{set-getD}

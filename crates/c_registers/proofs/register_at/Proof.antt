@@ -1,4 +1,4 @@
--- `lent::register_at` is the definition: the branch taken is the one that the sort picks.
+-- `c_registers::register_at` is the definition: the branch taken is the one that the sort picks.
 use borrow.Author.Needs.{needs}
 use borrow.Author.Tests.{eq-eqb, ne-eqb}
 use native.Mathlib.Omega.{arith}

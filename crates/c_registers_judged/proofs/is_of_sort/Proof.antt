@@ -1,4 +1,4 @@
--- `lent_judged::is_of_sort` is the definition's clause: in each arm the register is the arm's own, read as its sort.
+-- `c_registers_judged::is_of_sort` is the definition's clause: in each arm the register is the arm's own, read as its sort.
 use borrow.Author.Needs.{needs}
 use Rattle.c_registers_judged.proofs.is_of_sort.Statement.{statement}
 use Rattle.c_registers_judged.proofs.is_of_sort.Tie as tie

@@ -1,4 +1,4 @@
--- `lent_judged::judge_dealing_holdings` is the definition: the branch taken is the one that the kind picks.
+-- `c_registers_judged::judge_dealing_holdings` is the definition: the branch taken is the one that the kind picks.
 use mathlib.Core.Path.{ap}
 use native.Mathlib.Omega.{arith}
 use borrow.Author.Needs.{needs}

@@ -1,4 +1,4 @@
--- `packed::extents` reads the extents of eight iters, which are all there are.
+-- `card_packed::extents` reads the extents of eight iters, which are all there are.
 use mathlib.Core.Path.{_≡_, sym, _∙_}
 use mathlib.Core.List.{map}
 use borrow.Author.Needs.{needs}

@@ -1,4 +1,4 @@
--- `packed::last_column` has the counts, M, B, S and the sizes: each product is capped.
+-- `card_packed::last_column` has the counts, M, B, S and the sizes: each product is capped.
 use mathlib.Core.Path.{_≡_, ap, _∙_}
 use mathlib.Core.List.{List}
 use Prim.Native.Nat.{min}

@@ -1,4 +1,4 @@
--- `packed::pack` writes the ten columns of a card side by side: after k turns the first k entries of each are there, and after eight the card can be read back.
+-- `card_packed::pack` writes the ten columns of a card side by side: after k turns the first k entries of each are there, and after eight the card can be read back.
 use mathlib.Core.Path.{_≡_, refl, ap, _∙_}
 use mathlib.Core.Bool.{Bool}
 use mathlib.Core.List.{List}

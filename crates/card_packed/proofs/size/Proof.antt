@@ -1,4 +1,4 @@
--- `packed::size` is the capped product of the extents up to the count, and all eight where the count is more.
+-- `card_packed::size` is the capped product of the extents up to the count, and all eight where the count is more.
 use mathlib.Core.Path.{_≡_, ap, _∙_}
 use mathlib.Core.List.{List, map}
 use Prim.Native.Nat.{ℕ, min}

@@ -1,4 +1,4 @@
--- `products::product` is the capped product of the first count numbers: the part so far, times the product of the rest, is the product of all.
+-- `card_products::product` is the capped product of the first count numbers: the part so far, times the product of the rest, is the product of all.
 use Prim.Native.Nat.{_-_, _≤_}
 use native.Mathlib.Omega.{arith}
 use native.Mathlib.Nat.{one-mul}

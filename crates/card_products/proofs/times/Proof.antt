@@ -1,4 +1,4 @@
--- `products::times` is the capped product: a factor from the cap on makes a product from the cap on, unless the other is 0, and two below fit a word.
+-- `card_products::times` is the capped product: a factor from the cap on makes a product from the cap on, unless the other is 0, and two below fit a word.
 use Prim.Native.Nat.{ℕ, _*_, _-_, min}
 use mathlib.Core.Path.{ap}
 use native.Mathlib.Nat.{mul-le-mul}

@@ -1,4 +1,4 @@
--- `passes::claim_all` claims one copy of one element at once, and else makes what the copies add and claims the runs by it.
+-- `claiming::claim_all` claims one copy of one element at once, and else makes what the copies add and claims the runs by it.
 use mathlib.Core.Path.{_≡_, refl, sym, ap, _∙_, subst}
 use mathlib.Core.Bool.{and-eq-true-iff}
 use mathlib.Core.List.{List, _++_}

@@ -1,4 +1,4 @@
--- `passes::claim_twice` approves what was claimed copy by copy, and else judges anew: either way the table was cleared before.
+-- `claiming::claim_twice` approves what was claimed copy by copy, and else judges anew: either way the table was cleared before.
 use mathlib.Core.Path.{_≡_, _∙_, subst}
 use mathlib.Core.List.{List}
 use Prim.Native.Nat.{ℕ}

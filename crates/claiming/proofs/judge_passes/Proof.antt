@@ -1,4 +1,4 @@
--- `passes::judge_passes` looks for what lies outside, and then makes the pass, in the cleared cells.
+-- `claiming::judge_passes` looks for what lies outside, and then makes the pass, in the cleared cells.
 use Prim.Native.Nat.{ℕ}
 use mathlib.Core.Path.{_≡_, ap, _∙_}
 use lib.ListN.{replicate}

@@ -1,4 +1,4 @@
--- `runs::added` walks from zeros and weighs what the walk leaves.
+-- `copies_runs::added` walks from zeros and weighs what the walk leaves.
 use mathlib.Core.Path.{_∙_}
 use borrow.Author.Needs.{needs}
 use lib.IntN.{pos}

@@ -1,4 +1,4 @@
--- `runs::begin` walks from the offset and weighs what the walk leaves.
+-- `copies_runs::begin` walks from the offset and weighs what the walk leaves.
 use mathlib.Core.Path.{_≡_, sym, ap, _∙_, subst}
 use borrow.Author.Needs.{needs}
 use lib.IntN.{pos}

@@ -1,4 +1,4 @@
--- `runs::cell_at` adds the swizzled m to the level: both are small, and the sum is a cell.
+-- `copies_runs::cell_at` adds the swizzled m to the level: both are small, and the sum is a cell.
 use mathlib.Core.Path.{_≡_, sym, ap, ap₂, _∙_}
 use native.Mathlib.Omega.{arith}
 use lib.IntN.{ℤ, pos, natAbs, _+ℤ_}

@@ -1,4 +1,4 @@
--- `runs::fill` writes one cell after the other: with the loop's index in the place of the copies, the row is filled so far.
+-- `copies_runs::fill` writes one cell after the other: with the loop's index in the place of the copies, the row is filled so far.
 use mathlib.Core.Path.{_≡_, sym, ap, _∙_, subst}
 use Prim.Native.Nat.{ℕ, _-_, _^_, _≤_, _<_}
 use native.Mathlib.Omega.{arith}

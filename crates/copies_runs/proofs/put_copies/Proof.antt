@@ -1,4 +1,4 @@
--- `runs::put_copies` writes what one combination after the other adds.
+-- `copies_runs::put_copies` writes what one combination after the other adds.
 use mathlib.Core.Path.{_≡_, refl, sym, ap, _∙_}
 use mathlib.Core.List.{List}
 use Prim.Native.Nat.{ℕ, _-_, _≤_, _<_}

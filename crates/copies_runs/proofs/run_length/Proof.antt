@@ -1,4 +1,4 @@
--- `runs::run_length` looks for the last extent that is not 1: all iters passed have extent 1.
+-- `copies_runs::run_length` looks for the last extent that is not 1: all iters passed have extent 1.
 use mathlib.Core.Path.{_≡_, refl, sym, ap, _∙_}
 use mathlib.Core.List.{List, _∷_, map}
 use Prim.Native.Nat.{ℕ, _+_, _-_, _≤_, _<_}

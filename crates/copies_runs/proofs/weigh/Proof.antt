@@ -1,4 +1,4 @@
--- `runs::weigh` makes the level of sums: each turn passes one axis more, from the one before m.
+-- `copies_runs::weigh` makes the level of sums: each turn passes one axis more, from the one before m.
 use mathlib.Core.Path.{_≡_, _∙_, subst}
 use mathlib.Core.List.{List}
 use Prim.Native.Nat.{ℕ, _+_, _*_, _-_, _≤_, _<_, suc-le-suc}

@@ -1,4 +1,4 @@
--- `sums::step` adds a component times its stride: the machine reads each number back from its bits, and no result is far from zero.
+-- `copies_sums::step` adds a component times its stride: the machine reads each number back from its bits, and no result is far from zero.
 use Prim.Native.Nat.{_*_}
 use mathlib.Core.Path.{_≡_}
 use native.Mathlib.Omega.{arith}

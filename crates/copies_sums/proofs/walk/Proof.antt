@@ -1,4 +1,4 @@
--- `sums::walk` adds to each axis what the iters add there: each turn passes one iter more, from the last.
+-- `copies_sums::walk` adds to each axis what the iters add there: each turn passes one iter more, from the last.
 use Prim.Native.Nat.{ℕ, _+_, _*_, _-_, _≤_}
 use native.Mathlib.Nat.{le-refl, mul-le-mul}
 use native.Mathlib.Omega.{arith}

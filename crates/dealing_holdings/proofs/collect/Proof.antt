@@ -1,4 +1,4 @@
--- `holdings::collect` fills or leaves as given, as the answer says: collecting is that of the holdings' registers.
+-- `dealing_holdings::collect` fills or leaves as given, as the answer says: collecting is that of the holdings' registers.
 use mathlib.Core.Path.{sym, _∙_}
 use borrow.Author.Needs.{needs}
 use Rattle.dealing_holdings.proofs.collect.Statement.{statement}

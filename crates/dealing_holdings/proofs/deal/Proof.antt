@@ -1,4 +1,4 @@
--- `holdings::deal` fills or leaves as given, as the answer says: dealing is that of the holdings' registers.
+-- `dealing_holdings::deal` fills or leaves as given, as the answer says: dealing is that of the holdings' registers.
 use mathlib.Core.Path.{sym, _∙_}
 use borrow.Author.Needs.{needs}
 use Rattle.dealing_holdings.proofs.deal.Statement.{statement}

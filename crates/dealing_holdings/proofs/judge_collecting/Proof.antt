@@ -1,4 +1,4 @@
--- `holdings::judge_collecting` is the definition: the branch taken is the one that kind and computation pick.
+-- `dealing_holdings::judge_collecting` is the definition: the branch taken is the one that kind and computation pick.
 use mathlib.Core.Path.{_≡_, sym, ap, _∙_}
 use mathlib.Core.Bool.{Bool, _&&_}
 use borrow.Author.Needs.{needs}

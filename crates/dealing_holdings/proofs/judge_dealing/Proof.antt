@@ -1,4 +1,4 @@
--- `holdings::judge_dealing` is the definition: the branch taken is the one that the kind picks.
+-- `dealing_holdings::judge_dealing` is the definition: the branch taken is the one that the kind picks.
 use mathlib.Core.Path.{ap}
 use borrow.Author.Needs.{needs}
 use borrow.Author.Tests.{lt-ltb, le-ltb}

@@ -1,4 +1,4 @@
--- `holdings::lanes_of` makes the lanes anew one after the other: each by what `registers_of` gives.
+-- `dealing_holdings::lanes_of` makes the lanes anew one after the other: each by what `registers_of` gives.
 use mathlib.Core.Path.{_≡_, refl, sym, _∙_}
 use mathlib.Core.List.{List, [], map}
 use Prim.Native.Nat.{ℕ, _-_}

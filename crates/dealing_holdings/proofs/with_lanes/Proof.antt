@@ -1,4 +1,4 @@
--- `holdings::with_lanes` makes the holdings anew one after the other: each by what `with_registers` gives.
+-- `dealing_holdings::with_lanes` makes the holdings anew one after the other: each by what `with_registers` gives.
 use Prim.Native.Nat.{_-_}
 use mathlib.Core.List.{[]}
 use native.Mathlib.Omega.{arith}

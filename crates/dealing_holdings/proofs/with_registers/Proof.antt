@@ -1,4 +1,4 @@
--- `holdings::with_registers` is the definition: the branch taken is the one that the kind picks.
+-- `dealing_holdings::with_registers` is the definition: the branch taken is the one that the kind picks.
 use borrow.Author.Needs.{needs}
 use borrow.Author.Tests.{eq-eqb, ne-eqb}
 use Rattle.dealing_holdings.proofs.with_registers.Statement.{statement}

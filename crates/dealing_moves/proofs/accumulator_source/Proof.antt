@@ -1,4 +1,4 @@
--- `moves::accumulator_source` is the rule of kind 5: the branch taken is the one that the lane's computation picks.
+-- `dealing_moves::accumulator_source` is the rule of kind 5: the branch taken is the one that the lane's computation picks.
 use native.Mathlib.Omega.{arith}
 use borrow.Author.Tests.{eq-eqb, ne-eqb}
 use Rattle.dealing_moves.proofs.Rules.{bits, source-5}

@@ -1,4 +1,4 @@
--- `moves::collected_row` makes the entries anew one after the other: each place by its holder.
+-- `dealing_moves::collected_row` makes the entries anew one after the other: each place by its holder.
 use mathlib.Core.Path.{sym, _∙_}
 use Prim.Native.Nat.{_-_}
 use native.Mathlib.Omega.{arith}

@@ -1,4 +1,4 @@
--- `moves::collected_tile` makes the entries anew one after the other: each row by what `collected_row` gives.
+-- `dealing_moves::collected_tile` makes the entries anew one after the other: each row by what `collected_row` gives.
 use Prim.Native.Nat.{_-_}
 use mathlib.Core.List.{[]}
 use native.Mathlib.Omega.{arith}

@@ -1,4 +1,4 @@
--- `moves::dealt_lane` makes the entries anew one after the other: each register by its source.
+-- `dealing_moves::dealt_lane` makes the entries anew one after the other: each register by its source.
 use mathlib.Core.Path.{sym, _∙_}
 use Prim.Native.Nat.{_-_}
 use native.Mathlib.Omega.{arith}

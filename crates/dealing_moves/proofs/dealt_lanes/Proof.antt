@@ -1,4 +1,4 @@
--- `moves::dealt_lanes` makes the entries anew one after the other: each lane by what `dealt_lane` gives.
+-- `dealing_moves::dealt_lanes` makes the entries anew one after the other: each lane by what `dealt_lane` gives.
 use Prim.Native.Nat.{_-_}
 use mathlib.Core.List.{[]}
 use native.Mathlib.Omega.{arith}

@@ -1,4 +1,4 @@
--- `moves::double_source` is the definition: the branch taken is the one that the test picks.
+-- `dealing_moves::double_source` is the definition: the branch taken is the one that the test picks.
 use Rattle.dealing_moves.proofs.double_source.Statement.{statement}
 use Rattle.dealing_moves.proofs.double_source.Tie as tie
 

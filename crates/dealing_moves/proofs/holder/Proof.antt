@@ -1,4 +1,4 @@
--- `moves::holder` numbers the register that a place is answered to be held by: the answer picks the arm.
+-- `dealing_moves::holder` numbers the register that a place is answered to be held by: the answer picks the arm.
 use mathlib.Core.Path.{_≡_, sym, ap, subst}
 use Prim.Native.Nat.{ℕ, _+_, _*_, _<_}
 use native.Mathlib.Omega.{arith}

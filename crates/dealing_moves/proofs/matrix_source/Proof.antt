@@ -1,4 +1,4 @@
--- `moves::matrix_source` is the rule of the kind: in each branch the kind is a number, or there is no such register.
+-- `dealing_moves::matrix_source` is the rule of the kind: in each branch the kind is a number, or there is no such register.
 use mathlib.Core.Path.{sym, _∙_}
 use native.Mathlib.Omega.{arith}
 use borrow.Author.Needs.{needs}

@@ -1,4 +1,4 @@
--- `moves::source_held` numbers the place that the register is answered to hold: the answer picks the arm.
+-- `dealing_moves::source_held` numbers the place that the register is answered to hold: the answer picks the arm.
 use mathlib.Core.Path.{_≡_, sym, ap, _∙_}
 use Prim.Native.Nat.{ℕ, _+_, _*_, _<_}
 use native.Mathlib.Omega.{arith}

@@ -1,4 +1,4 @@
--- `pattern::first_used` goes on only where no clear column was found yet: the branch is the one that its promise names.
+-- `mask_pattern::first_used` goes on only where no clear column was found yet: the branch is the one that its promise names.
 use native.Mathlib.Omega.{arith}
 use Prim.Native.Nat.{ℕ, _+_, _≤_}
 use mir.Syntax.{w64}

@@ -1,4 +1,4 @@
--- `pattern::mask_word` is a number of columns: each turn puts a piece of one sub-mask in front.
+-- `mask_pattern::mask_word` is a number of columns: each turn puts a piece of one sub-mask in front.
 use native.Mathlib.Omega.{arith}
 use borrow.Author.Needs.{needs}
 use mathlib.Core.Path.{_≡_, refl, ap, _∙_}

@@ -1,4 +1,4 @@
--- `pattern::ones_up_to` is a run of ones, one less than a power of two: in each branch the smaller of length and 64 is known.
+-- `mask_pattern::ones_up_to` is a run of ones, one less than a power of two: in each branch the smaller of length and 64 is known.
 use native.Mathlib.Omega.{arith}
 use borrow.Author.Needs.{needs}
 use mathlib.Core.Path.{_≡_}

@@ -1,4 +1,4 @@
--- `pattern::pattern_word` is the pattern from its start: whole periods, doubled until they fill a word.
+-- `mask_pattern::pattern_word` is the pattern from its start: whole periods, doubled until they fill a word.
 use native.Mathlib.Omega.{arith}
 use mathlib.Core.Path.{_≡_, refl, sym, ap, _∙_}
 use mathlib.Core.Bool.{true}

@@ -1,4 +1,4 @@
--- `pattern::pattern_words` makes the words of all columns, one more each turn, and counts what they say.
+-- `mask_pattern::pattern_words` makes the words of all columns, one more each turn, and counts what they say.
 use native.Mathlib.Omega.{arith}
 use borrow.Author.Needs.{needs}
 use mathlib.Core.Path.{_≡_, ap, _∙_}

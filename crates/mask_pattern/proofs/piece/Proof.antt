@@ -1,4 +1,4 @@
--- `pattern::piece` are columns of one sub-mask: the pattern from their place on, cut to their number.
+-- `mask_pattern::piece` are columns of one sub-mask: the pattern from their place on, cut to their number.
 use native.Mathlib.Omega.{arith}
 use borrow.Author.Needs.{needs}
 use Prim.Native.Nat.{_/_, _<_}

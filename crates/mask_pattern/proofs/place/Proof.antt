@@ -1,4 +1,4 @@
--- `pattern::place` is the place in the period: clear columns first is the pattern from its clear run on.
+-- `mask_pattern::place` is the place in the period: clear columns first is the pattern from its clear run on.
 use borrow.Author.Needs.{needs}
 use Rattle.mask_pattern.proofs.Runs.{placed-set, placed-clear}
 use Rattle.mask_pattern.proofs.place.Statement.{statement}

@@ -1,4 +1,4 @@
--- `pattern::word_from` is the pattern from a column of its period on: the rest of the period, then the pattern from its start.
+-- `mask_pattern::word_from` is the pattern from a column of its period on: the rest of the period, then the pattern from its start.
 use native.Mathlib.Omega.{arith}
 use borrow.Author.Needs.{needs}
 use mathlib.Core.Path.{_≡_, sym, _∙_}

@@ -1,4 +1,4 @@
--- `pattern::words_of` are the words of the columns: those of the sub-masks side by side where the non-zero mask is 1, else all clear.
+-- `mask_pattern::words_of` are the words of the columns: those of the sub-masks side by side where the non-zero mask is 1, else all clear.
 use native.Mathlib.Omega.{arith}
 use borrow.Author.Needs.{needs}
 use mathlib.Core.Path.{refl, sym, fun-ext, _∙_}

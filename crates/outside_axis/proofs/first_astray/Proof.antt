@@ -1,4 +1,4 @@
--- `extremes::first_astray` asks both far ends: the first element that strays is the first of the two.
+-- `outside_axis::first_astray` asks both far ends: the first element that strays is the first of the two.
 use mathlib.Core.Path.{_≡_, ap, _∙_}
 use mathlib.Core.Bool.{true, false}
 use Prim.Native.Nat.{_*_, _≤_}

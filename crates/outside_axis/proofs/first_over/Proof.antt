@@ -1,4 +1,4 @@
--- `extremes::first_over` finds none where the far end is not beyond, and else the first index near enough to it.
+-- `outside_axis::first_over` finds none where the far end is not beyond, and else the first index near enough to it.
 use mathlib.Core.Path.{_≡_, sym, _∙_, subst}
 use native.Mathlib.Omega.{arith}
 use borrow.Author.Needs.{needs}

@@ -1,4 +1,4 @@
--- `extremes::first_within` numbers the components of the definition from the first: each turn takes one iter more, and what is spare after it.
+-- `outside_axis::first_within` numbers the components of the definition from the first: each turn takes one iter more, and what is spare after it.
 use mathlib.Core.Path.{_≡_, ap, ap₂, _∙_, subst}
 use mathlib.Core.List.{List, [], _∷_, map}
 use Prim.Native.Nat.{ℕ, _+_, _*_, _-_, _^_, _≤_, _<_}

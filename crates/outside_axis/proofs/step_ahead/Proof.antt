@@ -1,4 +1,4 @@
--- `extremes::step_ahead` is the step of the definition, by the tests that it makes.
+-- `outside_axis::step_ahead` is the step of the definition, by the tests that it makes.
 use mathlib.Core.Path.{_≡_}
 use native.Mathlib.Omega.{arith}
 use borrow.Author.Tests.{eq-eqb, ne-eqb}

@@ -1,4 +1,4 @@
--- `extremes::steps_back` is the definition, by the test that it makes.
+-- `outside_axis::steps_back` is the definition, by the test that it makes.
 use borrow.Author.Needs.{needs}
 use borrow.Author.Tests.{eq-eqb, ne-eqb}
 use Rattle.outside_axis.proofs.steps_back.Statement.{statement}

@@ -1,4 +1,4 @@
--- `reach::ends` has the sums of the copies at both far ends: each list is spread over the offset.
+-- `outside_ends::ends` has the sums of the copies at both far ends: each list is spread over the offset.
 use mathlib.Core.Path.{_≡_, sym, ap, _∙_, subst}
 use mathlib.Core.Bool.{Bool, true, false}
 use mathlib.Core.List.{List}

@@ -1,4 +1,4 @@
--- `reach::far_end` is the far end of the definition: the tests are those that it makes.
+-- `outside_ends::far_end` is the far end of the definition: the tests are those that it makes.
 use mathlib.Core.Path.{_≡_, sym, ap, _∙_}
 use native.Mathlib.Omega.{arith}
 use lib.IntN.{pos}

@@ -1,4 +1,4 @@
--- `reach::first_axis` asks one axis after the other: all that were passed lie inside.
+-- `outside_ends::first_axis` asks one axis after the other: all that were passed lie inside.
 use mathlib.Core.Path.{_≡_, refl}
 use mathlib.Core.Bool.{Bool, true, false, _||_, true≢false}
 use mathlib.Core.List.{List}

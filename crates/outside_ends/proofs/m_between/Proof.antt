@@ -1,4 +1,4 @@
--- `reach::m_between` asks m's far ends against whole blocks.
+-- `outside_ends::m_between` asks m's far ends against whole blocks.
 use mathlib.Core.Path.{_≡_, ap, _∙_}
 use mathlib.Core.Bool.{and-eq-true-iff}
 use native.Mathlib.Omega.{arith}

@@ -1,4 +1,4 @@
--- `reach::spread` walks a list of iters to the index of each far end: each turn passes one iter more, from the last, whose component there is its far end.
+-- `outside_ends::spread` walks a list of iters to the index of each far end: each turn passes one iter more, from the last, whose component there is its far end.
 use Prim.Native.Nat.{ℕ, _+_, _*_, _-_, _≤_, _<_}
 use native.Mathlib.Nat.{le-refl, mul-le-mul}
 use native.Mathlib.Omega.{arith}

@@ -1,4 +1,4 @@
--- `reach::whole_blocks` shifts the length down and up again: what is left are its whole blocks, which are no more than it.
+-- `outside_ends::whole_blocks` shifts the length down and up again: what is left are its whole blocks, which are no more than it.
 use mathlib.Core.Path.{_≡_}
 use Prim.Native.Nat.{_%_, _^_}
 use native.Mathlib.Nat.{mod-eq-of-lt}

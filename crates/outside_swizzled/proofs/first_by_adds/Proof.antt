@@ -1,4 +1,4 @@
--- `doubt::first_by_adds` writes what the copies add to m, and then looks.
+-- `outside_swizzled::first_by_adds` writes what the copies add to m, and then looks.
 use borrow.Author.Needs.{needs}
 use Rattle.outside_swizzled.proofs.first_by_adds.Statement.{statement}
 use Rattle.outside_swizzled.proofs.first_by_adds.Tie as tie

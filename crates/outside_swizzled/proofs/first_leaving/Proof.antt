@@ -1,4 +1,4 @@
--- `doubt::first_leaving` lends a place for what the copies add to m, as long as there are copies.
+-- `outside_swizzled::first_leaving` lends a place for what the copies add to m, as long as there are copies.
 use Prim.Native.Nat.{ℕ, _≤_}
 use mathlib.Core.Path.{_≡_, sym, _∙_}
 use native.Mathlib.Omega.{arith}

@@ -1,4 +1,4 @@
--- `doubt::first_m` looks at one run after the other, from where it stands to the end of the run or to the limit: below it no element leaves on m.
+-- `outside_swizzled::first_m` looks at one run after the other, from where it stands to the end of the run or to the limit: below it no element leaves on m.
 use mathlib.Core.Path.{_≡_, ap, _∙_}
 use Prim.Native.Nat.{ℕ, _+_, _-_, _%_, _≤_, _<_, min}
 use native.Mathlib.Nat.{mod-lt}

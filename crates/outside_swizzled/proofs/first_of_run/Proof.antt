@@ -1,4 +1,4 @@
--- `doubt::first_of_run` looks at one element after the other, m a step further each time: those that were passed stay inside.
+-- `outside_swizzled::first_of_run` looks at one element after the other, m a step further each time: those that were passed stay inside.
 use mathlib.Core.Path.{_≡_, refl, _∙_}
 use Prim.Native.Nat.{ℕ, _+_, _-_, _≤_, _<_}
 use native.Mathlib.Omega.{arith}

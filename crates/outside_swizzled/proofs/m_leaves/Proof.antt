@@ -1,4 +1,4 @@
--- `doubt::m_leaves` asks one copy after the other: those that were asked lie inside.
+-- `outside_swizzled::m_leaves` asks one copy after the other: those that were asked lie inside.
 use mathlib.Core.Path.{_≡_, sym}
 use mathlib.Core.Bool.{true≢false}
 use Prim.Native.Nat.{ℕ, _-_, _≤_, _<_}

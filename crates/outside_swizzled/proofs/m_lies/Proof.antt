@@ -1,4 +1,4 @@
--- `doubt::m_lies` asks the sign of m, and then the swizzled number.
+-- `outside_swizzled::m_lies` asks the sign of m, and then the swizzled number.
 use mathlib.Core.Path.{_≡_, ap}
 use Prim.Native.Nat.{ℕ}
 use borrow.Author.Needs.{needs}

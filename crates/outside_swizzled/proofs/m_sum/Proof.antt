@@ -1,4 +1,4 @@
--- `doubt::m_sum` is m after a walk from zero.
+-- `outside_swizzled::m_sum` is m after a walk from zero.
 use mathlib.Core.Path.{ap, _∙_}
 use mathlib.Core.List.{List}
 use borrow.Author.Needs.{needs}

@@ -1,4 +1,4 @@
--- `doubt::put_adds` writes one number after the other, what the offset and the combination add to m.
+-- `outside_swizzled::put_adds` writes one number after the other, what the offset and the combination add to m.
 use mathlib.Core.Path.{_≡_, refl, sym, ap, ap₂, _∙_}
 use Prim.Native.Nat.{ℕ, _-_, _≤_, _<_}
 use native.Mathlib.Omega.{arith}

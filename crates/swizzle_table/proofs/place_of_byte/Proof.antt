@@ -1,4 +1,4 @@
--- `bytemap::place_of_byte` is the swizzle of any byte: the pattern repeats from block to block, and an entry stays in its row of 128.
+-- `swizzle_table::place_of_byte` is the swizzle of any byte: the pattern repeats from block to block, and an entry stays in its row of 128.
 use mathlib.Core.Path.{ap, _∙_}
 use Prim.Native.Nat.{ℕ, _/_}
 use native.Mathlib.Omega.{arith}

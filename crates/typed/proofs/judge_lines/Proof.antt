@@ -1,4 +1,4 @@
--- `judging::judge_lines` keeps what the two lines are read as, and the outcome that follows.
+-- `typed::judge_lines` keeps what the two lines are read as, and the outcome that follows.
 use borrow.Author.Needs.{needs}
 use Rattle.notation.proofs.Carried.{read-exactly}
 use Rattle.typed.proofs.Theorems.{judge-exactly}

@@ -1,4 +1,4 @@
--- `judging::judge_read` is the outcome by cases: a wrong first line, a wrong text, a card.
+-- `typed::judge_read` is the outcome by cases: a wrong first line, a wrong text, a card.
 use mathlib.Core.Path.{refl}
 use borrow.Author.Needs.{needs}
 use borrow.Author.Tests.{not-true, not-false}

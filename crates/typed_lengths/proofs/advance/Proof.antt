@@ -1,4 +1,4 @@
--- `lengths::advance` is the definition, by the phase.
+-- `typed_lengths::advance` is the definition, by the phase.
 use borrow.Author.Needs.{needs}
 use Rattle.typed_lengths.proofs.advance.Statement.{statement}
 use Rattle.typed_lengths.proofs.advance.Tie as tie

@@ -1,4 +1,4 @@
--- `lengths::before` is the definition: a digit, or nowhere.
+-- `typed_lengths::before` is the definition: a digit, or nowhere.
 use borrow.Author.Needs.{needs}
 use borrow.Author.Tests.{lt-ltb, le-ltb}
 use Rattle.typed_lengths.proofs.before.Statement.{statement}

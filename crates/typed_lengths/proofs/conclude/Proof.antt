@@ -1,4 +1,4 @@
--- `lengths::conclude` is the definition: the eighth number ends with the line.
+-- `typed_lengths::conclude` is the definition: the eighth number ends with the line.
 use borrow.Author.Needs.{needs}
 use Rattle.typed_lengths.proofs.conclude.Statement.{statement}
 use Rattle.typed_lengths.proofs.conclude.Tie as tie

@@ -1,4 +1,4 @@
--- `lengths::inside` is the definition: a digit, a space after one of the first seven numbers, or nowhere.
+-- `typed_lengths::inside` is the definition: a digit, a space after one of the first seven numbers, or nowhere.
 use Prim.Native.Nat.{_<_}
 use mathlib.Core.Path.{sym, _∙_}
 use native.Mathlib.Omega.{arith}

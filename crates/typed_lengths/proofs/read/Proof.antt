@@ -1,4 +1,4 @@
--- `lengths::read` meets the promise: after so many bytes the reader stands where the machine does.
+-- `typed_lengths::read` meets the promise: after so many bytes the reader stands where the machine does.
 use Prim.Native.Nat.{_+_, _-_, _≤_}
 use mathlib.Core.Path.{_≡_, _∙_}
 use native.Mathlib.Omega.{arith}

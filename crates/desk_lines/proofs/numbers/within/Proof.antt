@@ -1,4 +1,4 @@
--- `lines::numbers::within` is safe and ends: the numbers left fall by one a turn.
+-- `desk_lines::numbers::within` is safe and ends: the numbers left fall by one a turn.
 use Prim.Native.Nat.{_-_}
 use native.Mathlib.Omega.{arith}
 use borrow.Author.Needs.{needs}

@@ -1,4 +1,4 @@
--- `lines_read::pairs::bytes` is safe and ends: the bytes left fall by one a turn, and the last pair stands well within a line.
+-- `desk_lines_read::pairs::bytes` is safe and ends: the bytes left fall by one a turn, and the last pair stands well within a line.
 use Prim.Native.Nat.{_-_}
 use native.Mathlib.Omega.{arith}
 use borrow.Author.Needs.{needs}

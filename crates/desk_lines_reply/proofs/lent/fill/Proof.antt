@@ -1,4 +1,4 @@
--- `lines_reply::lent::fill` is safe and ends: the entries left fall by one a turn, and the memory keeps its length.
+-- `desk_lines_reply::lent::fill` is safe and ends: the entries left fall by one a turn, and the memory keeps its length.
 use mathlib.Core.Path.{_≡_}
 use Prim.Native.Nat.{_-_, _≤_}
 use native.Mathlib.Omega.{arith}

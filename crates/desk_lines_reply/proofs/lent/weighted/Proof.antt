@@ -1,4 +1,4 @@
--- `lines_reply::lent::weighted` fits: a place of at most 65,535 times an entry below 2^32.
+-- `desk_lines_reply::lent::weighted` fits: a place of at most 65,535 times an entry below 2^32.
 use mathlib.Core.Path.{_≡_}
 use Prim.Native.Nat.{ℕ, _*_, _%_, _≤_, _<_}
 use native.Mathlib.Nat.{mul-le-mul}

@@ -1,4 +1,4 @@
--- `lines_reply::reply::with_text` is safe and ends: the bytes left fall by one a turn, and the last stands in value 64.
+-- `desk_lines_reply::reply::with_text` is safe and ends: the bytes left fall by one a turn, and the last stands in value 64.
 use Prim.Native.Nat.{_-_}
 use native.Mathlib.Omega.{arith}
 use borrow.Author.Needs.{needs}

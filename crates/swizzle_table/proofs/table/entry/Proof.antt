@@ -1,4 +1,4 @@
--- `bytemap::table::entry` is the swizzle of a byte of the pattern: one test over the whole table, and the law that turns it into the rule at an entry.
+-- `swizzle_table::table::entry` is the swizzle of a byte of the pattern: one test over the whole table, and the law that turns it into the rule at an entry.
 use mathlib.Core.Path.{_≡_}
 use mathlib.Core.Bool.{Bool, true}
 use mathlib.Core.List.{List}
