@@ -1,9 +1,9 @@
 // What a packed card comes to in a table of exactly its cells: what lies outside the space, and else who claims which cell. Copy by copy
 // is quick, and where that fails the elements are claimed anew, in order.
-// A quick pass may fail for any reason, and then the old one judges anew in the cleared table: where a line is not free nothing is said of
-// why. So there is no law that a clash must be there, the first clash, its two elements and its cell are found by the pass that has always
-// found them (`claiming_in_order`), and whatever the quick pass leaves out, cards with marks and those of one element, goes that way from
-// the start. A card that is refused 8 pays for both.
+// The quick pass may fail for any reason, and then the table is cleared and the elements are claimed in order: where a line is not free
+// nothing is said of why. So there is no law that a clash must be there, the first clash, its two elements and its cell are found by
+// `claiming_in_order` alone, and whatever the quick pass leaves out, cards with marks and those of one element with several copies, goes
+// that way from the start. A card that is refused 8 pays for both.
 use answers::Refusal;
 use judgement::Verdict;
 use outside::Search;
