@@ -8,7 +8,7 @@ use text::input::Input;
 use text::output;
 ghost use mathlib.Core.Path.{_≡_};
 ghost use lib.ListN.{take};
-ghost use Rattle.typed.specs.Judge.{JudgedKept};
+ghost use Rattle.typed_judged.specs.Judge.{JudgedKept};
 
 // The entries that the program lends to the verdict.
 const LENT: usize = 16384;
@@ -42,7 +42,7 @@ fn kept(line: &[u8], held: usize) -> &[u8]
 }
 
 // The verdict on two lines of which the first 4,096 bytes are kept. It is that on the whole lines, since no line of eight
-// lengths and no correct text is so long (judging, proofs/Long.antt).
+// lengths and no correct text is so long (typed_judged, proofs/Long.antt).
 fn judge_kept(
     first: &[u8; 4096],
     second: &[u8; 4096],

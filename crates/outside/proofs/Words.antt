@@ -21,8 +21,8 @@ use Rattle.rules.proofs.Whole.{Lies, on-every-axis, off-smallest-axis}
 use Rattle.rules_linear.specs.Leaving.{Sought, Leaves}
 use Rattle.rules_linear.proofs.Leaving.{sought-alike}
 use Rattle.judgement.specs.Judgement.{LiesInside, AllInside, FirstOutside}
-use Rattle.outside_ends.specs.Ends.{wholeBlocks}
-use Rattle.outside_ends.proofs.Inside.{blocks-kept, blocks-back}
+use Rattle.outside_reach.specs.Ends.{wholeBlocks}
+use Rattle.outside_reach.proofs.Inside.{blocks-kept, blocks-back}
 use Rattle.outside_axis.specs.Straying.{Strays}
 use Rattle.outside.specs.Outside.{FirstWord}
 

@@ -19,8 +19,8 @@ use Rattle.rules.specs.Rules.{added, part}
 use Rattle.rules.proofs.RowMajor.{inside-parts, components-inside}
 use Rattle.rules.proofs.Reuse.{components-back}
 use Rattle.rules_linear.specs.Reaching.{ahead, missing}
-use Rattle.outside_ends.specs.Ends.{farEnd, ends, endIndex}
-use Rattle.outside_ends.proofs.Reach.{ends-inside}
+use Rattle.outside_reach.specs.Ends.{farEnd, ends, endIndex}
+use Rattle.outside_reach.proofs.Reach.{ends-inside}
 
 -- so much apart, the first of two the further one
 abbrev pub Apart : Bool → ℤ → ℤ → ℕ → Type 0

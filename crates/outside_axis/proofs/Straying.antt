@@ -21,8 +21,8 @@ use Rattle.rules.specs.RowMajor.{components}
 use Rattle.rules.proofs.RowMajor.{row-major-below}
 use Rattle.rules_linear.specs.Reaching.{missing, firstIndex}
 use Rattle.rules_linear.proofs.Reaching.{index-below, index-near, index-least}
-use Rattle.outside_ends.specs.Ends.{ends, endIndex}
-use Rattle.outside_ends.proofs.Reach.{part-most, part-least, ends-inside}
+use Rattle.outside_reach.specs.Ends.{ends, endIndex}
+use Rattle.outside_reach.proofs.Reach.{part-most, part-least, ends-inside}
 use Rattle.rules_linear.specs.Leaving.{Sought}
 use Rattle.outside_axis.specs.Straying.{Strays, Reaches, beyondEnd}
 use Rattle.outside_axis.proofs.Ends.{Apart, part-apart}

@@ -7,7 +7,7 @@ use Rattle.card.specs.Card.{copies}
 use Rattle.card.specs.declared.Card.{Card}
 use Rattle.rules.specs.Rules.{sum}
 use Rattle.rules.proofs.Whole.{Lies}
-use Rattle.outside_ends.specs.Ends.{endIndex, endSum}
+use Rattle.outside_reach.specs.Ends.{endIndex, endSum}
 
 -- a copy of an element has a sum on an axis that does not lie from 0 to below a bound
 pub record Strays (card : Card) (axis bound flat : ℕ) : Type 0 where

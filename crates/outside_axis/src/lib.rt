@@ -9,11 +9,10 @@ ghost use mathlib.Core.Path.{_≡_};
 ghost use lib.IntN.{natAbs};
 ghost use Rattle.card.specs.Card.{elements};
 ghost use Rattle.card.specs.Packed.{farthest, itersOf, cardOf};
-ghost use Rattle.outside_ends.specs.Contracts.{Indexed};
 ghost use Rattle.rules_linear.specs.Reaching.{ahead, stepsBack, firstIndex};
 ghost use Rattle.rules_linear.specs.Leaving.{Sought};
 ghost use Rattle.outside_axis.specs.Straying.{Strays, Reaches};
-ghost use Rattle.outside_axis.specs.Contracts.{Over, AxisEnded};
+ghost use Rattle.outside_axis.specs.Contracts.{Indexed, Over, AxisEnded};
 
 // How far one step of an iter moves an axis up, or down.
 fn step_ahead(on: u64, stride: i64, axis: u64, upwards: bool) -> u64

@@ -1,3 +1,1 @@
-pub mod Reach
-pub mod Inside
 pub mod Packed

@@ -17,7 +17,7 @@ use Rattle.card.specs.declared.Card.{Card}
 use Rattle.card.proofs.Lists.{all-at, within-numbers}
 use Rattle.card.proofs.Admitted.{Checked, checked}
 use Rattle.card.proofs.ReadBack.{slice-at, eight-lengths}
-use Rattle.outside_ends.specs.Stays.{Stays}
+use Rattle.outside_reach.specs.Stays.{Stays}
 use Rattle.outside_ends.specs.Contracts.{EndSums, blocksOf, Between, Spaced}
 
 -- whole blocks are no more than their length

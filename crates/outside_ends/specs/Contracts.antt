@@ -6,18 +6,11 @@ use mathlib.Core.List.{List}
 use lib.IntN.{ℤ, pos}
 use lib.ListN.{length, getD}
 use lib.Signed.{_≤ℤ_, _<ℤ_}
-use Rattle.card.specs.Card.{size}
-use Rattle.card.specs.Packed.{beyond, itersOf}
+use Rattle.card.specs.Packed.{beyond}
 use Rattle.card.specs.declared.Iters.{Iters}
 use Rattle.card.specs.declared.Card.{Card}
 use Rattle.rules.specs.Walked.{walked}
-use Rattle.copies_sums.specs.Walks.{Walkable}
-use Rattle.outside_ends.specs.Ends.{endIndex, endSum, wholeBlocks}
-
--- a list of iters that can be walked, and whose indices are small
-pub record Indexed (numbers : List ℕ) (strides : List ℤ) (list : ℕ) : Type 0 where
-  pub walkable : Walkable numbers strides list
-  pub small : size (itersOf numbers strides list) ≤ beyond
+use Rattle.outside_reach.specs.Ends.{endIndex, endSum, wholeBlocks}
 
 -- sums to which a list of iters added what it adds at a far end
 abbrev pub Moves : Bool → Iters → List ℤ → List ℤ → Type 0

@@ -9,7 +9,7 @@ ghost use Prim.Native.Nat.{_≤_};
 ghost use lib.ListN.{length};
 ghost use Rattle.card.specs.Packed.{itersOf, cardOf, Admits};
 ghost use Rattle.copies_sums.specs.Walks.{Walkable, Sums};
-ghost use Rattle.outside_ends.specs.Ends.{farEnd};
+ghost use Rattle.outside_reach.specs.Ends.{farEnd};
 ghost use Rattle.outside_ends.specs.Contracts.{Moves, EndSums, blocksOf, MBetween, BetweenTo, Spaced};
 
 // The axis m, the last.

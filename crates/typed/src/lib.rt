@@ -8,7 +8,7 @@ use notation::Reading;
 use swizzle::Swizzle;
 use typed_lengths::LineOfLengths;
 ghost use mathlib.Core.Path.{_≡_};
-ghost use Rattle.typed.specs.Judge.{cardFor, TypedOutcome, JudgePromise};
+ghost use Rattle.typed_judged.specs.Judge.{cardFor, TypedOutcome, JudgePromise};
 
 // The card of a layout in a space: no swizzle.
 fn card_for(lengths: [u64; 8], layout: Layout) -> Card

@@ -1,7 +1,7 @@
--- `judge::judge_kept` says what the two whole lines come to: what is kept of each is answered as it is (judging's `judge-kept`).
+-- `judge::judge_kept` says what the two whole lines come to: what is kept of each is answered as it is (typed_judged's `judge-kept`).
 use native.Mathlib.Omega.{arith}
 use borrow.Author.Needs.{needs}
-use Rattle.typed.proofs.Long.{judge-kept}
+use Rattle.typed_judged.proofs.Long.{judge-kept}
 use Rattle.judge.proofs.judge_kept.Statement.{statement}
 use Rattle.judge.proofs.judge_kept.Tie as tie
 

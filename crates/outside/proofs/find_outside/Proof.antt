@@ -15,7 +15,7 @@ use Rattle.card.specs.Packed.{cardOf}
 use Rattle.card.specs.declared.Card.{Card}
 use Rattle.card.proofs.Admitted.{checked, sized, measured}
 use Rattle.card.proofs.ReadBack.{eight-lengths}
-use Rattle.outside_ends.proofs.Inside.{stays-inside}
+use Rattle.outside_reach.proofs.Inside.{stays-inside}
 use Rattle.outside_ends.proofs.Packed.{spaced, ends-stay}
 use Rattle.outside.proofs.Words.{word-first, word-none}
 use Rattle.outside.proofs.find_outside.Statement.{statement}

@@ -12,7 +12,7 @@ use Rattle.laws.proofs.Signed.{far-fits}
 use Rattle.card.specs.Packed.{cardOf}
 use Rattle.card.specs.declared.Card.{Card}
 use Rattle.copies_sums.specs.Walks.{roomy}
-use Rattle.outside_ends.specs.Ends.{endIndex}
+use Rattle.outside_reach.specs.Ends.{endIndex}
 use Rattle.outside_axis.proofs.Packed.{difference-far, sum-near}
 use Rattle.outside_axis.proofs.Straying.{first-astray}
 use Rattle.outside_axis.proofs.first_astray.Statement.{statement}

@@ -11,7 +11,7 @@ use Rattle.rules.specs.Walked.{walked}
 use Rattle.rules.proofs.Base.{walked-at, walked-eight}
 use Rattle.copies_sums.specs.Walks.{Sums}
 use Rattle.copies.proofs.Cards.{walkable-shard, walkable-replica, offset-sums, ready}
-use Rattle.outside_ends.specs.Ends.{endIndex}
+use Rattle.outside_reach.specs.Ends.{endIndex}
 use Rattle.outside_ends.specs.Contracts.{Moves, EndSums}
 use Rattle.outside_ends.proofs.ends.Statement.{statement}
 use Rattle.outside_ends.proofs.ends.Tie as tie

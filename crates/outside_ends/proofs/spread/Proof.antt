@@ -21,8 +21,8 @@ use Rattle.rules.specs.Walked.{walked}
 use Rattle.rules.proofs.Along.{along}
 use Rattle.copies_sums.specs.Walks.{roomy, Sums, Steps}
 use Rattle.copies_sums.proofs.Turn.{Meets, meets, iters-next, along-room}
-use Rattle.outside_ends.specs.Ends.{farEnd}
-use Rattle.outside_ends.proofs.Reach.{end-below, Fits, far, Spread, spread-none, spread-more, spread-all}
+use Rattle.outside_reach.specs.Ends.{farEnd}
+use Rattle.outside_reach.proofs.Reach.{end-below, Fits, far, Spread, spread-none, spread-more, spread-all}
 use Rattle.outside_ends.proofs.spread.Statement.{statement}
 use Rattle.outside_ends.proofs.spread.Tie as tie
 

@@ -1,7 +1,7 @@
 -- `typed::judge_lines` keeps what the two lines are read as, and the outcome that follows.
 use borrow.Author.Needs.{needs}
 use Rattle.notation.proofs.Carried.{read-exactly}
-use Rattle.typed.proofs.Theorems.{judge-exactly}
+use Rattle.typed_judged.proofs.Theorems.{judge-exactly}
 use Rattle.typed.proofs.judge_lines.Statement.{statement}
 use Rattle.typed.proofs.judge_lines.Tie as tie
 

@@ -25,7 +25,7 @@ use Rattle.judgement.specs.Plain.{VerdictSays}
 use Rattle.judgement.specs.declared.Verdict.{Verdict}
 use Rattle.judgement.specs.declared.Verdict.the-variants.{Refused}
 use Rattle.judgement.proofs.Plain.{verdict-says-settled}
-use Rattle.typed.specs.Judge.{cardFor, TypedOutcome, JudgePromise, JudgeRead, JudgedAs}
+use Rattle.typed_judged.specs.Judge.{cardFor, TypedOutcome, JudgePromise, JudgeRead, JudgedAs}
 
 outcome-settled : (correct : Bool) (read : Read) (lengths : List ℕ) (layout : Layout) (before a b : List ℕ) (v w : Verdict)
     → TypedOutcome (record { correct = correct; lengths = lengths }) (record { answer = read; layout = layout }) before a v

@@ -23,7 +23,7 @@ use Rattle.rules.specs.Rules.{axes, added, part}
 use Rattle.rules.proofs.RowMajor.{inside-parts, components-inside}
 use Rattle.rules.proofs.Reuse.{components-back}
 use Rattle.rules.proofs.Along.{along, Walking, walking-none, walking-more, walked-all}
-use Rattle.outside_ends.specs.Ends.{farEnd, ends, endIndex}
+use Rattle.outside_reach.specs.Ends.{farEnd, ends, endIndex}
 use Rattle.laws.proofs.Parts.{parts-sum, parts-times, whole}
 
 -- one component

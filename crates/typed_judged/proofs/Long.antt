@@ -19,8 +19,8 @@ use Rattle.typed_lengths.specs.Line.{LineSays, LengthsCome as LineComes, Length
 use Rattle.typed_lengths.specs.declared.LineOfLengths.{LineOfLengths}
 use Rattle.judgement.specs.declared.Verdict.{Verdict}
 use Rattle.typed_lengths.proofs.Run.{further, spaced}
-use Rattle.typed.specs.Judge.{JudgePromise, JudgeRead}
-use Rattle.typed.proofs.Theorems.{judge-exactly}
+use Rattle.typed_judged.specs.Judge.{JudgePromise, JudgeRead}
+use Rattle.typed_judged.proofs.Theorems.{judge-exactly}
 
 -- eight lengths
 further-length : (ns : List ℕ) → length (further ns) ≤ 6 * length ns

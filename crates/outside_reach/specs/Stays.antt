@@ -6,7 +6,7 @@ use lib.ListN.{getD}
 use lib.Signed.{_≤ℤ_, _<ℤ_}
 use Rattle.card.specs.Limits.{lastAxis}
 use Rattle.card.specs.declared.Card.{Card}
-use Rattle.outside_ends.specs.Ends.{endSum, wholeBlocks}
+use Rattle.outside_reach.specs.Ends.{endSum, wholeBlocks}
 
 pub record Stays (card : Card) : Type 0 where
   pub low : (axis : ℕ) → axis < 8 → pos 0 ≤ℤ endSum false card axis

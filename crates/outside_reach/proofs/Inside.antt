@@ -22,10 +22,10 @@ use Rattle.rules.specs.Rules.{sum, swizzledZ, finished, onAxis, coordinates, sp
 use Rattle.rules.proofs.RowMajor.{first-past}
 use Rattle.rules.proofs.Theorems.{coordinate-at}
 use Rattle.judgement.specs.Judgement.{LiesInside, AllInside}
-use Rattle.outside_ends.specs.Ends.{endSum, wholeBlocks}
-use Rattle.outside_ends.specs.Stays.{Stays}
+use Rattle.outside_reach.specs.Ends.{endSum, wholeBlocks}
+use Rattle.outside_reach.specs.Stays.{Stays}
 use Rattle.laws.proofs.Parts.{parts-sum, whole}
-use Rattle.outside_ends.proofs.Reach.{part-most, part-least}
+use Rattle.outside_reach.proofs.Reach.{part-most, part-least}
 
 -- the two parts of a sum further up, the sum further up
 sum-le : (a b c d offset : ℤ) → a ≤ℤ c → b ≤ℤ d → (a +ℤ offset +ℤ b) ≤ℤ (c +ℤ offset +ℤ d)

@@ -16,7 +16,7 @@ use Rattle.judgement.specs.Verdict.{verdictNumbers}
 use Rattle.judgement.specs.declared.Verdict.{Verdict}
 use Rattle.judgement.proofs.InNumbers.{InNumbers, verdict-in-numbers}
 use Rattle.judgement.proofs.Plain.{verdict-exactly}
-use Rattle.typed.specs.Judge.{cardFor, JudgePromise}
+use Rattle.typed_judged.specs.Judge.{cardFor, JudgePromise}
 
 -- the numbers of two lines, and what is then in the table
 pub record JudgeInNumbers (first second before after : List ℕ) (n : Numbers) : Type 0 where
