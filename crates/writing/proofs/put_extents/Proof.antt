@@ -7,10 +7,11 @@ use Rattle.laws.proofs.Lists.{length-of}
 use Rattle.card.specs.Card.{extentOf, none}
 use Rattle.notation.specs.Quoted.{quotedBytes}
 use Rattle.notation.specs.Text.{decimal, joined}
-use Rattle.writing.specs.Out.{wrote, joint}
+use Rattle.writing_words.specs.Out.{wrote, joint}
 use native.Mathlib.Omega.{arith}
 use borrow.Author.Needs.{needs}
-use Rattle.writing.proofs.Laws.{wrote-none, wrote-more, extents-next}
+use Rattle.writing_words.proofs.Laws.{wrote-none, wrote-more}
+use Rattle.writing.proofs.Laws.{extents-next}
 use Rattle.writing.proofs.put_extents.Statement.{statement}
 use Rattle.writing.proofs.put_extents.Tie as tie
 

@@ -1,7 +1,7 @@
 -- `writing::put_if` is the byte or nothing.
 use native.Mathlib.Omega.{arith}
 use borrow.Author.Needs.{needs}
-use Rattle.writing.proofs.Laws.{wrote-none}
+use Rattle.writing_words.proofs.Laws.{wrote-none}
 use Rattle.writing.proofs.put_if.Statement.{statement}
 use Rattle.writing.proofs.put_if.Tie as tie
 

@@ -2,7 +2,7 @@
 use borrow.Author.Tests.{eq-eqb, ne-eqb}
 use native.Mathlib.Omega.{arith}
 use borrow.Author.Needs.{needs}
-use Rattle.writing.proofs.Laws.{wrote-none}
+use Rattle.writing_words.proofs.Laws.{wrote-none}
 use Rattle.writing.proofs.put_joint.Statement.{statement}
 use Rattle.writing.proofs.put_joint.Tie as tie
 

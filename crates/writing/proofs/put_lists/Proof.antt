@@ -1,7 +1,7 @@
 -- `writing::put_lists` is both lists, one after the other.
 use native.Mathlib.Omega.{arith}
 use borrow.Author.Needs.{needs}
-use Rattle.writing.proofs.Laws.{wrote-lists}
+use Rattle.writing_words.proofs.Laws.{wrote-lists}
 use Rattle.writing.proofs.put_lists.Statement.{statement}
 use Rattle.writing.proofs.put_lists.Tie as tie
 

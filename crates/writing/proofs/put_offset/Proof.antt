@@ -3,7 +3,7 @@ use borrow.Author.Tests.{eq-eqb, ne-eqb}
 use mir.Facts.{toZ-ofZ}
 use native.Mathlib.Omega.{arith}
 use borrow.Author.Needs.{needs}
-use Rattle.writing.proofs.Laws.{wrote-none, wrote-plus}
+use Rattle.writing_words.proofs.Laws.{wrote-none, wrote-plus}
 use Rattle.writing.proofs.put_offset.Statement.{statement}
 use Rattle.writing.proofs.put_offset.Tie as tie
 

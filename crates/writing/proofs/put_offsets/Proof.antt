@@ -9,10 +9,11 @@ use mir.Syntax.{w64}
 use mir.Facts.{toZ-ofZ}
 use Rattle.notation.specs.Text.{spellOffsets}
 use Rattle.notation.specs.Writing.{offsetsFrom}
-use Rattle.writing.specs.Out.{wrote}
+use Rattle.writing_words.specs.Out.{wrote}
 use native.Mathlib.Omega.{arith}
 use borrow.Author.Needs.{needs}
-use Rattle.writing.proofs.Laws.{wrote-none, wrote-more, offsetThere, offsets-next}
+use Rattle.writing_words.proofs.Laws.{wrote-none, wrote-more}
+use Rattle.writing.proofs.Laws.{offsetThere, offsets-next}
 use Rattle.writing.proofs.put_offsets.Statement.{statement}
 use Rattle.writing.proofs.put_offsets.Tie as tie
 

@@ -10,7 +10,8 @@ use Rattle.notation.specs.Writing.{noMarks}
 use native.Mathlib.Omega.{arith}
 use borrow.Author.Needs.{needs}
 use Rattle.notation.proofs.Lists.{several}
-use Rattle.writing.proofs.Laws.{wrote-none, wrote-3, some-there, steps-cut}
+use Rattle.writing_words.proofs.Laws.{wrote-none, wrote-3}
+use Rattle.writing.proofs.Laws.{some-there, steps-cut}
 use Rattle.writing.proofs.put_replica.Statement.{statement}
 use Rattle.writing.proofs.put_replica.Tie as tie
 

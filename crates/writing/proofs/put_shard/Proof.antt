@@ -1,7 +1,7 @@
 -- `writing::put_shard` is `S[`, the lists and `]`.
 use native.Mathlib.Omega.{arith}
 use borrow.Author.Needs.{needs}
-use Rattle.writing.proofs.Laws.{wrote-3}
+use Rattle.writing_words.proofs.Laws.{wrote-3}
 use Rattle.writing.proofs.put_shard.Statement.{statement}
 use Rattle.writing.proofs.put_shard.Tie as tie
 

@@ -11,10 +11,11 @@ use Rattle.card.specs.Card.{none}
 use Rattle.notation.specs.Quoted.{quotedBytes}
 use Rattle.notation.specs.Text.{spellStep, joined}
 use Rattle.notation.specs.Writing.{stepFor, stepsFor}
-use Rattle.writing.specs.Out.{wrote, joint}
+use Rattle.writing_words.specs.Out.{wrote, joint}
 use native.Mathlib.Omega.{arith}
 use borrow.Author.Needs.{needs}
-use Rattle.writing.proofs.Laws.{wrote-none, wrote-more, strides-next}
+use Rattle.writing_words.proofs.Laws.{wrote-none, wrote-more}
+use Rattle.writing.proofs.Laws.{strides-next}
 use Rattle.writing.proofs.put_strides.Statement.{statement}
 use Rattle.writing.proofs.put_strides.Tie as tie
 

@@ -5,10 +5,11 @@ use Rattle.card.proofs.ReadBack.{OfEight}
 use Rattle.notation.specs.Writing.{textOf}
 use Rattle.notation.proofs.Back.{shard-few, replica-few}
 use Rattle.notation.proofs.Long.{written-length}
-use Rattle.writing.specs.Out.{wrote, noText}
+use Rattle.writing_words.specs.Out.{wrote, noText}
 use native.Mathlib.Omega.{arith}
 use borrow.Author.Needs.{needs}
-use Rattle.writing.proofs.Laws.{wrote-3, text-length}
+use Rattle.writing_words.proofs.Laws.{wrote-3}
+use Rattle.writing.proofs.Laws.{text-length}
 use Rattle.writing.proofs.spelled.Statement.{statement}
 use Rattle.writing.proofs.spelled.Tie as tie
 

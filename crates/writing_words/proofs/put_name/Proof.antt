@@ -1,14 +1,14 @@
--- `writing::put_name` is the name of the axis: in each arm the axis is the arm's own, and no other has a name.
+-- `writing_words::put_name` is the name of the axis: in each arm the axis is the arm's own, and no other has a name.
 use Prim.Native.Nat.{ℕ, zero, suc}
 use mathlib.Core.Path.{_≡_, refl, ap, _∙_}
 use mathlib.Core.List.{List, []}
 use Rattle.notation.specs.Text.{name}
-use Rattle.writing.specs.Out.{wrote}
+use Rattle.writing_words.specs.Out.{wrote}
 use native.Mathlib.Omega.{arith}
 use borrow.Author.Needs.{needs}
-use Rattle.writing.proofs.Laws.{wrote-none}
-use Rattle.writing.proofs.put_name.Statement.{statement}
-use Rattle.writing.proofs.put_name.Tie as tie
+use Rattle.writing_words.proofs.Laws.{wrote-none}
+use Rattle.writing_words.proofs.put_name.Statement.{statement}
+use Rattle.writing_words.proofs.put_name.Tie as tie
 
 no-name : (a : ℕ) → (a ≡ 0 → ⊥) → (a ≡ 1 → ⊥) → (a ≡ 2 → ⊥) → (a ≡ 3 → ⊥) → (a ≡ 4 → ⊥) → (a ≡ 5 → ⊥) → (a ≡ 6 → ⊥) → (a ≡ 7 → ⊥) → [] ≡ name a
 no-name zero h0 h1 h2 h3 h4 h5 h6 h7 = absurd (h0 refl)

@@ -1,10 +1,10 @@
--- `writing::put_step` is the number with its sign, `@`, the name, and a star where it is marked.
+-- `writing_words::put_step` is the number with its sign, `@`, the name, and a star where it is marked.
 use mir.Facts.{toZ-ofZ}
 use native.Mathlib.Omega.{arith}
 use borrow.Author.Needs.{needs}
-use Rattle.writing.proofs.Laws.{wrote-3, wrote-4}
-use Rattle.writing.proofs.put_step.Statement.{statement}
-use Rattle.writing.proofs.put_step.Tie as tie
+use Rattle.writing_words.proofs.Laws.{wrote-3, wrote-4}
+use Rattle.writing_words.proofs.put_step.Statement.{statement}
+use Rattle.writing_words.proofs.put_step.Tie as tie
 
 returns : tie.Need-returns
 returns c =

@@ -1,11 +1,11 @@
--- `writing::put_decimal` is the definition: a digit alone, or the digits before the last and then the last.
+-- `writing_words::put_decimal` is the definition: a digit alone, or the digits before the last and then the last.
 use native.Mathlib.Omega.{arith}
 use borrow.Author.Needs.{needs}
 use borrow.Author.Tests.{le-ltb}
 use Rattle.notation.specs.Text.{decimal}
-use Rattle.writing.proofs.Laws.{wrote-more, below-ten}
-use Rattle.writing.proofs.put_decimal.Statement.{statement}
-use Rattle.writing.proofs.put_decimal.Tie as tie
+use Rattle.writing_words.proofs.Laws.{wrote-more, below-ten}
+use Rattle.writing_words.proofs.put_decimal.Statement.{statement}
+use Rattle.writing_words.proofs.put_decimal.Tie as tie
 
 returns : tie.Need-returns
 unfolding decimal

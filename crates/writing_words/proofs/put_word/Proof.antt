@@ -1,15 +1,15 @@
--- `writing::put_word` puts one byte of the word a turn.
+-- `writing_words::put_word` puts one byte of the word a turn.
 use Prim.Native.Nat.{_+_, _-_, _≤_}
 use mathlib.Core.Path.{_≡_, refl, ap, _∙_}
 use mathlib.Core.List.{List}
 use Prim.Native.Nat.{ℕ}
 use lib.Seq.{slice}
-use Rattle.writing.specs.Out.{wrote, words}
+use Rattle.writing_words.specs.Out.{wrote, words}
 use native.Mathlib.Omega.{arith}
 use borrow.Author.Needs.{needs}
-use Rattle.writing.proofs.Laws.{wrote-none, wrote-more, word-next, word-none}
-use Rattle.writing.proofs.put_word.Statement.{statement}
-use Rattle.writing.proofs.put_word.Tie as tie
+use Rattle.writing_words.proofs.Laws.{wrote-none, wrote-more, word-next, word-none}
+use Rattle.writing_words.proofs.put_word.Statement.{statement}
+use Rattle.writing_words.proofs.put_word.Tie as tie
 
 abbrev Inv-loop : tie.InvT-loop
 Inv-loop from count out k₀ written k = (k ≤ count) × (written ≡ wrote out (slice from (from + k) words)) × (written .length ≤ out .length + k)

@@ -1,10 +1,10 @@
--- `writing::put_2` is the definition: a digit alone, or the digits before the last and then the last.
+-- `writing_words::put_2` is the definition: a digit alone, or the digits before the last and then the last.
 use native.Mathlib.Omega.{arith}
 use borrow.Author.Needs.{needs}
 use borrow.Author.Tests.{le-ltb}
-use Rattle.writing.proofs.Laws.{wrote-more, below-ten}
-use Rattle.writing.proofs.put_2.Statement.{statement}
-use Rattle.writing.proofs.put_2.Tie as tie
+use Rattle.writing_words.proofs.Laws.{wrote-more, below-ten}
+use Rattle.writing_words.proofs.put_2.Statement.{statement}
+use Rattle.writing_words.proofs.put_2.Tie as tie
 
 returns : tie.Need-returns
 returns c = (rw (← below-ten 1 (c .before .before .args .n) (c .before .if1 .taken)) (c .put-digit .ensures .0), omega (arith, c .put-digit .ensures .1))

@@ -5,7 +5,7 @@ use mathlib.Core.List.{List, [], _∷_, _++_}
 use lib.Dec.{eqb}
 use lib.IntN.{ℤ}
 use lib.ListN.{length, set, replicate}
-use Rattle.writing.specs.declared.Out.{Out}
+use Rattle.writing_words.specs.declared.Out.{Out}
 
 -- a text written over a list from a place on
 abbrev pub overlay : List ℕ → ℕ → List ℕ → List ℕ
@@ -26,7 +26,7 @@ noText = record { bytes = replicate 512 0; length = 0 }
 abbrev pub joint : ℕ → List ℕ
 joint k = cond (eqb k 0) [] (44 ∷ [])
 
--- names and marks: pid warpid laneid P F TLane TCol m S[ ):( ]
+-- the axes' names, and what opens the shard and the replica: pid warpid laneid P F TLane TCol m S[ +R[
 abbrev pub words : List ℕ
 words =
     112 ∷ 105 ∷ 100 ∷ 119 ∷ 97 ∷ 114 ∷ 112 ∷ 105 ∷ 100 ∷ 108 ∷ 97 ∷ 110 ∷ 101 ∷ 105 ∷ 100 ∷ 80 ∷ 70 ∷ 84 ∷ 76 ∷ 97 ∷ 110 ∷ 101 ∷ 84 ∷ 67 ∷ 111 ∷ 108 ∷ 109 ∷ 83 ∷ 91 ∷ 43 ∷ 82 ∷ 91 ∷ []

@@ -1,10 +1,10 @@
--- `writing::put_signed` is a minus where the number is below zero, and the number.
+-- `writing_words::put_signed` is a minus where the number is below zero, and the number.
 use mir.Facts.{toZ-ofZ}
 use native.Mathlib.Omega.{arith}
 use borrow.Author.Needs.{needs}
-use Rattle.writing.proofs.Laws.{wrote-more, sign-below, sign-natural}
-use Rattle.writing.proofs.put_signed.Statement.{statement}
-use Rattle.writing.proofs.put_signed.Tie as tie
+use Rattle.writing_words.proofs.Laws.{wrote-more, sign-below, sign-natural}
+use Rattle.writing_words.proofs.put_signed.Statement.{statement}
+use Rattle.writing_words.proofs.put_signed.Tie as tie
 
 returns : tie.Need-returns
 returns c =

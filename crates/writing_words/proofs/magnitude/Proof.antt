@@ -1,4 +1,4 @@
--- `writing::magnitude` is how far a number is from zero: below zero one more than -1 less the number.
+-- `writing_words::magnitude` is how far a number is from zero: below zero one more than -1 less the number.
 use Prim.Native.Nat.{ℕ, zero, suc, _+_, _-_, _^_, _≤_, _<_}
 use mathlib.Core.Path.{_≡_, refl, ap, _∙_, subst⁻¹}
 use mathlib.Core.Bool.{true, false}
@@ -13,8 +13,8 @@ use Rattle.laws.proofs.Signed.{far-fits}
 use Rattle.laws.proofs.Rungs.{apart}
 use native.Mathlib.Omega.{arith}
 use borrow.Author.Needs.{needs}
-use Rattle.writing.proofs.magnitude.Statement.{statement}
-use Rattle.writing.proofs.magnitude.Tie as tie
+use Rattle.writing_words.proofs.magnitude.Statement.{statement}
+use Rattle.writing_words.proofs.magnitude.Tie as tie
 
 minus-one : (n : ℕ) → negsuc 0 -ℤ negsuc n ≡ pos n
 minus-one n = rw (le-ltb (suc n) 1 (omega arith)) (ap pos (omega arith))
