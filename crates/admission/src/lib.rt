@@ -73,7 +73,7 @@ fn counts_fit(numbers: &[u64; 56]) -> bool
 }
 
 // What one walk over a list of iters says of it for checks 2 and 3.
-#[derive(Drop)]
+#[derive(Clone, Copy)]
 struct Fits {
     limits: bool,
     axes: bool,

@@ -3,15 +3,15 @@ ghost use Rattle.std.specs.Prelude.{◌≡◌};
 ghost use Rattle.answers.specs.Refusals.{answer, refusal_numbers};
 
 // The flat index of an element.
-#[derive(Drop)]
+#[derive(Clone, Copy)]
 pub struct Flat(pub u64);
 
 // The number of a cell.
-#[derive(Drop)]
+#[derive(Clone, Copy)]
 pub struct Cell(pub u64);
 
 // Why the desk says no, in the order of the refusals' numbers, 1 to 23.
-#[derive(Drop)]
+#[derive(Clone, Copy)]
 pub enum Refusal {
     // 1: shard or replica iter count outside limits
     Counts,
@@ -62,7 +62,7 @@ pub enum Refusal {
 }
 
 // An answer as plain numbers: its number and three details.
-#[derive(Drop)]
+#[derive(Clone, Copy)]
 pub struct Numbers {
     pub number: u64,
     pub a: u64,

@@ -5,14 +5,14 @@
 use answers::Refusal;
 
 // A bank word: its line, and its bank there.
-#[derive(Drop)]
+#[derive(Clone, Copy)]
 pub struct BankWord {
     pub line: u64,
     pub bank: u64,
 }
 
 // The answer to bits and an element address.
-#[derive(Drop)]
+#[derive(Clone, Copy)]
 pub enum Banked {
     At(BankWord),
     Refused(Refusal),

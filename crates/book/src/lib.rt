@@ -16,14 +16,14 @@ pub const NOTE: usize = 216;
 pub const MOST_NOTE: usize = 292;
 
 // The answer to the reading or the writing of a block.
-#[derive(Drop)]
+#[derive(Clone, Copy)]
 pub enum Answer {
     Done,
     Refused(Refusal),
 }
 
 // What reading a block gives beside its note: the answer, and the card.
-#[derive(Drop)]
+#[derive(Clone, Copy)]
 pub struct Page {
     pub answer: Answer,
     pub card: Card,

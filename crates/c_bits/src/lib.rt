@@ -2,7 +2,7 @@
 // not-a-number, where floats have one.
 
 // What a register has: nothing, the 32 bits of a single or the 64 of a double.
-#[derive(Drop)]
+#[derive(Clone, Copy)]
 pub enum Bits {
     Empty,
     Single(u32),

@@ -14,7 +14,7 @@ pub const MOST_COPIES: u64 = 64;
 pub const BEYOND: u64 = 4294967296;
 
 // An extent, a stride and an axis.
-#[derive(Drop)]
+#[derive(Clone, Copy)]
 pub struct Iter {
     pub extent: u64,
     pub stride: i64,
@@ -22,7 +22,7 @@ pub struct Iter {
 }
 
 // A counted list of iters: the first `count` of them. The shard is one, and so is the replica.
-#[derive(Drop)]
+#[derive(Clone, Copy)]
 pub struct Iters {
     pub at: [Iter; 8],
     pub count: u64,
@@ -30,7 +30,7 @@ pub struct Iters {
 
 // A layout card. Each shard iter may carry a reuse mark; those past the count are ignored. The offset has
 // one number per axis, and so have the lengths of the space.
-#[derive(Drop)]
+#[derive(Clone, Copy)]
 pub struct Card {
     pub shard: Iters,
     pub marks: [bool; 8],
@@ -41,7 +41,7 @@ pub struct Card {
 }
 
 // The answer to a card.
-#[derive(Drop)]
+#[derive(Clone, Copy)]
 pub enum Admission {
     Admitted,
     Refused(Refusal),

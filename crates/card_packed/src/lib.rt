@@ -20,7 +20,7 @@ const SHARD_STRIDES: usize = 0;
 const REPLICA_STRIDES: usize = 8;
 
 // A card's numbers in two arrays, that are passed by reference from here on.
-#[derive(Drop)]
+#[derive(Clone, Copy)]
 pub struct Packed {
     pub numbers: [u64; 56],
     pub strides: [i64; 24],

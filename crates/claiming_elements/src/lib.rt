@@ -16,7 +16,7 @@ use swizzle::Swizzle;
 
 // What claiming a run comes to: how many elements were claimed before one met an owner, and how many
 // cells they occupied newly.
-#[derive(Drop)]
+#[derive(Clone, Copy)]
 pub struct Claimed {
     pub elements: u64,
     pub cells: u64,

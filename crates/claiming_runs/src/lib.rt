@@ -2,7 +2,7 @@
 use answers::Flat;
 
 // Elements that follow each other: the first, and how many they are.
-#[derive(Drop)]
+#[derive(Clone, Copy)]
 pub struct Run {
     pub first: Flat,
     pub length: u64,

@@ -18,7 +18,7 @@ use swizzle::Swizzle;
 const M: usize = card::LAST_AXIS as usize;
 
 // A level and an m.
-#[derive(Drop)]
+#[derive(Clone, Copy)]
 pub struct LevelAndM {
     pub level: i64,
     pub m: i64,

@@ -2,7 +2,7 @@
 use answers::Refusal;
 
 // The fields of a descriptor; one start count and one first span for each of four sub-masks.
-#[derive(Drop)]
+#[derive(Clone, Copy)]
 pub struct Fields {
     pub start_counts: [u8; 4],
     pub first_spans: [bool; 4],
@@ -13,21 +13,21 @@ pub struct Fields {
 }
 
 // The answer to the reading of a descriptor.
-#[derive(Drop)]
+#[derive(Clone, Copy)]
 pub enum DescriptorRead {
     Done,
     Refused(Refusal),
 }
 
 // What reading a descriptor gives: the answer, and the fields beside it.
-#[derive(Drop)]
+#[derive(Clone, Copy)]
 pub struct DescriptorReading {
     pub answer: DescriptorRead,
     pub fields: Fields,
 }
 
 // The answer to the writing of a descriptor.
-#[derive(Drop)]
+#[derive(Clone, Copy)]
 pub enum DescriptorWritten {
     Descriptor(u64),
     Refused(Refusal),

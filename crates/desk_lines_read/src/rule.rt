@@ -9,7 +9,7 @@ use text::decimal;
 use text::decimal::Extended;
 
 // How far the numbers of a line are read: where the last of them ends, and the place after its own.
-#[derive(Drop)]
+#[derive(Clone, Copy)]
 pub enum Line {
     Read(usize, usize),
     Malformed,
@@ -17,7 +17,7 @@ pub enum Line {
 
 // What stands where a number should: whether one does, whether it has a minus, its value without it,
 // and where it ends.
-#[derive(Drop)]
+#[derive(Clone, Copy)]
 struct Spelled {
     good: bool,
     minus: bool,
@@ -27,7 +27,7 @@ struct Spelled {
 
 // Digits up to a space or the end of the line: whether nothing else stands there and the number is
 // below 2^64, their value, and where they end.
-#[derive(Drop)]
+#[derive(Clone, Copy)]
 struct Digits {
     good: bool,
     value: u64,
@@ -35,14 +35,14 @@ struct Digits {
 }
 
 // The form in which a number is kept, if its place admits it.
-#[derive(Drop)]
+#[derive(Clone, Copy)]
 enum Form {
     Number(u64),
     Refused,
 }
 
 // Where the next number begins, at its space.
-#[derive(Drop)]
+#[derive(Clone, Copy)]
 enum Next {
     At(usize),
     Malformed,

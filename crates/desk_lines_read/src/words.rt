@@ -11,7 +11,7 @@ const STAR: u8 = 42;
 
 const MOST_MARKS: u64 = 255;
 
-#[derive(Drop)]
+#[derive(Clone, Copy)]
 pub enum Word {
     Swizzle,
     Mode,

@@ -4,7 +4,7 @@ use answers::Numbers;
 use desk_lines::{numbers, places};
 
 // How a reply is put.
-#[derive(Drop)]
+#[derive(Clone, Copy)]
 pub enum Form {
     // `?`, to a line that is no question
     Unknown,
@@ -23,7 +23,7 @@ pub enum Form {
 // What a line is answered; the values are the first `count`. A text stands behind the first of them, eight bytes
 // to a value, the first the lowest, and is as long as A says, or where it stands alone as the first value says: a reply is copied where it is returned, so it has no
 // room that most replies leave empty.
-#[derive(Drop)]
+#[derive(Clone, Copy)]
 pub struct LineReply {
     pub form: Form,
     pub answer: Numbers,

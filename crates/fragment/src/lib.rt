@@ -22,7 +22,7 @@ const ROWS: [u64; 9] = [8, 8, 4, 4, 8, 8, 8, 4, 8];
 const COLUMNS: [u64; 9] = [4, 4, 8, 8, 8, 8, 4, 8, 8];
 
 // A place in one of the matrices of a kind: which computation's, and its row and column.
-#[derive(Drop)]
+#[derive(Clone, Copy)]
 pub struct Place {
     pub computation: u64,
     pub row: u64,
@@ -30,21 +30,21 @@ pub struct Place {
 }
 
 // A register of a lane.
-#[derive(Drop)]
+#[derive(Clone, Copy)]
 pub struct Slot {
     pub lane: u64,
     pub register: u64,
 }
 
 // The answer to what a register holds.
-#[derive(Drop)]
+#[derive(Clone, Copy)]
 pub enum Held {
     Place(Place),
     Refused(Refusal),
 }
 
 // The answer to which register holds a place.
-#[derive(Drop)]
+#[derive(Clone, Copy)]
 pub enum Holder {
     Slot(Slot),
     Refused(Refusal),

@@ -2,7 +2,7 @@
 
 // What a search for idle copies finds: the smallest pair of combinations with the same sums, smallest
 // second first, or none.
-#[derive(Drop)]
+#[derive(Clone, Copy)]
 pub enum Finding {
     Pair(u64, u64),
     NoPair,

@@ -2,7 +2,7 @@
 use answers::Refusal;
 
 // The answer to the verdict: elements, occupied cells and cells of an approved card.
-#[derive(Drop)]
+#[derive(Clone, Copy)]
 pub enum Verdict {
     Approved {
         elements: u64,
@@ -13,7 +13,7 @@ pub enum Verdict {
 }
 
 // The answer to the owner of a cell: the entry read, the flat index plus 1, or 0 for nobody.
-#[derive(Drop)]
+#[derive(Clone, Copy)]
 pub enum Owner {
     Entry(u64),
     Refused(Refusal),

@@ -8,7 +8,7 @@ use answers::{Numbers, Refusal};
 use descriptor::Fields;
 
 // The answer to the generation of a mask: how many columns are zeroed, and the first that is used.
-#[derive(Drop)]
+#[derive(Clone, Copy)]
 pub enum Generated {
     Mask { zeroed: u64, first_used: u64 },
     Refused(Refusal),

@@ -119,7 +119,7 @@ fn mask_word(
 }
 
 // The columns of a mask as words, how many of them are zeroed, and the first that is used.
-#[derive(Drop)]
+#[derive(Clone, Copy)]
 pub struct Words {
     pub at: [u64; 4],
     pub zeroed: u64,

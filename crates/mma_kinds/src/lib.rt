@@ -4,7 +4,7 @@ use card::{Admission, Card};
 
 // A kind in six numbers: so many elements of a lane lie next to each other, in one half of the rows or in two, repeated so many times along
 // the columns, in so many matrices, over so many warps; turned, rows and columns are exchanged.
-#[derive(Drop)]
+#[derive(Clone, Copy)]
 pub struct KindForm {
     pub next: u64,
     pub halves: u64,
@@ -15,7 +15,7 @@ pub struct KindForm {
 }
 
 // A place in one of the matrices of a kind.
-#[derive(Drop)]
+#[derive(Clone, Copy)]
 pub struct MmaPlace {
     pub matrix: u64,
     pub row: u64,
@@ -23,7 +23,7 @@ pub struct MmaPlace {
 }
 
 // A register of a lane of a warp: registers are counted as PTX counts them, one an element.
-#[derive(Drop)]
+#[derive(Clone, Copy)]
 pub struct MmaSlot {
     pub warp: u64,
     pub lane: u64,
@@ -31,21 +31,21 @@ pub struct MmaSlot {
 }
 
 // The answer to what a register holds.
-#[derive(Drop)]
+#[derive(Clone, Copy)]
 pub enum MmaHeld {
     Place(MmaPlace),
     Refused(Refusal),
 }
 
 // The answer to which register holds a place.
-#[derive(Drop)]
+#[derive(Clone, Copy)]
 pub enum MmaHolder {
     Slot(MmaSlot),
     Refused(Refusal),
 }
 
 // The answer to a kind's layout, and its card beside it.
-#[derive(Drop)]
+#[derive(Clone, Copy)]
 pub struct MmaLayout {
     pub answer: Admission,
     pub card: Card,

@@ -4,7 +4,7 @@ use answers::Refusal;
 use card::Iters;
 
 // What follows the number of a stride or an offset: nothing, an axis, or an axis and a star.
-#[derive(Drop)]
+#[derive(Clone, Copy)]
 pub enum NamedAxis {
     Bare,
     At(u64),
@@ -12,7 +12,7 @@ pub enum NamedAxis {
 }
 
 // A stride or an offset as it is written.
-#[derive(Drop)]
+#[derive(Clone, Copy)]
 pub struct Step {
     pub negative: bool,
     pub size: u64,
@@ -20,7 +20,7 @@ pub struct Step {
 }
 
 // What a text of the notation gives of a card: all but the lengths and the swizzle.
-#[derive(Drop)]
+#[derive(Clone, Copy)]
 pub struct Layout {
     pub shard: Iters,
     pub marks: [bool; 8],
@@ -29,28 +29,28 @@ pub struct Layout {
 }
 
 // The answer to the reading of a text.
-#[derive(Drop)]
+#[derive(Clone, Copy)]
 pub enum Read {
     Done,
     Refused(Refusal),
 }
 
 // What reading a text gives: the answer, and the layout beside it.
-#[derive(Drop)]
+#[derive(Clone, Copy)]
 pub struct Reading {
     pub answer: Read,
     pub layout: Layout,
 }
 
 // The answer to the writing of a layout: its length.
-#[derive(Drop)]
+#[derive(Clone, Copy)]
 pub enum Written {
     Length(u64),
     Refused(Refusal),
 }
 
 // Where in the text the reader stands.
-#[derive(Drop)]
+#[derive(Clone, Copy)]
 pub enum Phase {
     First,
     Extent,
@@ -69,7 +69,7 @@ pub enum Phase {
 }
 
 // What is being read: the shard, a replica of several iters, a single one, or an offset.
-#[derive(Drop)]
+#[derive(Clone, Copy)]
 pub enum Part {
     Shard,
     Several,
@@ -78,7 +78,7 @@ pub enum Part {
 }
 
 // The number that is being read, and the sign and the axis of a stride or an offset.
-#[derive(Drop)]
+#[derive(Clone, Copy)]
 pub struct Piece {
     pub value: u64,
     pub negative: bool,
@@ -86,7 +86,7 @@ pub struct Piece {
 }
 
 // How far the part has been read: the least axis that may follow, its extents, and its strides or offsets.
-#[derive(Drop)]
+#[derive(Clone, Copy)]
 pub struct Stand {
     pub part: Part,
     pub from: u64,
@@ -95,7 +95,7 @@ pub struct Stand {
 }
 
 // What a byte finishes: nothing, an extent, a stride or offset, or a part, since it begins another one.
-#[derive(Drop)]
+#[derive(Clone, Copy)]
 pub enum Event {
     Same,
     Extent,
@@ -104,7 +104,7 @@ pub enum Event {
 }
 
 // What a byte leads to: `owed` is the place in the reader's words of the bytes that have to come next.
-#[derive(Drop)]
+#[derive(Clone, Copy)]
 pub struct Move {
     pub phase: Phase,
     pub owed: usize,
@@ -113,7 +113,7 @@ pub struct Move {
 }
 
 // Where the reader stands.
-#[derive(Drop)]
+#[derive(Clone, Copy)]
 pub struct Reader {
     pub phase: Phase,
     pub owed: usize,

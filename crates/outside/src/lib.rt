@@ -10,7 +10,7 @@ ghost use Rattle.outside.specs.Outside.{FindsOutside, FirstWord, Ended};
 use answers::Flat;
 
 // What a search for the first element outside finds.
-#[derive(Drop)]
+#[derive(Clone, Copy)]
 pub enum Search {
     Outside { flat: Flat, axis: u64 },
     NoneOutside,

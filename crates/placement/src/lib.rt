@@ -14,7 +14,7 @@ use rules::Position;
 const MOST_DIMENSIONS: u64 = 8;
 
 // What coordinates in a shape name.
-#[derive(Drop)]
+#[derive(Clone, Copy)]
 enum Found {
     Element(Flat),
     Nowhere,

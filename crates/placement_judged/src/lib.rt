@@ -2,14 +2,14 @@
 use answers::Refusal;
 
 // A counted list of numbers: a shape, or coordinates in one.
-#[derive(Drop)]
+#[derive(Clone, Copy)]
 pub struct Tuple {
     pub at: [u64; 8],
     pub count: u64,
 }
 
 // The answer to the placement of one element.
-#[derive(Drop)]
+#[derive(Clone, Copy)]
 pub enum Placement {
     Copies(u64),
     Refused(Refusal),

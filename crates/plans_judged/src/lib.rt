@@ -3,14 +3,14 @@
 use answers::Refusal;
 
 // The answer to checking a plan.
-#[derive(Drop)]
+#[derive(Clone, Copy)]
 pub enum Checked {
     Accepted,
     Refused(Refusal),
 }
 
 // The answer to writing a plan: the numbers written.
-#[derive(Drop)]
+#[derive(Clone, Copy)]
 pub enum Planning {
     Written { numbers: u64 },
     Refused(Refusal),

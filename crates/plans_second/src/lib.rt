@@ -10,7 +10,7 @@ use card::Card;
 use judgement::Verdict;
 
 // Two cards before a plan is looked at: the cells of their space and how many of them the second occupies, or a refusal.
-#[derive(Drop)]
+#[derive(Clone, Copy)]
 pub enum Pairing {
     Matching { cells: u64, occupied: u64 },
     Refused(Refusal),

@@ -37,7 +37,7 @@ fn is_marked(place: NamedAxis) -> bool
 }
 
 // Extents that have been read, and where they end; or where the text goes wrong.
-#[derive(Drop)]
+#[derive(Clone, Copy)]
 pub struct Extents {
     pub fits: bool,
     pub next: usize,
@@ -118,7 +118,7 @@ fn with_step(iter: Iter, step: Step) -> Iter
 }
 
 // The iters with their strides and the marks, and where the list ends; or where the text goes wrong.
-#[derive(Drop)]
+#[derive(Clone, Copy)]
 pub struct StepsRead {
     pub fits: bool,
     pub next: usize,
@@ -179,7 +179,7 @@ fn read_steps(text: &[u8], from: usize, iters: [Iter; 8], count: usize, shard: b
 }
 
 // A list that has been read, and where it ends; or where the text goes wrong.
-#[derive(Drop)]
+#[derive(Clone, Copy)]
 pub struct List {
     pub fits: bool,
     pub next: usize,
@@ -218,7 +218,7 @@ pub fn read_list(text: &[u8], from: usize, least: usize, most: usize, shard: boo
 }
 
 // A single iter that has been read, and where its replica ends; or where the text goes wrong.
-#[derive(Drop)]
+#[derive(Clone, Copy)]
 pub struct Single {
     pub fits: bool,
     pub next: usize,
@@ -273,7 +273,7 @@ pub fn read_single(text: &[u8], from: usize) -> Single
 }
 
 // Offsets that have been read to the end of the text; or where it goes wrong.
-#[derive(Drop)]
+#[derive(Clone, Copy)]
 pub struct Shifts {
     pub fits: bool,
     pub next: usize,

@@ -13,7 +13,7 @@ const LANE: usize = 16;
 const COL: usize = 20;
 
 // What a token comes to: where it ends, what is still owed there, and its number or axis; or where the text goes wrong.
-#[derive(Drop)]
+#[derive(Clone, Copy)]
 pub struct Token {
     pub fits: bool,
     pub next: usize,
@@ -148,7 +148,7 @@ fn axis(text: &[u8], from: usize, least: u64) -> Token
 }
 
 // The sign and the number of a stride or an offset, and where they end; or where the text goes wrong.
-#[derive(Drop)]
+#[derive(Clone, Copy)]
 pub struct Measure {
     pub fits: bool,
     pub next: usize,
@@ -178,7 +178,7 @@ fn size(text: &[u8], from: usize) -> Measure
 }
 
 // What follows the number, nothing, an axis or an axis and a star, and where it ends; or where the text goes wrong.
-#[derive(Drop)]
+#[derive(Clone, Copy)]
 pub struct Spotted {
     pub fits: bool,
     pub next: usize,
@@ -220,7 +220,7 @@ fn spot(text: &[u8], from: usize, least: u64, marks: bool) -> Spotted
 }
 
 // A stride or an offset, and where it ends; or where the text goes wrong.
-#[derive(Drop)]
+#[derive(Clone, Copy)]
 pub struct Stride {
     pub fits: bool,
     pub next: usize,

@@ -2,14 +2,14 @@
 use answers::Cell;
 
 // Where coordinates are: at a number, row-major, or past a size, the smallest such place.
-#[derive(Drop)]
+#[derive(Clone, Copy)]
 pub enum Position {
     At(u64),
     Past(u64),
 }
 
 // Where a copy goes: its cell, or the smallest axis on which it lies outside the space.
-#[derive(Drop)]
+#[derive(Clone, Copy)]
 pub enum Spot {
     Inside(Cell),
     Outside(u64),

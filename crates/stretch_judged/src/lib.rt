@@ -2,7 +2,7 @@
 use answers::{Cell, Refusal};
 
 // The answer to a stretch of the table.
-#[derive(Drop)]
+#[derive(Clone, Copy)]
 pub enum Located {
     Stretch { first: Cell, length: u64 },
     Refused(Refusal),

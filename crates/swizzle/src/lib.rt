@@ -20,7 +20,7 @@ const MODE_S: u64 = 3;
 const TOGETHER: u64 = 128;
 
 // The three numbers of a swizzle.
-#[derive(Drop)]
+#[derive(Clone, Copy)]
 pub struct Swizzle {
     pub m: u64,
     pub b: u64,
@@ -28,14 +28,14 @@ pub struct Swizzle {
 }
 
 // The answer to the swizzle of an address.
-#[derive(Drop)]
+#[derive(Clone, Copy)]
 pub enum Swizzled {
     Address(u64),
     Refused(Refusal),
 }
 
 // The answer to bits and mode.
-#[derive(Drop)]
+#[derive(Clone, Copy)]
 pub enum Chosen {
     Parameters(Swizzle),
     Refused(Refusal),

@@ -1,7 +1,7 @@
 // Decimals in: a number, digit by digit.
 
 // A number with one digit more, if it is one.
-#[derive(Drop)]
+#[derive(Clone, Copy)]
 pub enum Extended {
     Number(u64),
     None,

@@ -5,7 +5,7 @@ use libc::STDIN_FILENO;
 // many bytes the line has so far, one more than the buffer where it is too long, whether the line is
 // whole, and whether the input has ended. A line is whole at its line feed; at the end of the input
 // a last line without one is whole too, if it has a byte.
-#[derive(Drop)]
+#[derive(Clone, Copy)]
 pub struct Input {
     pub next: usize,
     pub end: usize,

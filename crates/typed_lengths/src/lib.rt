@@ -4,14 +4,14 @@ ghost use Rattle.typed_lengths.specs.Line.{LengthsAnswered};
 ghost use Rattle.typed_lengths.specs.Machine.{line_at, halted, before_move, inside_move, line_phase_move, is_inside, line_start, line_concluded};
 
 // What reading a line gives: whether it is one, and its lengths.
-#[derive(Drop)]
+#[derive(Clone, Copy)]
 pub struct LineOfLengths {
     pub correct: bool,
     pub lengths: [u64; 8],
 }
 
 // Where in the line the reader stands: before a number, in one, or past what no such line has.
-#[derive(Drop)]
+#[derive(Clone, Copy)]
 pub enum LinePhase {
     Before,
     Inside,
@@ -19,7 +19,7 @@ pub enum LinePhase {
 }
 
 // The number that is being read, how many came before it, and these.
-#[derive(Drop)]
+#[derive(Clone, Copy)]
 pub struct LineReader {
     pub phase: LinePhase,
     pub value: u64,

@@ -2,7 +2,7 @@
 use answers::Refusal;
 
 // What a register reads as: empty, one single or one double.
-#[derive(Drop)]
+#[derive(Clone, Copy)]
 pub enum Register {
     Empty,
     Single(f32),
@@ -10,7 +10,7 @@ pub enum Register {
 }
 
 // A lane's .f64 holding: its A, its B and its two accumulators.
-#[derive(Drop)]
+#[derive(Clone, Copy)]
 pub struct Holding {
     pub a: f64,
     pub b: f64,
@@ -19,7 +19,7 @@ pub struct Holding {
 }
 
 // The answer to dealing and to collecting.
-#[derive(Drop)]
+#[derive(Clone, Copy)]
 pub enum Moved {
     Done,
     Refused(Refusal),

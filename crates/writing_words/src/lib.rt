@@ -6,7 +6,7 @@ ghost use Rattle.notation.specs.Writing.{is_below, step_for};
 ghost use Rattle.writing_words.specs.Out.{wrote, Free, words};
 
 // The text so far.
-#[derive(Drop)]
+#[derive(Clone, Copy)]
 pub struct Out {
     pub bytes: [u8; 512],
     pub length: usize,
