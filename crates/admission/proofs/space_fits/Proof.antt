@@ -21,7 +21,7 @@ whole s = take_whole 8 s.args.t1 (search rules)
 returns : tie.Need-returns
 returns c =
     let s = c.before.before.before in
-    ap₂ ◌&&◌ (c.before.all_within.ensures ∙ ap (all (within 1 most_length)) (whole s))
+    ap₂ ◌&&◌ (c.all_within.ensures ∙ ap (all (within 1 most_length)) (whole s))
     (ap (λ (n : ℕ). leb n most_cells) (c.product.ensures ∙ ap (λ (l : List ℕ). min (product l) beyond) (whole s))
     ∙ capped_leb beyond (product s.args.t1) most_cells (omega arith))
 

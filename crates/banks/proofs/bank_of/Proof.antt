@@ -11,28 +11,28 @@ use Rattle.banks_judged.proofs.Groups.{word_fits}
 use Rattle.banks.proofs.bank_of.Statement.{statement}
 use Rattle.banks.proofs.bank_of.Tie as tie
 
-known : (c : tie.Else1) → known_bits c.before.before.args.bits ≡ true
-known c = sym c.before.is-known-bits.ensures ∙ not-false _ c.if1.false
+known : (c : tie.Else-not-is_known_bits) → known_bits c.args.bits ≡ true
+known c = sym c.is_known_bits.ensures ∙ not-false _ c.if-not-is_known_bits.false
 
-below : (c : tie.Else2) → ltb c.before.before.before.args.address (2 ^ 32) ≡ true
-below c = not-false _ c.if2.false
+below : (c : tie.Else-not-address) → ltb c.args.address (2 ^ 32) ≡ true
+below c = not-false _ c.if-not-address.false
 
-above : (c : tie.Then2) → ltb c.before.before.before.args.address (2 ^ 32) ≡ false
-above c = not-true _ c.if2.true
+above : (c : tie.Then-not-address) → ltb c.args.address (2 ^ 32) ≡ false
+above c = not-true _ c.if-not-address.true
 
-returns : tie.Need-returns
-returns c = rw (sym c.before.is-known-bits.ensures ∙ not-true _ c.if1.true)
+returns : tie.Need-returns-then-not-is_known_bits
+returns c = rw (sym c.is_known_bits.ensures ∙ not-true _ c.if-not-is_known_bits.true)
 
-returns_2 : tie.Need-returns-2
+returns_2 : tie.Need-returns-then-not-address
 returns_2 c = rw (known c.before, above c)
 
-mul_word : tie.Need-overflow-mul-word
+mul_word : tie.Need-overflow_mul-word
 mul_word c =
-    let asked = c.before.before.before.args in
+    let asked = c.args in
     let small = ltb-true asked.address (2 ^ 32) (below c) in
     omega (arith, small, word_fits asked.bits asked.address (known c.before) small)
 
-returns_3 : tie.Need-returns-3
+returns_3 : tie.Need-returns
 returns_3 c = rw (known c.before, below c)
 
 pub bank_of_spec : {M : Type 1} → statement M

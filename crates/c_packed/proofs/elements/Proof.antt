@@ -22,7 +22,7 @@ returns : tie.Need-returns
 returns c =
     let n = c.before in
     let o = n.before.before in
-    let iters : Iters = shard_from o.before.args.card.now in
+    let iters : Iters = shard_from o.args.card.now in
     let extents = map extent_of iters.at in
     c.product.ensures
     ∙ ap₂ (λ (k : ℕ) (l : List ℕ). min (product (take k l)) beyond) n.named.ensures o.of_shard.ensures

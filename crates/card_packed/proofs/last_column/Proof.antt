@@ -17,7 +17,7 @@ returns : tie.Need-returns
 returns c =
     let t = c.before in
     let s = t.before in
-    rw (s.size.ensures, t.size2.ensures, c.product.ensures ∙ ap (λ l. min (product l) beyond) (whole s.before.before.before.before))
+    rw (s.size.ensures, t.size-2.ensures, c.product.ensures ∙ ap (λ l. min (product l) beyond) (whole s.before.before.before.before))
 
 pub last_column_spec : {M : Type 1} → statement M
 last_column_spec = tie.close (tie.spec (λ c κs. search rules) (λ c κs. search rules) (λ c κs. search rules) returns)

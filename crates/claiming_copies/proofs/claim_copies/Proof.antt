@@ -27,7 +27,7 @@ use Rattle.claiming_copies.proofs.Lines.{place, line_there, copies_none, copies_
 use Rattle.claiming_copies.proofs.claim_copies.Statement.{statement}
 use Rattle.claiming_copies.proofs.claim_copies.Tie as tie
 
-abbrev invariant_loop : tie.invariant_loop
+abbrev invariant_loop : tie.invariant-loop-copy
 invariant_loop numbers strides by step levels ms table₀ first many level m newly₀ copy₀ table newly copy =
     (copy ≤ length levels)
     × (length table ≡ length table₀)
@@ -35,18 +35,18 @@ invariant_loop numbers strides by step levels ms table₀ first many level m new
     × (newly ≡ copy * many)
     × (occupied table ≡ occupied table₀ + newly)
 
-abbrev decreases_loop : tie.decreases_loop
+abbrev decreases_loop : tie.decreases-loop-copy
 decreases_loop numbers strides by step levels ms table₀ first many level m newly₀ copy₀ table newly copy = length levels - copy
 
-abbrev start : tie.After-struct-told2 invariant_loop decreases_loop → tie.Start invariant_loop decreases_loop
+abbrev start : tie.After-struct_told-2-1 invariant_loop decreases_loop → tie.Start invariant_loop decreases_loop
 start c = c.before.before.before.before
 
 abbrev card : tie.Start invariant_loop decreases_loop → Card
 card s = card_of s.args.numbers.now s.args.strides.now
 
 -- a turn is at a copy
-module _ (t : tie.In-loop invariant_loop decreases_loop) where
-  abbrev k : tie.After-struct-told2 invariant_loop decreases_loop
+module _ (t : tie.In-loop-copy invariant_loop decreases_loop) where
+  abbrev k : tie.After-struct_told-2-1 invariant_loop decreases_loop
   k = t.before.before
 
   abbrev s : tie.Start invariant_loop decreases_loop
@@ -74,8 +74,8 @@ module _ (t : tie.In-loop invariant_loop decreases_loop) where
       copy_near s.args.numbers.now s.args.strides.now s.pre.0.0.admits s.pre.1 copy few
 
 -- level and m of a copy, as the machine adds them up
-module _ (c : tie.After-t20 invariant_loop decreases_loop) where
-  abbrev t : tie.In-loop invariant_loop decreases_loop
+module _ (c : tie.After-place-1 invariant_loop decreases_loop) where
+  abbrev t : tie.In-loop-copy invariant_loop decreases_loop
   t = c.before
 
   level_fits : SFits w64 (to_z w64 (of_z w64 (s t).args.start.level) +ℤ to_z w64 (of_z w64 (get_or (s t).args.levels.now (copy t) (pos 0))))
@@ -88,8 +88,8 @@ module _ (c : tie.After-t20 invariant_loop decreases_loop) where
       sum_back (s t).args.start.level (get_or (s t).args.levels.now (copy t) (pos 0)) (record { sfits = (k t).struct-told2.given.0.1 }) (record { sfits = c.t20.given })
       (near t).0 (copies_near t).0
 
-module _ (c : tie.After-t24 invariant_loop decreases_loop) where
-  abbrev u : tie.In-loop invariant_loop decreases_loop
+module _ (c : tie.After-place-in-loop-copy-1 invariant_loop decreases_loop) where
+  abbrev u : tie.In-loop-copy invariant_loop decreases_loop
   u = c.before.before
 
   m_fits : SFits w64 (to_z w64 (of_z w64 (s u).args.start.m) +ℤ to_z w64 (of_z w64 (get_or (s u).args.ms.now (copy u) (pos 0))))
@@ -102,7 +102,7 @@ module _ (c : tie.After-t24 invariant_loop decreases_loop) where
       sum_back (s u).args.start.m (get_or (s u).args.ms.now (copy u) (pos 0)) (record { sfits = (k u).struct-told2.given.1.0.1 }) (record { sfits = c.t24.given })
       (near u).1 (copies_near u).1
 
-loop_holds : tie.Need-loop-init invariant_loop decreases_loop
+loop_holds : tie.Need-loop-copy-init invariant_loop decreases_loop
 loop_holds c =
     let s = start c in (
       omega arith,
@@ -112,7 +112,7 @@ loop_holds c =
       omega arith,
     )
 
-claim_line_requires : tie.Need-claim-line-requires invariant_loop decreases_loop
+claim_line_requires : tie.Need-claim_line-requires invariant_loop decreases_loop
 claim_line_requires c κs =
     let d = c.before in
     let t = u d in
@@ -123,11 +123,11 @@ claim_line_requires c κs =
     q.pre.1 (copy t) (few t) q.pre.0.1 t.before.loop.table (size t)))
 
 -- after a line was claimed
-module _ (r : tie.After-claim-line invariant_loop decreases_loop) where
-  abbrev e : tie.After-t24 invariant_loop decreases_loop
+module _ (r : tie.After-claim_line invariant_loop decreases_loop) where
+  abbrev e : tie.After-place-in-loop-copy-1 invariant_loop decreases_loop
   e = r.before.before
 
-  abbrev turn : tie.In-loop invariant_loop decreases_loop
+  abbrev turn : tie.In-loop-copy invariant_loop decreases_loop
   turn = u e
 
   abbrev after : List ℕ
@@ -143,19 +143,19 @@ module _ (r : tie.After-claim-line invariant_loop decreases_loop) where
       subst (λ (w : Swizzle). Lined (line_cell w (here turn) q.args.step) (λ j. q.args.run.first.0 + j) q.args.run.length turn.before.loop.table after) q.pre.0.2
       (rw (level_back e.before, m_back e) at r.claim-line.ensures yes-it-is)
 
-abbrev claimed : tie.Else1 invariant_loop decreases_loop → tie.After-claim-line invariant_loop decreases_loop
+abbrev claimed : tie.Else-not-claim_line invariant_loop decreases_loop → tie.After-claim_line invariant_loop decreases_loop
 claimed c = c.before.before.before
 
-is_claimed : (c : tie.Else1 invariant_loop decreases_loop) → (claimed c).claim-line.result ≡ true
-is_claimed c = not-false _ c.if1.false
+is_claimed : (c : tie.Else-not-claim_line invariant_loop decreases_loop) → (claimed c).claim-line.result ≡ true
+is_claimed c = not-false _ c.if-not-claim_line.false
 
-more : (c : tie.Else1 invariant_loop decreases_loop) → occupied (after (claimed c)) ≡ occupied (s (turn (claimed c))).args.table.now + ((turn (claimed c)).before.loop.newly + (s (turn (claimed c))).args.run.length)
+more : (c : tie.Else-not-claim_line invariant_loop decreases_loop) → occupied (after (claimed c)) ≡ occupied (s (turn (claimed c))).args.table.now + ((turn (claimed c)).before.loop.newly + (s (turn (claimed c))).args.run.length)
 more c = omega (arith, (lined (claimed c) (is_claimed c)).counted, (turn (claimed c)).before.loop.inv.4)
 
-counted : (c : tie.Else1 invariant_loop decreases_loop) → (turn (claimed c)).before.loop.newly + (s (turn (claimed c))).args.run.length ≤ cells (card (s (turn (claimed c))))
+counted : (c : tie.Else-not-claim_line invariant_loop decreases_loop) → (turn (claimed c)).before.loop.newly + (s (turn (claimed c))).args.run.length ≤ cells (card (s (turn (claimed c))))
 counted c = omega (arith, more c, occupied_most (after (claimed c)), kept (claimed c), (s (turn (claimed c))).pre.0.0.owned.size)
 
-loop_again : tie.Need-loop-preserved invariant_loop decreases_loop
+loop_again : tie.Need-loop-copy-preserved invariant_loop decreases_loop
 loop_again c =
     let r = claimed c in
     let t = turn r in
@@ -169,9 +169,9 @@ loop_again c =
       more c,
     )
 
-returns_2 : tie.Need-returns-2 invariant_loop decreases_loop
+returns_2 : tie.Need-returns invariant_loop decreases_loop
 returns_2 c some =
-    let l = c.before.loop in
+    let l = c.loop-copy in
     let q = start c.before.before in
     let end : l.copy ≡ copies (card q) = omega (arith, l.invariant.0, q.pre.1.levels_size) in
     copies_all q.args.numbers.now q.args.strides.now q.args.start q.args.step q.args.run q.args.table.now q.pre.0.0 q.args.levels.now q.args.ms.now
@@ -180,9 +180,9 @@ returns_2 c some =
 pub claim_copies_spec : {M : Type 1} → statement M
 claim_copies_spec =
     tie.close
-    (tie.spec invariant_loop decreases_loop loop_holds (λ c. omega arith) (λ c. c.loop-test.true) level_fits
+    (tie.spec invariant_loop decreases_loop loop_holds (λ c. omega arith) (λ c. c.loop-copy-test.true) level_fits
     (λ c. omega arith) (λ c. omega (arith, few c.before, (s c.before).pre.1.ms_size)) m_fits claim_line_requires
     (λ c. kept c.before.before.before) (λ c some. absurd (omega arith))
     (λ c. omega (arith, counted c, (sized (card (s (turn (claimed c)))) (s (turn (claimed c))).pre.0.0.admits.admitted).most-cells))
     (λ c. omega (arith, (turn (claimed c)).loop-test.taken)) (λ c. omega (arith, (turn (claimed c)).loop-test.taken))
-    loop_again (λ c. c.before.loop.invariant.1) returns_2)
+    loop_again (λ c. c.loop-copy.invariant.1) returns_2)

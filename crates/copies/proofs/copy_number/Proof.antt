@@ -42,7 +42,7 @@ eight f m =
 finish_requires : tie.Need-finish-requires
 finish_requires c κs = (eight_sums c.before.before, refl)
 
-number_among_requires : tie.Need-number-among-requires
+number_among_requires : tie.Need-number_among-requires
 number_among_requires c κs =
     let f = c.before.before.before.before in
     let s = start (walking f) in
@@ -57,9 +57,9 @@ returns c =
     let lengths = slice 32 40 a.numbers.now in
     let swizzle = swizzle_of a.numbers.now in
     let m = get_or (sums w) 7 (pos 0) in
-    let back : p.swizzled-on-axis.result ≡ on_axis (swizzled_z swizzle m) =
-    p.swizzled-on-axis.ensures ∙ ap (λ (z : ℤ). on_axis (swizzled_z swizzle z)) (to_z-of_z {w = w64} {z = m} (record { sfits = p.before.swizzled-on-axis-arg.given })) in
-    c.number-among.ensures
+    let back : p.swizzled_on_axis.result ≡ on_axis (swizzled_z swizzle m) =
+    p.swizzled_on_axis.ensures ∙ ap (λ (z : ℤ). on_axis (swizzled_z swizzle z)) (to_z-of_z {w = w64} {z = m} (record { sfits = p.swizzled_on_axis-arg-1.given })) in
+    c.number_among.ensures
     ∙ ap (λ (l : List ℕ). number_of (position lengths l))
     (take_whole 8 (set (coordinates f) 7 _) (eight f _)
     ∙ ap₂ (λ (l : List ℕ) (n : ℕ). set l 7 n) f.finish.ensures back

@@ -23,10 +23,10 @@ abbrev start : tie.After-spread → tie.Start
 start w = w.before.before.before
 
 -- the sums over the shard
-shard_low : (w : tie.After-spread) → let s = start w in w.spread.new.1.1.1.0 ≡ walked (card s).shard (end_index false (card s).shard) (card s).offset
+shard_low : (w : tie.After-spread) → let s = start w in w.spread.new.low ≡ walked (card s).shard (end_index false (card s).shard) (card s).offset
 shard_low w = let s = start w in w.spread.ensures.0 ∙ ap (walked (card s).shard (end_index false (card s).shard)) s.pre.1
 
-shard_high : (w : tie.After-spread) → let s = start w in w.spread.new.1.1.1.1.0 ≡ walked (card s).shard (end_index true (card s).shard) (card s).offset
+shard_high : (w : tie.After-spread) → let s = start w in w.spread.new.high ≡ walked (card s).shard (end_index true (card s).shard) (card s).offset
 shard_high w = let s = start w in w.spread.ensures.1 ∙ ap (walked (card s).shard (end_index true (card s).shard)) s.pre.2
 
 -- over the offset, and over these
@@ -63,7 +63,7 @@ returns : tie.Need-returns
 returns c =
     let w = c.before.before.before in
     let k = card (start w) in
-    (both k false (shard_low w) c.spread2.ensures.0, both k true (shard_high w) c.spread2.ensures.1)
+    (both k false (shard_low w) c.spread-2.ensures.0, both k true (shard_high w) c.spread-2.ensures.1)
 
 pub ends_spec : {M : Type 1} → statement M
 ends_spec = tie.close (tie.spec spread_requires spread_requires_2 returns)

@@ -13,26 +13,26 @@ use borrow.Author.Rules.{rules}
 use Rattle.planning.proofs.check_plan.Statement.{statement}
 use Rattle.planning.proofs.check_plan.Tie as tie
 
-abbrev judged : tie.After-known-told → tie.After-open-pair
+abbrev judged : tie.In-Matching → tie.After-open_pair-opened
 judged c = c.before.before.before.before.before.before.before
 
-abbrev start : tie.After-open-pair → tie.Start
+abbrev start : tie.After-open_pair-opened → tie.Start
 start k = k.before.before.before.before.before.before
 
 -- both cards are ready, in so many cells
-abbrev size : tie.After-known-told → ℕ
+abbrev size : tie.In-Matching → ℕ
 size c = c.before.opened.given.0.0
 
-ready : (c : tie.After-known-told) → Begun (judged c).open-pair.ensures (size c) c.before.opened.given.0.1.0
-ready c = begun (judged c).open-pair.ensures c.before.opened.given.1
+ready : (c : tie.In-Matching) → Begun (judged c).open-pair.ensures (size c) c.in-Matching.occupied
+ready c = begun (judged c).open-pair.ensures c.in-Matching.is
 
-parted : (c : tie.After-known-told) → length (take (size c) (judged c).open-pair.new.1.1.0) ≡ size c
+parted : (c : tie.In-Matching) → length (take (size c) (judged c).open-pair.new.1.1.0) ≡ size c
 parted c = length-take-le (size c) (judged c).open-pair.new.1.1.0 (long_first (judged c).open-pair.ensures (ready c))
 
-parted_other : (c : tie.After-known-told) → length (take (size c) (judged c).open-pair.new.1.1.1.0) ≡ size c
+parted_other : (c : tie.In-Matching) → length (take (size c) (judged c).open-pair.new.1.1.1.0) ≡ size c
 parted_other c = length-take-le (size c) (judged c).open-pair.new.1.1.1.0 (long_second (judged c).open-pair.ensures (ready c))
 
-returns : tie.Need-returns
+returns : tie.Need-returns-in-Matching
 returns c =
     let call = c.before.before.before.before in
     let p = call.before.before.before in
@@ -40,14 +40,14 @@ returns c =
     let plan : List ℕ = s.args.plan.now in
     (check_exactly s.args.one s.args.two s.args.first.now s.args.second.now plan _ _ _).1
     (out (judged p).open-pair.ensures (ready p) Refused (plan_checked (cells s.args.one) plan) (λ (n : ℕ) (l r : List ℕ). plan_checked n plan l r)
-    (λ l r. refl) call.check-cells.ensures)
+    (λ l r. refl) call.check_cells.ensures)
 
-returns_2 : tie.Need-returns-2
+returns_2 : tie.Need-returns-in-Refused
 returns_2 c =
-    let k = c.before.before.before.before.before.before.before in
+    let k = c.before.before.before.before.before in
     let s = start k in
     (check_exactly s.args.one s.args.two s.args.first.now s.args.second.now s.args.plan.now _ _ _).1
-    (refused_before k.open-pair.ensures Refused (plan_checked (cells s.args.one) s.args.plan.now) c.before.opened2.given.1)
+    (refused_before k.open_pair-opened.ensures Refused (plan_checked (cells s.args.one) s.args.plan.now) c.in-Refused.is)
 
 pub check_plan_spec : {M : Type 1} → statement M
 check_plan_spec =

@@ -4,14 +4,14 @@ use borrow.Author.Rules.{rules}
 use Rattle.plans_pair.proofs.judge_both.Statement.{statement}
 use Rattle.plans_pair.proofs.judge_both.Tie as tie
 
-returns : tie.Need-returns
+returns : tie.Need-returns-in-Approved
 returns c =
     let call = c.before.before in
     let told = call.before.before.before in
     let s = told.before.before.before.before.before.before.before.before in
-    both_judged s.args.two s.args.second.now told.before.before.before.before.judge.ensures told.verdict.given.1 call.judge-other.ensures
+    both_judged s.args.two s.args.second.now told.before.before.before.before.judge.ensures told.verdict.given.1 call.judge_other.ensures
 
-returns_2 : tie.Need-returns-2
+returns_2 : tie.Need-returns-in-Refused
 returns_2 c =
     let told = c.before in
     let s = told.before.before.before.before.before.before.before.before in

@@ -5,10 +5,10 @@ use borrow.Author.Rules.{rules}
 use Rattle.desk_lines.proofs.numbers.card.Statement.{statement}
 use Rattle.desk_lines.proofs.numbers.card.Tie as tie
 
-abbrev invariant_loop : tie.invariant_loop
+abbrev invariant_loop : tie.invariant-loop-i
 invariant_loop numbers from all₀ i₀ all i = Unit
 
-abbrev decreases_loop : tie.decreases_loop
+abbrev decreases_loop : tie.decreases-loop-i
 decreases_loop numbers from all₀ i₀ all i = 57 - i
 
 pub card_spec : {M : Type 1} → statement M

@@ -5,10 +5,10 @@ use borrow.Author.Rules.{rules}
 use Rattle.desk_lines.proofs.numbers.within.Statement.{statement}
 use Rattle.desk_lines.proofs.numbers.within.Tie as tie
 
-abbrev invariant_loop : tie.invariant_loop
+abbrev invariant_loop : tie.invariant-loop-i
 invariant_loop numbers from to limit i₀ i = Unit
 
-abbrev decreases_loop : tie.decreases_loop
+abbrev decreases_loop : tie.decreases-loop-i
 decreases_loop numbers from to limit i₀ i = to - i
 
 pub within_spec : {M : Type 1} → statement M

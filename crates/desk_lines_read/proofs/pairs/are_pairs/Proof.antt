@@ -3,10 +3,10 @@ use Rattle.std.proofs.Common.{◌-◌, arith, rules}
 use Rattle.desk_lines_read.proofs.pairs.are_pairs.Statement.{statement}
 use Rattle.desk_lines_read.proofs.pairs.are_pairs.Tie as tie
 
-abbrev invariant_loop : tie.invariant_loop
+abbrev invariant_loop : tie.invariant-loop-i
 invariant_loop line held paired₀ i₀ paired i = Unit
 
-abbrev decreases_loop : tie.decreases_loop
+abbrev decreases_loop : tie.decreases-loop-i
 decreases_loop line held paired₀ i₀ paired i = held - i
 
 pub are_pairs_spec : {M : Type 1} → statement M

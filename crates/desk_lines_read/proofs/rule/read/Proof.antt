@@ -3,10 +3,10 @@ use Rattle.std.proofs.Common.{◌-◌, arith, rules}
 use Rattle.desk_lines_read.proofs.rule.read.Statement.{statement}
 use Rattle.desk_lines_read.proofs.rule.read.Tie as tie
 
-abbrev invariant_loop : tie.invariant_loop
+abbrev invariant_loop : tie.invariant-loop-place
 invariant_loop line held from cards first end numbers₀ at₀ place₀ numbers at place = Unit
 
-abbrev decreases_loop : tie.decreases_loop
+abbrev decreases_loop : tie.decreases-loop-place
 decreases_loop line held from cards first end numbers₀ at₀ place₀ numbers at place = end - place
 
 pub read_spec : {M : Type 1} → statement M

@@ -3,10 +3,10 @@ use Rattle.std.proofs.Common.{◌-◌, arith, rules}
 use Rattle.desk_lines_read.proofs.rule.read_digits.Statement.{statement}
 use Rattle.desk_lines_read.proofs.rule.read_digits.Tie as tie
 
-abbrev invariant_loop : tie.invariant_loop
+abbrev invariant_loop : tie.invariant-loop-i
 invariant_loop line held from value₀ i₀ value i = Unit
 
-abbrev decreases_loop : tie.decreases_loop
+abbrev decreases_loop : tie.decreases-loop-i
 decreases_loop line held from value₀ i₀ value i = held - i
 
 pub read_digits_spec : {M : Type 1} → statement M

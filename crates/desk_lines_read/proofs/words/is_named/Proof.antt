@@ -3,10 +3,10 @@ use Rattle.std.proofs.Common.{◌-◌, length, arith, rules}
 use Rattle.desk_lines_read.proofs.words.is_named.Statement.{statement}
 use Rattle.desk_lines_read.proofs.words.is_named.Tie as tie
 
-abbrev invariant_loop : tie.invariant_loop
+abbrev invariant_loop : tie.invariant-loop-i
 invariant_loop line end name i₀ i = Unit
 
-abbrev decreases_loop : tie.decreases_loop
+abbrev decreases_loop : tie.decreases-loop-i
 decreases_loop line end name i₀ i = length name - i
 
 pub is_named_spec : {M : Type 1} → statement M

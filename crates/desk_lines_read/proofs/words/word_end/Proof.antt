@@ -3,10 +3,10 @@ use Rattle.std.proofs.Common.{◌-◌, arith, rules}
 use Rattle.desk_lines_read.proofs.words.word_end.Statement.{statement}
 use Rattle.desk_lines_read.proofs.words.word_end.Tie as tie
 
-abbrev invariant_loop : tie.invariant_loop
+abbrev invariant_loop : tie.invariant-loop-i
 invariant_loop line held i₀ i = Unit
 
-abbrev decreases_loop : tie.decreases_loop
+abbrev decreases_loop : tie.decreases-loop-i
 decreases_loop line held i₀ i = held - i
 
 pub word_end_spec : {M : Type 1} → statement M

@@ -3,10 +3,10 @@ use Rattle.std.proofs.Common.{◌-◌, ◌<◌, ◌≤◌, length, arith, rules}
 use Rattle.desk_lines_reply.proofs.lent.digest.Statement.{statement}
 use Rattle.desk_lines_reply.proofs.lent.digest.Tie as tie
 
-abbrev invariant_loop : tie.invariant_loop
+abbrev invariant_loop : tie.invariant-loop-i
 invariant_loop entries sum₀ i₀ sum i = (i ≤ length entries) × (sum < 4294967291)
 
-abbrev decreases_loop : tie.decreases_loop
+abbrev decreases_loop : tie.decreases-loop-i
 decreases_loop entries sum₀ i₀ sum i = length entries - i
 
 pub digest_spec : {M : Type 1} → statement M

@@ -3,10 +3,10 @@ use Rattle.std.proofs.Common.{◌-◌, ◌<◌, ◌≤◌, length, arith, rules}
 use Rattle.desk_lines_reply.proofs.lent.digest_bytes.Statement.{statement}
 use Rattle.desk_lines_reply.proofs.lent.digest_bytes.Tie as tie
 
-abbrev invariant_loop : tie.invariant_loop
+abbrev invariant_loop : tie.invariant-loop-i
 invariant_loop bytes sum₀ i₀ sum i = (i ≤ length bytes) × (sum < 4294967291)
 
-abbrev decreases_loop : tie.decreases_loop
+abbrev decreases_loop : tie.decreases-loop-i
 decreases_loop bytes sum₀ i₀ sum i = length bytes - i
 
 pub digest_bytes_spec : {M : Type 1} → statement M

@@ -3,10 +3,10 @@ use Rattle.std.proofs.Common.{◌-◌, ◌<◌, ◌≤◌, length, arith, rules}
 use Rattle.desk_lines_reply.proofs.lent.digest_plan.Statement.{statement}
 use Rattle.desk_lines_reply.proofs.lent.digest_plan.Tie as tie
 
-abbrev invariant_loop : tie.invariant_loop
+abbrev invariant_loop : tie.invariant-loop-i
 invariant_loop plan sum₀ i₀ sum i = (i ≤ length plan) × (sum < 4294967291)
 
-abbrev decreases_loop : tie.decreases_loop
+abbrev decreases_loop : tie.decreases-loop-i
 decreases_loop plan sum₀ i₀ sum i = length plan - i
 
 pub digest_plan_spec : {M : Type 1} → statement M

@@ -3,10 +3,10 @@ use Rattle.std.proofs.Common.{◌≡◌, ◌-◌, ◌≤◌, length, arith, rule
 use Rattle.desk_lines_reply.proofs.lent.fill_plan.Statement.{statement}
 use Rattle.desk_lines_reply.proofs.lent.fill_plan.Tie as tie
 
-abbrev invariant_loop : tie.invariant_loop
+abbrev invariant_loop : tie.invariant-loop-i
 invariant_loop lent₀ i₀ lent i = (i ≤ length lent₀) × (length lent ≡ length lent₀)
 
-abbrev decreases_loop : tie.decreases_loop
+abbrev decreases_loop : tie.decreases-loop-i
 decreases_loop lent₀ i₀ lent i = length lent₀ - i
 
 pub fill_plan_spec : {M : Type 1} → statement M

@@ -9,8 +9,8 @@ bound place entry n e h =
     let small : n ≤ 4294967295 = omega arith in
     mul-le-mul below small
 
-product : (c : tie.After-wide32) → c.before.args.place % 65536 * c.wide32.result ≤ 65535 * 4294967295
-product c = bound c.before.args.place c.before.args.entry c.wide32.result c.wide32.ensures (omega arith)
+product : (c : tie.After-wide32) → c.args.place % 65536 * c.wide32.result ≤ 65535 * 4294967295
+product c = bound c.args.place c.args.entry c.wide32.result c.wide32.ensures (omega arith)
 
 pub weighted_spec : {M : Type 1} → statement M
 weighted_spec = tie.close (tie.spec (λ c κs. search rules) (λ c. omega (arith, product c)) (λ c. product c))

@@ -3,10 +3,10 @@ use Rattle.std.proofs.Common.{◌-◌, arith, rules}
 use Rattle.desk_lines_reply.proofs.print.values.Statement.{statement}
 use Rattle.desk_lines_reply.proofs.print.values.Tie as tie
 
-abbrev invariant_loop : tie.invariant_loop
+abbrev invariant_loop : tie.invariant-loop-i
 invariant_loop out₀ at count of signed place₀ i₀ out place i = Unit
 
-abbrev decreases_loop : tie.decreases_loop
+abbrev decreases_loop : tie.decreases-loop-i
 decreases_loop out₀ at count of signed place₀ i₀ out place i = count - i
 
 pub values_spec : {M : Type 1} → statement M

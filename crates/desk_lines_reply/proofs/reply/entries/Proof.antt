@@ -3,10 +3,10 @@ use Rattle.std.proofs.Common.{◌-◌, arith, rules}
 use Rattle.desk_lines_reply.proofs.reply.entries.Statement.{statement}
 use Rattle.desk_lines_reply.proofs.reply.entries.Tie as tie
 
-abbrev invariant_loop : tie.invariant_loop
+abbrev invariant_loop : tie.invariant-loop-i
 invariant_loop answer count from values₀ i₀ values i = Unit
 
-abbrev decreases_loop : tie.decreases_loop
+abbrev decreases_loop : tie.decreases-loop-i
 decreases_loop answer count from values₀ i₀ values i = 64 - i
 
 pub entries_spec : {M : Type 1} → statement M

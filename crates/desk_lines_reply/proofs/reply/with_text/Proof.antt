@@ -3,10 +3,10 @@ use Rattle.std.proofs.Common.{◌-◌, arith, rules}
 use Rattle.desk_lines_reply.proofs.reply.with_text.Statement.{statement}
 use Rattle.desk_lines_reply.proofs.reply.with_text.Tie as tie
 
-abbrev invariant_loop : tie.invariant_loop
+abbrev invariant_loop : tie.invariant-loop-i
 invariant_loop value from length values₀ i₀ values i = Unit
 
-abbrev decreases_loop : tie.decreases_loop
+abbrev decreases_loop : tie.decreases-loop-i
 decreases_loop value from length values₀ i₀ values i = 512 - i
 
 pub with_text_spec : {M : Type 1} → statement M

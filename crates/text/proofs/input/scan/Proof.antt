@@ -5,10 +5,10 @@ use borrow.Author.Rules.{rules}
 use Rattle.text.proofs.input.scan.Statement.{statement}
 use Rattle.text.proofs.input.scan.Tie as tie
 
-abbrev invariant_loop : tie.invariant_loop
+abbrev invariant_loop : tie.invariant-loop-next
 invariant_loop part line₀ end held₀ next₀ line held next = Unit
 
-abbrev decreases_loop : tie.decreases_loop
+abbrev decreases_loop : tie.decreases-loop-next
 decreases_loop part line₀ end held₀ next₀ line held next = end - next
 
 pub scan_spec : {M : Type 1} → statement M

@@ -6,10 +6,10 @@ use lib.ListN.{length}
 use Rattle.text.proofs.output.text.Statement.{statement}
 use Rattle.text.proofs.output.text.Tie as tie
 
-abbrev invariant_loop : tie.invariant_loop
+abbrev invariant_loop : tie.invariant-loop-i
 invariant_loop out₀ at from place₀ i₀ out place i = i ≤ length from
 
-abbrev decreases_loop : tie.decreases_loop
+abbrev decreases_loop : tie.decreases-loop-i
 decreases_loop out₀ at from place₀ i₀ out place i = length from - i
 
 pub text_spec : {M : Type 1} → statement M
