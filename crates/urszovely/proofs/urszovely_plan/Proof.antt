@@ -11,9 +11,9 @@ returns c =
     let two = q.before.before.before.before in
     let one = two.before in
     record {
-      written = q.write-plan.result;
-      allowed = rw (sym one.card.ensures, sym two.card2.ensures) q.write-plan.ensures;
-      numbers = rw (c.four.ensures, n.planning-numbers.ensures);
+      written = q.write_plan-written.result;
+      allowed = rw (sym one.card-one.ensures, sym two.card-two.ensures) q.write_plan-written.ensures;
+      numbers = rw (c.four.ensures, n.planning_numbers-numbers.ensures);
     }
 
 pub urszovely_plan_spec : {M : Type 1} → statement M
