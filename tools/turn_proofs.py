@@ -22,9 +22,21 @@ def norm(s):
     return s
 
 
+def parameters(crate, fn):
+    """The names of a function's parameters, from its source."""
+    for path in glob.glob(f"crates/{crate}/src/**/*.rt", recursive=True):
+        with open(path, encoding="utf-8") as f:
+            text = f.read()
+        m = re.search(rf"\bfn {fn.split('/')[-1]}(?:<[^(]*>)?\(([^)]*)\)", text)
+        if m and ("/" not in fn or fn.split("/")[-2] in path):
+            return re.findall(r"(?:^|,)\s*(?:mut )?(\w+):", m[1])
+    return []
+
+
 class Function:
-    def __init__(self, e):
+    def __init__(self, e, own=()):
         self.e = e
+        self.own = list(own)
         self.places = e["places"]
         self.names = e["places_by_name"]
         self.at = {}
@@ -56,7 +68,7 @@ class Function:
         return p
 
     def whole(self, p):
-        return self.arms[p] is not None and self.arms[p][1] > 1
+        return self.arms[p] is not None
 
     def ups(self, p, q):
         """How many .before lead from the record of place p to that of place q."""
@@ -99,7 +111,18 @@ class Function:
         new = self.places[where][2][1]
         return [new] + self.rest(where, rest)
 
+    def parameter(self, rest):
+        """A parameter's own name: an older Rattle named an array by its local, as t3."""
+        if len(rest) > 1:
+            local = re.fullmatch(r"t(\d+)", rest[1])
+            if local and rest[1] not in self.own and int(local[1]) <= len(self.own):
+                return [rest[0], self.own[int(local[1]) - 1]] + rest[2:]
+            return [rest[0], rest[1].replace("-", "_")] + rest[2:]
+        return rest
+
     def rest(self, where, rest):
+        if rest and self.places[where][2][0].startswith("loop"):
+            rest = self.parameter(["", *rest])[1:]
         callee = self.places[where][3]
         params = self.e["params"].get(callee)
         if rest and rest[0] in ("new", "auto") and params:
@@ -140,14 +163,18 @@ def arguments(text):
 PATH = re.compile(rf"(?<![\w'₀-₉.\-])([A-Za-z][\w'₀-₉]*)((?:\.{ID})*)(?![\w])")
 
 
-def paths(text, env, f, said):
-    """The text with each path from a record of a place turned."""
+WORDS = {"type-inv": "type_inv", "well-formed": "well_formed", "enum-told": "enum_told"}
+
+
+def paths(text, env, f, said, wanted={}):
+    """The text with each path from a record of a place turned; wanted has the places of which a lemma's arguments are records."""
     env, steps = dict(env), {}
     out, i = [], 0
     for m in PATH.finditer(text):
-        v, segs = m[1], m[2].split(".")[1:]
-        if v in steps and segs:
-            out.append(text[i : m.start()] + ".".join([v] + f.rest(steps[v], segs)))
+        v, segs = m[1], [WORDS.get(s, s) for s in m[2].split(".")[1:]]
+        if steps.get(v) is not None and segs:
+            turned = f.parameter(["args"] + segs)[1:] if steps[v] == "args" else f.rest(steps[v], segs)
+            out.append(text[i : m.start()] + ".".join([v] + turned))
             i = m.end()
         if v not in env:
             continue
@@ -158,20 +185,25 @@ def paths(text, env, f, said):
         rest = segs[k:]
         new = None
         if not rest:
-            if k == 0:
+            before = text[: m.start()]
+            call = re.search(r"(?<![\w.'\-])([A-Za-z][\w'₀-₉\-]*) \(?$", before)
+            asked = wanted.get(call[1]) if call else None
+            if k == 0 and not asked:
                 continue
-            q = f.up(p, k)
+            lt = re.search(r"let ([A-Za-z][\w'₀-₉]*) = $", before)
+            if lt and re.match(r"\s+in\b", text[m.end() :]):
+                env[lt[1]] = p
+                out.append(text[i : m.start()] + v)
+                i = m.end()
+                continue
+            q = asked[0] if asked else f.up(p, k)
             n = f.ups(p, q) if q is not None else None
             if n is None:
                 said.append(f"cannot go up {k} from {f.names[p]} in {m[0]}")
                 continue
             new = v + ".before" * n
-            before = text[: m.start()]
-            lt = re.search(r"let ([A-Za-z][\w'₀-₉]*) = $", before)
-            if lt and re.match(r"\s+in\b", text[m.end() :]):
-                env[lt[1]] = q
         elif rest[0] in ("args", "well_formed", "ranges"):
-            new = ".".join([v] + rest)
+            new = ".".join([v] + f.parameter(rest))
         elif rest[0] == "requires":
             new = ".".join([v] + rest)
         else:
@@ -181,9 +213,10 @@ def paths(text, env, f, said):
                     said.append(f"no step {rest[0]} above {f.names[p]} in {m[0]}")
                 continue
             new = ".".join([v] + got)
+        if rest:
             lt = re.search(r"let ([A-Za-z][\w'₀-₉]*) = $", text[: m.start()])
             if lt and len(rest) == 1 and re.match(r"\s+in\b", text[m.end() :]):
-                steps[lt[1]] = f.steps[norm(rest[0])][0]
+                steps[lt[1]] = "args" if rest[0] == "args" else (f.steps.get(norm(rest[0])) or [None])[0]
         out.append(text[i : m.start()])
         out.append(new)
         i = m.end()
@@ -247,7 +280,7 @@ def turn(text, f, said):
                 t = t.replace(f"tie.{b[2]}", f"tie.{f.names[p]}")
             if binders:
                 env_of[name] = binders
-            t, _ = paths(t, env, f, said)
+            t, _ = paths(t, env, f, said, env_of)
             out.append(t)
             continue
         d = re.match(rf"({ID})((?:\s+[^\s=(){{}}]+)*)\s+=", piece)
@@ -255,7 +288,7 @@ def turn(text, f, said):
             for v, p in zip(d[2].split(), env_of[d[1]]):
                 if p is not None:
                     env[v] = p
-            piece, _ = paths(piece, env, f, said)
+            piece, _ = paths(piece, env, f, said, env_of)
             out.append(piece)
             continue
         inside = [(b - begin, e - begin, k) for b, e, k in spans if begin <= b and e <= pos]
@@ -266,7 +299,7 @@ def turn(text, f, said):
                 a = piece[b:e]
                 lam = re.match(r"\(λ ([^\s.]+)[^.]*\. ", a)
                 if lam and f.asked[k] is not None:
-                    a, _ = paths(a, {lam[1]: f.asked[k]}, f, said)
+                    a, _ = paths(a, {lam[1]: f.asked[k]}, f, said, env_of)
                 t.append(a)
                 i = e
             t.append(piece[i:])
@@ -285,7 +318,9 @@ def turn(text, f, said):
 
     text = re.sub(rf"tie\.((?:In|At|After|Then|Else|Start)(?:[\w'\-]*))", lambda m: m[0] if m[1] in f.names else place(m), text)
     text = re.sub(rf"tie\.Need-({ID})", need, text)
-    return text
+    # a test of `!x` now says what x is
+    text = re.sub(r"not-(?:true|false) (?:_|[^\s()]+|\([^()]*\)) ((?:\w+\.)+if-not-[\w.\-']+)", r"\1", text)
+    return re.sub(r"\.(most-(?:elements|copies|stride|cells|extent))\b", lambda m: "." + m[1].replace("-", "_") + "_lem", text)
 
 
 def main():
@@ -307,7 +342,7 @@ def main():
         with open(path, encoding="utf-8") as t:
             text = t.read()
         said = []
-        new = turn(text, Function(listed[key]), said)
+        new = turn(text, Function(listed[key], parameters(crate, fn)), said)
         for s in said:
             print(f"{path}: {s}")
         if new != text:

@@ -30,40 +30,40 @@ few c = let s = start c.before.before.before in sym (c.few_enough.ensures s.args
 returns : tie.Need-returns-in-Refused
 unfolding admission
 returns c =
-    let f = c.before in sym (fields_refused (asked f.before) _ (sym f.check_fields-fields.ensures ∙ c.in-Refused.is))
+    let f = c in sym (fields_refused (asked f.before) _ (sym f.check_fields-fields.ensures ∙ c.in-Refused.is))
 
 returns_2 : tie.Need-returns-then-not-lengths_fit
 unfolding admission
-returns_2 c = rw (fields_passed _ _ (fields c.before.before), space c.before ∙ not-true _ c.if-not-lengths_fit.true)
+returns_2 c = rw (fields_passed _ _ (fields c.before.before), space c.before ∙ c.if-not-lengths_fit.true)
 
 returns_3 : tie.Need-returns-then-not-few_enough
 unfolding admission
 returns_3 c =
-    let one = c.before.before in
-    rw (fields_passed _ _ (fields one.before.before), space one.before ∙ not-false _ one.if-not-lengths_fit.false, few c.before ∙ not-true _ c.if-not-few_enough.true)
+    let one = c in
+    rw (fields_passed _ _ (fields one.before.before.before.before), space one.before.before.before ∙ one.if-not-lengths_fit.false, few c.before ∙ c.if-not-few_enough.true)
 
 returns_4 : tie.Need-returns-then-not-is_permitted
 unfolding admission
 returns_4 c =
-    let two = c.before.before.before.before.before in
-    let one = two.before.before in
+    let two = c in
+    let one = two in
     rw (
-      fields_passed _ _ (fields one.before.before),
-      space one.before ∙ not-false _ one.if-not-lengths_fit.false,
-      few two.before ∙ not-false _ two.if-not-few_enough.false,
-      sym c.is_permitted.ensures ∙ not-true _ c.if-not-is_permitted.true,
+      fields_passed _ _ (fields one.before.before.before.before.before.before.before.before.before.before),
+      space one.before.before.before.before.before.before.before.before.before ∙ one.if-not-lengths_fit.false,
+      few two.before.before.before.before.before.before.before ∙ two.if-not-few_enough.false,
+      sym c.is_permitted.ensures ∙ c.if-not-is_permitted.true,
     )
 
 returns_5 : tie.Need-returns
 unfolding admission
 returns_5 c =
-    let two = c.before.before.before.before.before in
-    let one = two.before.before in
+    let two = c in
+    let one = two in
     rw (
-      fields_passed _ _ (fields one.before.before),
-      space one.before ∙ not-false _ one.if-not-lengths_fit.false,
-      few two.before ∙ not-false _ two.if-not-few_enough.false,
-      sym c.is_permitted.ensures ∙ not-false _ c.if-not-is_permitted.false,
+      fields_passed _ _ (fields one.before.before.before.before.before.before.before.before.before.before),
+      space one.before.before.before.before.before.before.before.before.before ∙ one.if-not-lengths_fit.false,
+      few two.before.before.before.before.before.before.before ∙ two.if-not-few_enough.false,
+      sym c.is_permitted.ensures ∙ c.if-not-is_permitted.false,
     )
 
 pub admit_packed_spec : {M : Type 1} → statement M

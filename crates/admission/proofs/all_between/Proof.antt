@@ -23,7 +23,7 @@ loop_holds c = (c.requires.0, refl)
 
 loop_again : tie.Need-loop-k-preserved invariant_loop decreases_loop
 loop_again c =
-    let s = c.before.before.before in
+    let s = c in
     let l = c.loop-k in
     let a = s.args in
     let back = to_z-of_z {w = w64} {z = get_or a.numbers.now l.k (pos 0)} (record { sfits = c.number-1.given }) in (
@@ -35,7 +35,7 @@ loop_again c =
 returns : tie.Need-returns invariant_loop decreases_loop
 returns c =
     let l = c.loop-k in
-    let s = c.before.before in
+    let s = c in
     let a = s.args in
     let end : l.k ≡ a.end = omega arith in
     let owed = rw (end, to_z-of_z s.ranges.least, to_z-of_z s.ranges.most) at l.invariant.1 in

@@ -18,7 +18,7 @@ loop_holds c = (c.requires.0, refl)
 
 loop_again : tie.Need-loop-k-preserved invariant_loop decreases_loop
 loop_again c =
-    let s = c.before.before.before in
+    let s = c in
     let l = c.loop-k in
     let a = s.args in (
       omega arith,

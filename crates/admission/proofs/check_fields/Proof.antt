@@ -15,7 +15,7 @@ asked s = card_of s.args.numbers.now s.args.strides.now
 
 -- what each check that was passed says
 counts : (c : tie.Else-not-counts_fit) → counts_fit (asked c.before.before) ≡ true
-counts c = sym (c.counts_fit.ensures c.args.strides.now) ∙ not-false _ c.if-not-counts_fit.false
+counts c = sym (c.counts_fit.ensures c.args.strides.now) ∙ c.if-not-counts_fit.false
 
 -- what the walks over both lists, the marks and the offset say of checks 2 and 3
 abbrev passed : tie.After-list_fits-replica → tie.Else-not-counts_fit
@@ -39,7 +39,7 @@ axes : (w : tie.After-list_fits-replica) → axes_fit (asked (passed w).before.b
 axes w = sym (ap₂ ◌&&◌ w.list_fits-shard.ensures.1 w.list_fits-replica.ensures.1)
 
 returns : tie.Need-returns-then-not-counts_fit
-returns c = rw (sym (c.counts_fit.ensures c.args.strides.now) ∙ not-true _ c.if-not-counts_fit.true)
+returns c = rw (sym (c.counts_fit.ensures c.args.strides.now) ∙ c.if-not-counts_fit.true)
 
 list_fits_requires : tie.Need-list_fits-shard-requires
 list_fits_requires c κs = let a = c.args in shard_list a.numbers.now a.strides.now (counts c)
@@ -54,21 +54,21 @@ marks_fit_requires c κs =
     (shard_list a.numbers.now a.strides.now (counts e), search rules)
 
 returns_2 : tie.Need-returns-then-not-shard-marks_fit
-returns_2 c = let o = c.before in rw (counts (passed (walked o)), numbers o ∙ not-true _ c.if-not-shard-marks_fit.true)
+returns_2 c = let o = c in rw (counts (passed (walked o)), numbers o.before ∙ c.if-not-shard-marks_fit.true)
 
 returns_3 : tie.Need-returns-then-not-shard-replica
 returns_3 c =
-    let e = c.before.before.before in
-    let o = e.before in
+    let e = c in
+    let o = e in
     let w = walked o in
-    rw (counts (passed w), numbers o ∙ not-false _ e.if-not-shard-marks_fit.false, axes w ∙ not-true _ c.if-not-shard-replica.true)
+    rw (counts (passed w), numbers o.before.before.before.before ∙ e.if-not-shard-marks_fit.false, axes w ∙ c.if-not-shard-replica.true)
 
 returns_4 : tie.Need-returns
 returns_4 c =
-    let e = c.before.before.before in
-    let o = e.before in
+    let e = c in
+    let o = e in
     let w = walked o in
-    rw (counts (passed w), numbers o ∙ not-false _ e.if-not-shard-marks_fit.false, axes w ∙ not-false _ c.if-not-shard-replica.false)
+    rw (counts (passed w), numbers o.before.before.before.before ∙ e.if-not-shard-marks_fit.false, axes w ∙ c.if-not-shard-replica.false)
 
 pub check_fields_spec : {M : Type 1} → statement M
 check_fields_spec =

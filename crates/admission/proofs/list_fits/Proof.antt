@@ -57,7 +57,7 @@ loop_holds c = (omega arith, refl, refl, refl)
 
 loop_again : tie.Need-loop-k-preserved invariant_loop decreases_loop
 loop_again c =
-    let t = c.before.before.before in
+    let t = c in
     let s = start t in
     let l = t.loop-k in
     let h = t.loop-k-test.true in
@@ -78,7 +78,7 @@ all_tested p f iter count k fit end e =
 
 returns : tie.Need-returns invariant_loop decreases_loop
 returns c =
-    let s = c.before.before.before in
+    let s = c in
     let l = c.loop-k in
     let end : l.k ≡ counted s = omega arith in (
       ap₂ ◌&&◌ (all_tested (within 1 most_extent) extent_of (at s) (counted s) l.k l.extents end l.invariant.1)

@@ -24,7 +24,7 @@ loop_holds c = (omega arith, refl)
 
 loop_again : tie.Need-loop-k-preserved invariant_loop decreases_loop
 loop_again c =
-    let s = c.before.before.before.before.before in
+    let s = c in
     let l = c.loop-k in
     let numbers = s.args.numbers.now in
     let strides = s.args.strides.now in
@@ -42,7 +42,7 @@ loop_again c =
 
 returns : tie.Need-returns invariant_loop decreases_loop
 returns c =
-    let s = c.before.before.before in
+    let s = c in
     let l = c.loop-k in
     let numbers = s.args.numbers.now in
     let strides = s.args.strides.now in

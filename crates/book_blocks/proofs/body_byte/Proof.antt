@@ -35,7 +35,7 @@ returns_2 c = rw (le-ltb c.args.j 216 c.if-j-lt-NOTE.false)
 
 returns_3 : tie.Need-returns
 returns_3 c =
-    let s = c.before.before in
+    let s = c in
     rw (le-ltb s.args.j 216 c.if-j-lt-NOTE.false) (sym (get_or-eq_default s.args.note.now 0 c.if-k-note.false))
 
 pub body_byte_spec : {M : Type 1} → statement M

@@ -21,19 +21,19 @@ loop_holds c = (omega arith, c.requires, λ i h. absurd (not-suc-le-zero h))
 
 loop_again : tie.Need-loop-j-preserved invariant_loop decreases_loop
 loop_again c =
-    let l = c.before.before in
-    let s = l.before.before.before in (
+    let l = c in
+    let s = l in (
       omega arith,
       length-set l.loop-j.block l.loop-j.j c.body_byte.result ∙ l.loop-j.invariant.1,
       filled_more (body_byte s.args.words.now s.args.note.now) 0 l.loop-j.block l.loop-j.j c.body_byte.result (omega (arith, l.loop-j.invariant.1)) c.body_byte.ensures l.loop-j.invariant.2,
     )
 
 same_length : tie.Need-shape_of-block invariant_loop decreases_loop
-same_length c = let l = c.before in l.loop-j.invariant.1 ∙ sym l.requires
+same_length c = let l = c in l.loop-j.invariant.1 ∙ sym l.requires
 
 returns : tie.Need-returns invariant_loop decreases_loop
 returns c =
-    let l = c.before in
+    let l = c in
     (l.loop-j.invariant.1, λ i h. l.loop-j.invariant.2 i (omega (arith, l.loop-j.invariant.0)))
 
 pub fill_body_spec : {M : Type 1} → statement M

@@ -31,10 +31,10 @@ wide_requires : tie.Need-wide-requires invariant_loop decreases_loop
 wide_requires c κs = search rules
 
 mul_sum : tie.Need-overflow_mul-sum invariant_loop decreases_loop
-mul_sum c = let l = c.before.before.before in omega (arith, turn_small l.loop-i.i c.wide.result (omega (arith, l.loop-i.invariant.1)) c.wide.ensures.1)
+mul_sum c = let l = c in omega (arith, turn_small l.loop-i.i c.wide.result (omega (arith, l.loop-i.invariant.1)) c.wide.ensures.1)
 
 add_sum_2 : tie.Need-overflow_add-sum-in-loop-i invariant_loop decreases_loop
-add_sum_2 c = let l = c.before.before.before in omega (arith, turn_small l.loop-i.i c.wide.result (omega (arith, l.loop-i.invariant.1)) c.wide.ensures.1)
+add_sum_2 c = let l = c in omega (arith, turn_small l.loop-i.i c.wide.result (omega (arith, l.loop-i.invariant.1)) c.wide.ensures.1)
 
 add_i : tie.Need-overflow_add-i invariant_loop decreases_loop
 add_i c = omega arith
@@ -44,8 +44,8 @@ loop_less c = omega arith
 
 loop_again : tie.Need-loop-i-preserved invariant_loop decreases_loop
 loop_again c =
-    let l = c.before.before.before in
-    let s = l.before.before in
+    let l = c in
+    let s = l in
     let i = l.loop-i.i in
     let block = s.args.block.now in
     let next = weighed_next block i 508 (omega arith) l.loop-i.invariant.1 in
@@ -55,8 +55,8 @@ loop_again c =
 
 returns : tie.Need-returns invariant_loop decreases_loop
 returns c =
-    let l = c.before in
-    let s = l.before.before in
+    let l = c in
+    let s = l in
     let none = weighed_none s.args.block.now l.loop-i.i 508 (omega arith) in
     ap (λ (x : ℕ). x % 65521) (omega (arith, l.loop-i.invariant.2))
 

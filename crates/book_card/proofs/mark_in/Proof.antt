@@ -7,12 +7,12 @@ use Rattle.book_card.proofs.mark_in.Tie as tie
 
 returns : tie.Need-returns-then-k-count
 returns c =
-    let s = c.before.before.before in
+    let s = c in
     rw (lt-ltb s.args.k s.args.count c.if-k-count.true, c.one.ensures.0)
 
 returns_2 : tie.Need-returns
 returns_2 c =
-    let s = c.before.before in
+    let s = c in
     rw (le-ltb s.args.k s.args.count c.if-k-count.false)
 
 pub mark_in_spec : {M : Type 1} → statement M

@@ -7,12 +7,12 @@ use Rattle.book_card.proofs.slot_in.Tie as tie
 
 returns : tie.Need-returns-then-k-count
 returns c =
-    let s = c.before.before.before in
+    let s = c in
     rw (lt-ltb s.args.k s.args.count c.if-k-count.true) c.iter_in.ensures
 
 returns_2 : tie.Need-returns
 returns_2 c =
-    let s = c.before.before.before in
+    let s = c in
     rw (le-ltb s.args.k s.args.count c.if-k-count.false) c.no_iter.ensures
 
 pub slot_in_spec : {M : Type 1} → statement M

@@ -20,15 +20,15 @@ loop_holds c = (omega arith, ends_none c.args.block.now c.args.from c.args.most)
 
 loop_again : tie.Need-loop-k-preserved invariant_loop decreases_loop
 loop_again c =
-    let l = c.before.before.before.before in
-    let s = l.before in
+    let l = c in
+    let s = l in
     let k = l.loop-k.k in
     (omega arith, ends_more s.args.block.now s.args.from s.args.most k (s.args.from + 12 * k + 9) l.loop-k.fine refl l.loop-k.invariant.1)
 
 returns : tie.Need-returns invariant_loop decreases_loop
 returns c =
-    let l = c.before in
-    let s = l.before in
+    let l = c in
+    let s = l in
     let end : l.loop-k.k ≡ s.args.count = omega (arith, l.loop-k.invariant.0) in
     subst (λ (x : ℕ). (l.loop-k.fine ≡ true) ↔ SlotsEnd s.args.block.now s.args.from s.args.most x) end l.loop-k.invariant.1
 

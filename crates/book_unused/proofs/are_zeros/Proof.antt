@@ -20,14 +20,14 @@ loop_holds c = (omega arith, c.requires.0, zeros_none c.args.block.now c.args.fr
 
 loop_again : tie.Need-loop-i-preserved invariant_loop decreases_loop
 loop_again c =
-    let l = c.before.before in
-    let s = l.before in
+    let l = c in
+    let s = l in
     (omega (arith, l.loop-i.invariant.0), omega arith, zeros_more s.args.block.now s.args.from l.loop-i.i l.loop-i.zero l.loop-i.invariant.0 l.loop-i.invariant.2)
 
 returns : tie.Need-returns invariant_loop decreases_loop
 returns c =
-    let l = c.before in
-    let s = l.before in
+    let l = c in
+    let s = l in
     let end : l.loop-i.i ≡ s.args.to = omega (arith, l.loop-i.invariant.1) in
     subst (λ (x : ℕ). (l.loop-i.zero ≡ true) ↔ Zeros s.args.block.now s.args.from x) end l.loop-i.invariant.2
 

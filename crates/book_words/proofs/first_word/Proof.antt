@@ -7,14 +7,14 @@ use Rattle.book_words.proofs.first_word.Tie as tie
 
 returns : tie.Need-returns-then-i-eq0
 returns c =
-    let t = c.before.before.before.before in
-    let s = t.before.before.before in
+    let t = c in
+    let s = t in
     rw (eq-eqb s.args.i 0 t.if-i-eq0.true)
 
 returns_2 : tie.Need-returns
 returns_2 c =
-    let t = c.before in
-    let s = t.before.before.before in
+    let t = c in
+    let s = t in
     rw (ne_eqb s.args.i 0 t.if-i-eq0.false)
 
 pub first_word_spec : {M : Type 1} → statement M

@@ -14,16 +14,16 @@ returns c = rw (eq-eqb c.args.j 0 c.if-j-eq0.true)
 
 returns_2 : tie.Need-returns-then-j-eq1
 returns_2 c =
-    let t = c.before.before in
-    let u = t.before in
+    let t = c in
+    let u = t in
     let j = u.args.j in
     rw (ne_eqb j 0 u.if-j-eq0.false, eq-eqb j 1 t.if-j-eq1.true)
     (c.twos.ensures.0 ∙ ap twos (to_z-of_z {w = w64} {z = u.args.iter.stride} (record { sfits = c.struct_told-1.given.1.0.1 })))
 
 returns_3 : tie.Need-returns
 returns_3 c =
-    let t = c.before.before in
-    let u = t.before in
+    let t = c in
+    let u = t in
     let j = u.args.j in
     rw (ne_eqb j 0 u.if-j-eq0.false, ne_eqb j 1 t.if-j-eq1.false, c.mark_number.ensures.0)
 

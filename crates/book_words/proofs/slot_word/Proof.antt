@@ -9,13 +9,13 @@ use Rattle.book_words.proofs.slot_word.Tie as tie
 
 returns : tie.Need-returns-then-k-iters
 returns c =
-    let t = c.before.before.before in
-    let s = t.before.before in
+    let t = c in
+    let s = t in
     rw (lt-ltb (s.args.i / 3) s.args.iters.count t.if-k-iters.true) c.iter_word.ensures
 
 returns_2 : tie.Need-returns
 returns_2 c =
-    let s = c.before.before in
+    let s = c in
     rw (le-ltb (s.args.i / 3) s.args.iters.count c.if-k-iters.false)
 
 pub slot_word_spec : {M : Type 1} → statement M

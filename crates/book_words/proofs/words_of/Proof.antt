@@ -21,8 +21,8 @@ loop_holds c = (omega arith, refl, λ j h. absurd (not-suc-le-zero h))
 
 loop_again : tie.Need-loop-i-preserved invariant_loop decreases_loop
 loop_again c =
-    let l = c.before.before in
-    let s = l.before in (
+    let l = c in
+    let s = l in (
       omega arith,
       length-set l.loop-i.words l.loop-i.i c.word.result ∙ l.loop-i.invariant.1,
       filled_more (word_of s.args.card s.args.noted) 0 l.loop-i.words l.loop-i.i c.word.result (omega (arith, l.loop-i.invariant.1)) c.word.ensures l.loop-i.invariant.2,
@@ -30,7 +30,7 @@ loop_again c =
 
 returns : tie.Need-returns invariant_loop decreases_loop
 returns c =
-    let l = c.before in
+    let l = c in
     (l.loop-i.invariant.1, λ i h. l.loop-i.invariant.2 i (omega (arith, l.loop-i.invariant.0)))
 
 pub words_of_spec : {M : Type 1} → statement M

@@ -5,8 +5,8 @@ use Rattle.c_card.proofs.card.Tie as tie
 
 returns : tie.Need-returns
 returns c =
-    let l = c.before.before.before in
-    let m = l.before.before.before in
+    let l = c in
+    let m = l in
     rw (m.shard.ensures, m.marks.ensures, l.replica.ensures, l.offset.ensures, l.lengths.ensures)
 
 pub card_spec : {M : Type 1} → statement M

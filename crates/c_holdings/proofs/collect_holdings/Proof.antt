@@ -28,7 +28,7 @@ decreases_loop kind computation numbers sorts₀ singles₀ doubles₀ j₀ sort
 
 loop_holds : tie.Need-loop-j-init invariant_loop decreases_loop
 loop_holds c =
-    let s = c.before.before.before.before in
+    let s = c in
     let a = s.args in
     let p = s.requires.1 in
     let w = rows a.kind a.computation a.numbers.now in (
@@ -39,9 +39,9 @@ loop_holds c =
 
 loop_again : tie.Need-loop-j-preserved invariant_loop decreases_loop
 loop_again c =
-    let p = c.before.before.before.before.before.before in
-    let d = p.before.before.before.before in
-    let t = d.before in
+    let p = c in
+    let d = p in
+    let t = d in
     let l = t.loop-j in
     let a = t.args in
     let h = t.loop-j-test.true in

@@ -12,8 +12,8 @@ use Rattle.c_holdings.proofs.collected_from.Tie as tie
 
 returns : tie.Need-returns-then-from-lt256
 returns c =
-    let m = c.before.before in
-    let s = m.before.before in
+    let m = c in
+    let s = m in
     let a = s.args in
     let lanes : List (List Bits) = lanes_from a.kind a.numbers.now in
     c.register_held.ensures
@@ -22,8 +22,8 @@ returns c =
 
 returns_2 : tie.Need-returns
 returns_2 c =
-    let m = c.before in
-    let s = m.before.before in
+    let m = c in
+    let s = m in
     let a = s.args in
     let lanes : List (List Bits) = lanes_from a.kind a.numbers.now in
     sym (collected_nothing a.kind a.computation lanes a.j m.holder-from.result s.requires.0 m.holder-from.ensures c.if-from-lt256.false)

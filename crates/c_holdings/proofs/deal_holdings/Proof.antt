@@ -26,15 +26,15 @@ decreases_loop kind computation sorts singles doubles numbers₀ j₀ numbers j 
 
 loop_holds : tie.Need-loop-j-init invariant_loop decreases_loop
 loop_holds c =
-    let s = c.before.before.before.before in
+    let s = c in
     let a = s.args in
     anew_none 0 128 (number a.kind a.computation a.sorts.now a.singles.now a.doubles.now) a.numbers.now s.requires.0.1
 
 loop_again : tie.Need-loop-j-preserved invariant_loop decreases_loop
 loop_again c =
-    let p = c.before.before in
-    let f = p.before.before in
-    let t = f.before in
+    let p = c in
+    let f = p in
+    let t = f in
     let l = t.loop-j in
     let a = t.args in
     anew_turn 0 128 (number a.kind a.computation a.sorts.now a.singles.now a.doubles.now) a.numbers.now l.numbers _ l.j l.invariant t.loop-j-test.true

@@ -15,7 +15,7 @@ use Rattle.c_holdings.proofs.dealt_to_field.Tie as tie
 
 returns : tie.Need-returns-then-i-lt8
 returns c =
-    let m = c.before.before in
+    let m = c in
     let a = m.args in
     let bare : List (List Bits) = dealt Empty a.kind a.computation (rows_from 8 a.sorts.now a.singles.now a.doubles.now) (empties 32) in
     c.dealt_at.ensures
@@ -24,7 +24,7 @@ returns c =
 
 returns_2 : tie.Need-returns
 returns_2 c =
-    let m = c.before in
+    let m = c in
     let a = m.args in
     let bare : List (List Bits) = dealt Empty a.kind a.computation (rows_from 8 a.sorts.now a.singles.now a.doubles.now) (empties 32) in
     sym (field_nothing a.kind (get_or bare (a.j / 4) []) (a.j % 4) m.register_for-i.result m.register_for-i.ensures c.if-i-lt8.false)

@@ -25,7 +25,7 @@ decreases_loop slots card₀ from at count k₀ card k = slots - k
 
 loop_holds : tie.Need-loop-k-init invariant_loop decreases_loop
 loop_holds c =
-    let s = c.before.before in (
+    let s = c in (
       omega arith,
       omega arith,
       omega arith,
@@ -36,10 +36,10 @@ loop_holds c =
 
 loop_again : tie.Need-loop-k-preserved invariant_loop decreases_loop
 loop_again c =
-    let told = c.before in
-    let t = told.before.before in
+    let told = c in
+    let t = told in
     let l = t.loop-k in
-    let s = t.before.before.before.before in
+    let s = t in
     let at = s.args.iters.at in
     let place = s.args.from + 1 + 3 * l.k in
     let iter = get_or at l.k none in
@@ -60,7 +60,7 @@ loop_again c =
 returns : tie.Need-returns invariant_loop decreases_loop
 returns c =
     let l = c.loop-k in
-    let s = c.before.before.before.before in
+    let s = c in
     let iters = s.args.iters in
     let counted = set s.args.card.now s.args.from iters.count in
     let next : s.args.from + 1 ≡ suc s.args.from = omega arith in

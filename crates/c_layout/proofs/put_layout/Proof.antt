@@ -7,10 +7,10 @@ use Rattle.c_layout.proofs.put_layout.Tie as tie
 
 returns : tie.Need-returns
 returns c =
-    let two = c.before.before.before in
-    let one = two.before.before.before.before in
-    let n = one.before.before in
-    let s = n.before.before.before.before in
+    let two = c in
+    let one = two in
+    let n = one in
+    let s = n in
     rw (c.put_offset.ensures, two.put_iters-2.ensures, one.put_iters.ensures)
     (all_written s.args.layout s.args.card.now (omega (arith, n.numbers-1.given)))
 

@@ -26,10 +26,10 @@ loop_holds c = (omega arith, search rules, c.requires, refl)
 
 loop_again : tie.Need-loop-k-preserved invariant_loop decreases_loop
 loop_again c =
-    let t = c.before.before in
+    let t = c in
     let l = t.loop-k in
-    let s = t.before.before.before in
-    let offset = s.args.t1 in
+    let s = t in
+    let offset = s.args.offset in
     let z = get_or offset l.k (pos 0) in
     let small : l.k < 8 = omega (arith, t.loop-k-test.true) in
     let back = to_z-of_z {w = w64} {z = z} (record { sfits = c.bits-arg-1.given }) in

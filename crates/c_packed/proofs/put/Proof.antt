@@ -20,9 +20,9 @@ long t = omega (arith, t.loop-k.invariant.1.whole, t.requires.0)
 loop_again : tie.Need-loop-k-preserved invariant_loop decreases_loop
 loop_again c =
     let l = c.loop-k in
-    let s = c.before.before in
+    let s = c in
     let small : l.k < 8 = c.loop-k-test.true in
-    (omega arith, put_more 0 s.args.column _ l.k small (omega (arith, long c, s.requires.1)) l.invariant.1)
+    (omega arith, put_more 0 s.args.column _ l.k small (omega (arith, long c.before, s.requires.1)) l.invariant.1)
 
 returns : tie.Need-returns invariant_loop decreases_loop
 returns c =
@@ -34,4 +34,4 @@ pub put_spec : {M : Type 1} → statement M
 put_spec =
     tie.close
     (tie.spec invariant_loop decreases_loop (λ c. (omega arith, put_none 0 _ _ _)) (λ c. omega arith) (λ c. omega arith) (λ c. omega (arith, c.requires.1)) (λ c. omega (arith, c.requires.1))
-    (λ c. omega (arith, c.requires.1)) (λ c. omega (arith, long c, c.requires.1)) (λ c. omega arith) (λ c. omega arith) loop_again returns)
+    (λ c. omega (arith, c.requires.1)) (λ c. omega (arith, long c.before, c.requires.1)) (λ c. omega arith) (λ c. omega arith) loop_again returns)

@@ -34,10 +34,10 @@ long t = t.loop-k.invariant.1.whole ∙ t.requires.0
 
 loop_again : tie.Need-loop-k-preserved invariant_loop decreases_loop
 loop_again c =
-    let t = c.before in
+    let t = c in
     let l = t.loop-k in
     let small : l.k < 8 = t.loop-k-test.true in
-    (omega arith, rw c.mark.ensures (put_more 0 6 _ l.k small (omega (arith, long t)) l.invariant.1))
+    (omega arith, rw c.mark.ensures (put_more 0 6 _ l.k small (omega (arith, long t.before.before)) l.invariant.1))
 
 returns_2 : tie.Need-returns invariant_loop decreases_loop
 returns_2 c =
@@ -48,5 +48,5 @@ returns_2 c =
 pub put_marks_spec : {M : Type 1} → statement M
 put_marks_spec =
     tie.close
-    (tie.spec invariant_loop decreases_loop returns (λ c. (omega arith, put_none 0 _ _ _)) (λ c κs. omega (arith, c.loop-k-test.true)) (λ c. omega (arith, c.loop-k-test.true)) (λ c. omega (arith, c.loop-k-test.true)) (λ c. omega (arith, long c.before, c.loop-k-test.true))
+    (tie.spec invariant_loop decreases_loop returns (λ c. (omega arith, put_none 0 _ _ _)) (λ c κs. omega (arith, c.loop-k-test.true)) (λ c. omega (arith, c.loop-k-test.true)) (λ c. omega (arith, c.loop-k-test.true)) (λ c. omega (arith, long c.before.before, c.loop-k-test.true))
     (λ c. omega (arith, c.loop-k-test.true)) (λ c. omega (arith, c.loop-k-test.true)) loop_again returns_2)

@@ -24,12 +24,12 @@ long t = omega (arith, t.loop-k.invariant.1.whole, t.requires.0)
 
 loop_again : tie.Need-loop-k-preserved invariant_loop decreases_loop
 loop_again c =
-    let t = c.before in
+    let t = c in
     let l = t.loop-k in
-    let s = t.before.before in
+    let s = t in
     let small : l.k < 8 = t.loop-k-test.true in
-    let back = to_z-of_z {w = w64} {z = c.signed.result} (record { sfits = c.signed.type-inv }) ∙ c.signed.ensures in
-    (omega arith, rw back (put_more (pos 0) s.args.column _ l.k small (omega (arith, long t, s.requires.1)) l.invariant.1))
+    let back = to_z-of_z {w = w64} {z = c.signed.result} (record { sfits = c.signed.type_inv }) ∙ c.signed.ensures in
+    (omega arith, rw back (put_more (pos 0) s.args.column _ l.k small (omega (arith, long t.before, s.requires.1)) l.invariant.1))
 
 returns : tie.Need-returns invariant_loop decreases_loop
 returns c =

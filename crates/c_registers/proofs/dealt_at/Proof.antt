@@ -12,8 +12,8 @@ use Rattle.c_registers.proofs.dealt_at.Tie as tie
 
 returns : tie.Need-returns-then-p-lt64
 returns c =
-    let m = c.before.before in
-    let s = m.before.before.before.before in
+    let m = c in
+    let s = m in
     let a = s.args in
     let rows : List (List Bits) = rows_from 8 a.sorts.now a.singles.now a.doubles.now in
     c.register_at.ensures
@@ -22,8 +22,8 @@ returns c =
 
 returns_2 : tie.Need-returns
 returns_2 c =
-    let m = c.before in
-    let s = m.before.before.before.before in
+    let m = c in
+    let s = m in
     let a = s.args in
     let rows : List (List Bits) = rows_from 8 a.sorts.now a.singles.now a.doubles.now in
     sym (dealt_nothing a.kind a.computation rows a.n m.matrix_source-p.result s.requires.0.1 m.matrix_source-p.ensures c.if-p-lt64.false)

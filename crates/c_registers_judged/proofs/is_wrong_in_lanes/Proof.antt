@@ -18,9 +18,9 @@ use Rattle.c_registers_judged.proofs.is_wrong_in_lanes.Tie as tie
 
 returns : tie.Need-returns-then-matrix_source-lt64
 returns c =
-    let g = c.before in
-    let m = g.before.before in
-    let s = m.before.before.before.before in
+    let g = c in
+    let m = g in
+    let s = m in
     let a = s.args in
     let p : ℕ = m.matrix_source.result in
     let e = m.matrix_source.ensures in
@@ -32,8 +32,8 @@ returns c =
 
 returns_2 : tie.Need-returns
 returns_2 c =
-    let m = c.before in
-    let s = m.before.before.before.before in
+    let m = c in
+    let s = m in
     let a = s.args in
     let rows : List (List Register) = registers_held (rows_from 32 a.sorts.now a.singles.now a.doubles.now) in
     sym (not_wrong a.kind a.computation a.n m.matrix_source.result (entry Empty rows) m.matrix_source.ensures c.if-matrix_source-lt64.false)

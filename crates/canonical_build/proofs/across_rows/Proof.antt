@@ -8,7 +8,7 @@ use Rattle.canonical_build.proofs.across_rows.Tie as tie
 
 in_elements_requires_2 : tie.Need-in_elements-requires-else-a
 in_elements_requires_2 c κs =
-    let s = c.before.before.before in
+    let s = c in
     let a = s.args.a in
     (s.requires.its_bits, s.requires.lbo_below (used_there (eqb a.mode 0) (eqb a.major 0) c.if-a.false))
 

@@ -30,29 +30,29 @@ short s rows columns r c =
 
 k_shard_requires : tie.Need-k_shard-requires
 k_shard_requires c κs =
-    let o = c.before.before in
-    let r = o.before in
-    short r.before.before.before r.across_rows-rows.result o.across_columns-columns.result r.across_rows-rows.ensures.1 o.across_columns-columns.ensures.1
+    let o = c in
+    let r = o in
+    short r.before.before.before.before.before.before r.across_rows-rows.result o.across_columns-columns.result r.across_rows-rows.ensures.1 o.across_columns-columns.ensures.1
 
 mn_shard_requires : tie.Need-mn_shard-requires
 mn_shard_requires c κs =
-    let o = c.before.before in
-    let r = o.before in
-    short r.before.before.before r.across_rows-rows.result o.across_columns-columns.result r.across_rows-rows.ensures.1 o.across_columns-columns.ensures.1
+    let o = c in
+    let r = o in
+    short r.before.before.before.before.before.before r.across_rows-rows.result o.across_columns-columns.result r.across_rows-rows.ensures.1 o.across_columns-columns.ensures.1
 
 returns : tie.Need-returns-then-a-eq0
 returns c =
-    let o = c.before.before.before in
-    let r = o.before in
-    let s = r.before.before.before in
+    let o = c in
+    let r = o in
+    let s = r in
     let is_k = eq-eqb s.args.a.major 0 c.if-a-eq0.true in
     rw is_k (rw (pieces_few s.args.a.mode s.requires.its_mode, r.across_rows-rows.ensures.0, o.across_columns-columns.ensures.0, is_k) at c.k_shard.ensures)
 
 returns_2 : tie.Need-returns-else-a-eq0
 returns_2 c =
-    let o = c.before.before.before in
-    let r = o.before in
-    let s = r.before.before.before in
+    let o = c in
+    let r = o in
+    let s = r in
     let isMN = ne_eqb s.args.a.major 0 c.if-a-eq0.false in
     rw isMN (rw (pieces_few s.args.a.mode s.requires.its_mode, r.across_rows-rows.ensures.0, o.across_columns-columns.ensures.0, isMN) at c.mn_shard.ensures)
 

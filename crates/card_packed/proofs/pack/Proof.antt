@@ -41,8 +41,8 @@ eight s = record { shard = search (rules, length_of); marks = search rules; repl
 
 loop_holds : tie.Need-loop-k-init invariant_loop decreases_loop
 loop_holds c =
-    let s = c.before.before.before.before.before.before in
-    let e = eight s in (
+    let s = c in
+    let e = eight s.before.before.before.before.before.before in (
       omega arith,
       record { of_shard = e.shard; of_marks = e.marks; of_replica = e.replica; of_offset_lem = e.offset; of_lengths = e.lengths; of_last = ap length c.last_column-last.ensures },
       filled_none 0 _ 7 refl,
@@ -51,12 +51,12 @@ loop_holds c =
 
 loop_again : tie.Need-loop-k-preserved invariant_loop decreases_loop
 loop_again c =
-    let two = c.before in
-    let one = two.before in
-    let m = one.before in
-    let t = m.before.before.before in
+    let two = c in
+    let one = two in
+    let m = one in
+    let t = m in
     let l = t.loop-k in
-    let s = t.before.before.before.before.before.before.before.before in
+    let s = t in
     let card = s.args.card in
     let shard_back = to_z-of_z {w = w64} {z = (get_or card.shard.at l.k none).stride} (record { sfits = one.struct_told-1.given.1.0.1 }) in
     let replica_back = to_z-of_z {w = w64} {z = (get_or card.replica.at l.k none).stride} (record { sfits = two.struct_told-in-loop-k-1.given.1.0.1 }) in
@@ -71,11 +71,11 @@ loop_again c =
 returns : tie.Need-returns invariant_loop decreases_loop
 returns c =
     let l = c.loop-k in
-    let t = c.before.before in
-    let s = t.before.before.before.before.before.before in
+    let t = c in
+    let s = t in
     let card = s.args.card in
     let done : l.k ≡ 8 = omega arith in
-    packs card (eight s) (rw (done, t.last_column-last.ensures) at l.invariant.2) (rw done at l.invariant.3)
+    packs card (eight s.before.before.before.before.before.before.before.before) (rw (done, t.last_column-last.ensures) at l.invariant.2) (rw done at l.invariant.3)
 
 pub pack_spec : {M : Type 1} → statement M
 pack_spec =

@@ -18,8 +18,8 @@ product_requires c κs = omega (arith, c.named.ensures)
 
 returns : tie.Need-returns
 returns c =
-    let n = c.before in
-    let e = n.before in
+    let n = c in
+    let e = n in
     let iters = e.args.iters in
     let eight : length e.extents-extents.result ≡ 8 = search rules in
     c.product.ensures

@@ -28,9 +28,9 @@ abbrev card : tie.Start → Card
 card s = card_of s.args.numbers.now s.args.strides.now
 
 -- one copy of one element
-alone : (i : tie.Then-elements-copies) → let s = i.before.before.before in OneElement s.args.numbers.now s.args.strides.now s.args.table.now
+alone : (i : tie.Then-elements-copies) → let s = i in OneElement s.args.numbers.now s.args.strides.now s.args.table.now
 alone i =
-    let s = i.before.before.before in
+    let s = i in
     let both = (and-eq-true_iff (eqb s.args.elements 1) (eqb (length s.args.row.now) 1)).0 i.if-elements-copies.true in
     record {
       admits = admits s.requires.0;
@@ -42,17 +42,17 @@ alone i =
 
 returns : tie.Need-returns-then-elements-copies
 returns c =
-    let k = c.before.before in
-    let i = k.before.before in
-    let s = i.before.before.before in
+    let k = c in
+    let i = k in
+    let s = i in
     let exact = cleared_size (card s) s.requires.1.1 in
     approved_promise (card s) s.args.table.now s.requires.0.admitted exact s.requires.1.0
-    (subst (λ (n : ℕ). OwnedTable (placed (card s)) n (cells (card s)) k.claim_alone-occupied.new.table k.claim_alone-occupied.result) (sym (alone i).one_element) k.claim_alone-occupied.ensures)
+    (subst (λ (n : ℕ). OwnedTable (placed (card s)) n (cells (card s)) k.claim_alone-occupied.new.table k.claim_alone-occupied.result) (sym (alone i.before.before.before.before).one_element) k.claim_alone-occupied.ensures)
     s.requires.0.all_elements (k.claim_alone-occupied.auto.table ∙ exact)
 
 -- the row is as long as there are copies
 few : (s : tie.Start) → length s.args.row.now ≤ 64
-few s = omega (arith, s.requires.0.one_each, (sized (card s) (admits s.requires.0).admitted).most-copies)
+few s = omega (arith, s.requires.0.one_each, (sized (card s) (admits s.requires.0).admitted).most_copies_lem)
 
 long : (s : tie.Start) → length {A = ℤ} (take (length s.args.row.now) (replicate 64 (pos 0))) ≡ length s.args.row.now
 long s = length-take-le (length s.args.row.now) (replicate 64 (pos 0)) (few s)
@@ -106,20 +106,20 @@ as_long : (n : ℕ) (l rest : List ℤ) → length l ≡ n → n ≡ length (tak
 as_long n l rest e = sym (ap length (front n l rest e) ∙ e)
 
 array_share_prefix_levels : tie.Need-slice_bounds-levels-end-2
-array_share_prefix_levels c = let p = c.before.before in reaches (n p) (levels p) _ (levels_long p)
+array_share_prefix_levels c = let p = c in reaches (n p) (levels p) _ (levels_long p)
 
 slice_aggregate_claim_twice : tie.Need-slice_bounds-claim_twice-end
-slice_aggregate_claim_twice c = let p = c.before.before.before in as_long (n p) (levels p) _ (levels_long p)
+slice_aggregate_claim_twice c = let p = c in as_long (n p) (levels p) _ (levels_long p)
 
 array_share_prefix_ms : tie.Need-slice_bounds-ms-end-2
-array_share_prefix_ms c = let p = c.before.before.before in reaches (n p) (ms p) _ (ms_long p)
+array_share_prefix_ms c = let p = c in reaches (n p) (ms p) _ (ms_long p)
 
 slice_aggregate_claim_twice_2 : tie.Need-slice_bounds-claim_twice-end-2
-slice_aggregate_claim_twice_2 c = let p = c.before.before.before.before in as_long (n p) (ms p) _ (ms_long p)
+slice_aggregate_claim_twice_2 c = let p = c in as_long (n p) (ms p) _ (ms_long p)
 
 claim_twice_requires : tie.Need-claim_twice-requires
 claim_twice_requires c κs =
-    let p = c.before.before.before.before.before.before in
+    let p = c in
     let q = s p in
     ((q.pre.0, rw (front (n p) (levels p) _ (levels_long p), front (n p) (ms p) _ (ms_long p)) (filled p)), q.pre.1)
 

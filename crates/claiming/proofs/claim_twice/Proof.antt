@@ -24,7 +24,7 @@ exact s = cleared_size (card s) s.requires.1.1
 
 claim_quickly_requires : tie.Need-claim_quickly-occupied-requires
 claim_quickly_requires c κs =
-    let s = c.before.before.before in
+    let s = c in
     (record { admits = admits s.requires.0.0; all_elements = s.requires.0.0.all_elements; inside = s.requires.1.0; cleared = s.requires.1.1 }, s.requires.0.1.adds)
 
 -- after the quick pass
@@ -40,7 +40,7 @@ module _ (q : tie.After-claim_quickly-occupied) where
 
 returns : tie.Need-returns-then-occupied-ne0
 returns c =
-    let q = c.before.before.before in
+    let q = c in
     let s = start q in
     approved_promise (card s) s.args.table.now s.pre.0.0.admitted (exact s) s.pre.1.0
     (subst (λ (n : ℕ). OwnedTable (placed (card s)) n (cells (card s)) (after q) q.claim_quickly-occupied.result) s.pre.0.0.all_elements
@@ -48,14 +48,14 @@ returns c =
 
 claim_runs_requires : tie.Need-claim_runs-requires
 claim_runs_requires c κs =
-    let q = c.before.before.before.before.before in
+    let q = c in
     let s = start q in
     (s.pre.0, (s.pre.1.0, q.claim_quickly-occupied.ensures.1 c.if-occupied-ne0.false))
 
 returns_2 : tie.Need-returns
 returns_2 c =
-    let r = c.before.before.before.before in
-    let q = r.before.before.before.before.before.before in
+    let r = c in
+    let q = r in
     let s = start q in
     cells_anew (card s) s.args.table.now (after q) s.pre.0.0.admitted (exact s) (kept q) r.claim_runs.ensures
 

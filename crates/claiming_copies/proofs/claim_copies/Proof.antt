@@ -114,7 +114,7 @@ loop_holds c =
 
 claim_line_requires : tie.Need-claim_line-requires invariant_loop decreases_loop
 claim_line_requires c κs =
-    let d = c.before in
+    let d = c in
     let t = u d in
     let q = s t in
     rw (level_back d.before, m_back d)
@@ -147,7 +147,7 @@ abbrev claimed : tie.Else-not-claim_line invariant_loop decreases_loop → tie.A
 claimed c = c.before.before.before
 
 is_claimed : (c : tie.Else-not-claim_line invariant_loop decreases_loop) → (claimed c).claim-line.result ≡ true
-is_claimed c = not-false _ c.if-not-claim_line.false
+is_claimed c = c.if-not-claim_line.false
 
 more : (c : tie.Else-not-claim_line invariant_loop decreases_loop) → occupied (after (claimed c)) ≡ occupied (s (turn (claimed c))).args.table.now + ((turn (claimed c)).before.loop.newly + (s (turn (claimed c))).args.run.length)
 more c = omega (arith, (lined (claimed c) (is_claimed c)).counted, (turn (claimed c)).before.loop.inv.4)
@@ -183,6 +183,6 @@ claim_copies_spec =
     (tie.spec invariant_loop decreases_loop loop_holds (λ c. omega arith) (λ c. c.loop-copy-test.true) level_fits
     (λ c. omega arith) (λ c. omega (arith, few c.before, (s c.before).pre.1.ms_size)) m_fits claim_line_requires
     (λ c. kept c.before.before.before) (λ c some. absurd (omega arith))
-    (λ c. omega (arith, counted c, (sized (card (s (turn (claimed c)))) (s (turn (claimed c))).pre.0.0.admits.admitted).most-cells))
+    (λ c. omega (arith, counted c, (sized (card (s (turn (claimed c)))) (s (turn (claimed c))).pre.0.0.admits.admitted).most_cells_lem))
     (λ c. omega (arith, (turn (claimed c)).loop-test.taken)) (λ c. omega (arith, (turn (claimed c)).loop-test.taken))
     loop_again (λ c. c.loop-copy.invariant.1) returns_2)

@@ -12,18 +12,18 @@ listed s = readable s.args.numbers.now s.args.strides.now s.requires.0.admits
 
 put_ways_requires : tie.Need-put_ways-requires
 put_ways_requires c κs =
-    let f = c.before.before in
-    let s = f.before.before.before.before.before in
+    let f = c in
+    let s = f in
     (s.requires.0.admits, f.run_from-from.ensures s.args.strides.now, refl, refl)
 
 claim_turns_requires : tie.Need-claim_turns-requires
 claim_turns_requires c κs =
-    let p = c.before.before.before in
-    let f = p.before.before.before in
-    let d = f.before in
-    let l = d.before in
-    let w = l.before in
-    let s = w.before.before in (
+    let p = c in
+    let f = p in
+    let d = f in
+    let l = d in
+    let w = l in
+    let s = w in (
       s.requires,
       record {
         swizzles = w.swizzle_of-by.ensures;

@@ -94,7 +94,7 @@ loop_holds c =
 
 claim_copies_requires : tie.Need-claim_copies-claimed-requires invariant_loop decreases_loop
 claim_copies_requires c κs =
-    let t = c.before in
+    let t = c in
     ((runs t, (by t).some, (s t).requires.1.swizzles), (s t).requires.0.1)
 
 -- after a run was claimed
@@ -128,7 +128,7 @@ turn_requires c κs =
 
 loop_again : tie.Need-loop-first-preserved invariant_loop decreases_loop
 loop_again c =
-    let e = c.before.before in
+    let e = c in
     let t = turn (claimed e) in
     let l = t.before.loop in
     let its = shard_iters (s t).args.numbers.now (s t).args.strides.now in
@@ -137,7 +137,7 @@ loop_again c =
       l.inv.0 + 1,
       next t,
       omega (arith, end t, (s t).pre.0.0.all_elements),
-      owned e,
+      owned e.before.before,
       c.turn-start.ensures.there,
       c.turn-start.ensures.size ∙ l.inv.5,
       λ some. c.turn-start.ensures.next (omega (arith, here, run_is, some, (s t).pre.0.0.all_elements)) ∙ omega (arith, here, run_is),
@@ -155,7 +155,7 @@ claim_turns_spec =
     tie.close
     (tie.spec invariant_loop decreases_loop (λ c κs. c.requires.0.0.admits) loop_holds claim_copies_requires
     (λ c. kept c.before.before.before ∙ sym (exact (s (turn c.before.before.before)))) (λ c some. absurd (omega arith))
-    (λ c. omega (arith, (owned c).counted, occupied_most (after (claimed c)), kept (claimed c), (sized (card (s (turn (claimed c)))) (s (turn (claimed c))).pre.0.0.admits.admitted).most-cells))
-    (λ c. omega (arith, end (turn (claimed c)), (sized (card (s (turn (claimed c)))) (s (turn (claimed c))).pre.0.0.admits.admitted).most-elements)) turn_requires
+    (λ c. omega (arith, (owned c).counted, occupied_most (after (claimed c)), kept (claimed c), (sized (card (s (turn (claimed c)))) (s (turn (claimed c))).pre.0.0.admits.admitted).most_cells_lem))
+    (λ c. omega (arith, end (turn (claimed c)), (sized (card (s (turn (claimed c)))) (s (turn (claimed c))).pre.0.0.admits.admitted).most_elements_lem)) turn_requires
     (λ c. omega (arith, (by (turn (claimed c.before.before))).some, (turn (claimed c.before.before)).loop-test.taken))
     loop_again (λ c. c.loop-first.invariant.3.size ∙ sym (exact (before c.before.before))) returns_2)

@@ -43,15 +43,15 @@ module _ (s : tie.Start) where
 
 claim_single_requires : tie.Need-claim_single-requires
 claim_single_requires c κs =
-    let b = c.before in
-    let w = b.before in
-    let s = w.before.before in
+    let b = c in
+    let w = b in
+    let s = w in
     (record { admits = s.requires.admits; claimable = claimable s; begins = b.begin-place.ensures }, s.requires.one_copy, w.swizzle_of-by.ensures)
 
 returns : tie.Need-returns
 returns c =
-    let k = c.before.before in
-    let s = k.before.before.before.before.before in
+    let k = c in
+    let s = k in
     let claim = k.claim_single.ensures in
     let newly = k.claim_single.result in
     let some : 0 < newly = elim (ℕ_discrete newly 0) [ yes e ↦ absurd (omega (arith, (claim.met e).0, free s)) | no e ↦ omega arith ] in

@@ -118,7 +118,7 @@ loop_holds c =
 
 claim_element_requires : tie.Need-claim_element-newly-requires invariant_loop decreases_loop
 claim_element_requires c κs =
-    let t = c.before.before in
+    let t = c in
     let p = (s t).requires in
     ((record { admits = p.0.admits; claimable = claimable t; begins = begins t }, (k t).before.before.before.before.swizzle-of.ensures), record { adds = p.1.adds; one_each = t.loop-done.invariant.1 ∙ p.1.one_each })
 
@@ -164,7 +164,7 @@ claimed c = c.before.before.before.before.before
 
 returns : tie.Need-returns-then-newly-eq0 invariant_loop decreases_loop
 returns c =
-    let d = c.before.before.before.before.before in
+    let d = c in
     let none = met d c.if-newly-eq0.true in
     record { most = omega (arith, below (turn d)); owned = rw none.1 (turn d).before.loop.invariant.2; met = λ h. none.0 }
 
@@ -193,10 +193,10 @@ pub claim_run_spec : {M : Type 1} → statement M
 claim_run_spec =
     tie.close
     (tie.spec invariant_loop decreases_loop (λ c κs. c.requires.0.admits.whole.all_numbers) loop_holds
-    (λ c. omega (arith, (claimable c).element, (sized (card (s c)) (s c).requires.0.admits.admitted).most-elements)) claim_element_requires
-    (λ c. let d = c.before.before.before.before.before in d.claim_element-newly.auto.row ∙ (turn d).before.loop.invariant.1)
-    (λ c. let d = c.before.before.before.before.before in size d ∙ sym (s (turn d)).pre.0.owned.size)
-    returns (λ c. omega (arith, counted (claimed c), (sized (card (s (turn (claimed c)))) (s (turn (claimed c))).pre.0.admits.admitted).most-cells))
+    (λ c. omega (arith, (claimable c).element, (sized (card (s c)) (s c).requires.0.admits.admitted).most_elements_lem)) claim_element_requires
+    (λ c. let d = c in d.claim_element-newly.auto.row ∙ (turn d).before.loop.invariant.1)
+    (λ c. let d = c in size d ∙ sym (s (turn d)).pre.0.owned.size)
+    returns (λ c. omega (arith, counted (claimed c), (sized (card (s (turn (claimed c)))) (s (turn (claimed c))).pre.0.admits.admitted).most_cells_lem))
     (λ c. level_fits (claimed c)) (λ c. m_fits (claimed c))
-    (λ c. omega (arith, (claimable (turn (claimed c))).element, (sized (card (s (turn (claimed c)))) (s (turn (claimed c))).pre.0.admits.admitted).most-elements)) (λ c. omega (arith, below (turn (claimed c))))
+    (λ c. omega (arith, (claimable (turn (claimed c))).element, (sized (card (s (turn (claimed c)))) (s (turn (claimed c))).pre.0.admits.admitted).most_elements_lem)) (λ c. omega (arith, below (turn (claimed c))))
     loop_again (λ c. c.loop-done.invariant.1) (λ c. c.loop-done.invariant.2.size ∙ sym (start c.before.before).pre.0.owned.size) returns_2)

@@ -64,16 +64,16 @@ module _ (t : tie.In-loop-flat invariant_loop decreases_loop) where
   next = run_next s.args.numbers.now s.args.strides.now many t.before.loop.inv.0 by t.before.loop.inv.1
 
 -- a run whose first element leads
-led : (i : tie.Then-leads invariant_loop decreases_loop) → let t = i.before.before in leader (card (s t)) t.loop-flat.flat ≡ t.loop-flat.flat
+led : (i : tie.Then-leads invariant_loop decreases_loop) → let t = i in leader (card (s t)) t.loop-flat.flat ≡ t.loop-flat.flat
 led i =
-    let t = i.before.before in
+    let t = i in
     eqb-true (leader (card (s t)) t.loop-flat.flat) t.loop-flat.flat (sym (i.leads.ensures (s t).args.strides.now) ∙ i.if-leads.true)
 
-runs : (b : tie.After-begin-start invariant_loop decreases_loop) → let t = b.before.before.before in
+runs : (b : tie.After-begin-start invariant_loop decreases_loop) → let t = b in
     Running (s t).args.numbers.now (s t).args.strides.now b.begin-start.result t.added-step.result
     (record { first = record { 0 = t.loop-flat.flat }; length = many t }) t.loop-flat.table
 runs b =
-    let t = b.before.before.before in
+    let t = b in
     let l = t.loop-flat in
     running (s t).args.numbers.now (s t).args.strides.now (admits (s t).requires.0.0) (s t).requires.1.0 (many t) l.invariant.0 (by t) t.added-step.ensures
     l.flat l.invariant.1 (an_element t) (led b.before) b.begin-start.ensures (owned_as (card (s t)) refl l.invariant.4.counted l.invariant.4)
@@ -122,7 +122,7 @@ loop_holds c =
     (0, sym (zero-mul c.run_length-length.result), omega arith, refl, rw s.pre.1.1 (claims_none (card s)))
 
 run_length_requires : tie.Need-run_length-length-requires invariant_loop decreases_loop
-run_length_requires c κs = let s = c.before.before.before in (admits s.requires.0.0, c.has_marks-marked.ensures s.args.strides.now)
+run_length_requires c κs = let s = c in (admits s.requires.0.0, c.has_marks-marked.ensures s.args.strides.now)
 
 added_requires : tie.Need-added-step-requires invariant_loop decreases_loop
 added_requires c κs = (admits c.requires.0.0, omega arith)
@@ -133,13 +133,13 @@ leads_requires c κs =
 
 claim_run_requires : tie.Need-claim_run-claimed-requires invariant_loop decreases_loop
 claim_run_requires c κs =
-    let b = c.before.before in
-    let t = b.before.before.before in
-    (runs b, record { adds = (s t).requires.0.1.adds; one_each = t.loop-flat.invariant.3 ∙ (s t).requires.0.1.one_each })
+    let b = c in
+    let t = b in
+    (runs b.before.before, record { adds = (s t).requires.0.1.adds; one_each = t.loop-flat.invariant.3 ∙ (s t).requires.0.1.one_each })
 
 refuse_clash_requires : tie.Need-refuse_clash-requires invariant_loop decreases_loop
 refuse_clash_requires c κs =
-    let m = c.before.before in
+    let m = c in
     let r = met_run m in
     let p = (s (turn r)).pre in
     record {
@@ -151,8 +151,8 @@ refuse_clash_requires c κs =
 
 returns : tie.Need-returns-then-claimed-length invariant_loop decreases_loop
 returns c =
-    let f = c.before.before.before.before in
-    let m = f.before.before.before in
+    let f = c in
+    let m = f in
     let r = met_run m in
     let short = m.if-claimed-length.true in
     let q = s (turn r) in
@@ -179,7 +179,7 @@ loop_again c =
 -- a run whose first element follows is of one element, which claims nothing
 loop_again_2 : tie.Need-loop-flat-preserved invariant_loop decreases_loop
 loop_again_2 c =
-    let t = c.before.before in
+    let t = c in
     let l = t.loop-flat in
     let follows : leader (card (s t)) l.flat ≡ l.flat → ⊥ =
     λ e. true≢false (sym (eq-eqb (leader (card (s t)) l.flat) l.flat e) ∙ sym (c.leads.ensures (s t).args.strides.now) ∙ c.if-leads.false) in
@@ -200,7 +200,7 @@ returns_2 c =
     (rw finish at l.invariant.4) q.pre.0.0.all_elements l.invariant.4.size
 
 small : (t : tie.In-loop-flat invariant_loop decreases_loop) → elements (card (s t)) ≤ most_elements
-small t = (sized (card (s t)) (admits (s t).requires.0.0).admitted).most-elements
+small t = (sized (card (s t)) (admits (s t).requires.0.0).admitted).most_elements_lem
 
 pub claim_runs_spec : {M : Type 1} → statement M
 claim_runs_spec =
@@ -208,10 +208,10 @@ claim_runs_spec =
     (tie.spec invariant_loop decreases_loop (λ c κs. listed c.requires.0.0) run_length_requires added_requires loop_holds (λ c. omega (arith, end c, small c)) leads_requires
     (λ c κs. admits (s c.before.before).pre.0.0) claim_run_requires
     (λ c. omega (arith, end (turn (met_run c)), small (turn (met_run c)), c.if-claimed-length.true)) refuse_clash_requires
-    (λ c. let f = c.before.before.before.before in f.refuse_clash.auto.row ∙ kept (met_run f.before.before.before))
-    (λ c. let f = c.before.before.before.before in let r = met_run f.before.before.before in f.refuse_clash.auto.table ∙ size r ∙ sym (exact (s (turn r))))
+    (λ c. let f = c in f.refuse_clash.auto.row ∙ kept (met_run f.before.before.before))
+    (λ c. let f = c in let r = met_run f.before.before.before in f.refuse_clash.auto.table ∙ size r ∙ sym (exact (s (turn r))))
     returns
-    (λ c. omega (arith, counted (claimed_run c), (sized (card (s (turn (claimed_run c)))) (admits (s (turn (claimed_run c))).pre.0.0).admitted).most-cells))
+    (λ c. omega (arith, counted (claimed_run c), (sized (card (s (turn (claimed_run c)))) (admits (s (turn (claimed_run c))).pre.0.0).admitted).most_cells_lem))
     (λ c. omega (arith, (by (turn (claimed_run c))).some, (turn (claimed_run c)).loop-test.taken)) loop_again
     (λ c. omega (arith, (by c.before.before).some, c.loop-flat-test.true)) loop_again_2
     (λ c. c.loop-flat.invariant.3) (λ c. c.loop-flat.invariant.4.size ∙ sym (exact (before c.before.before))) returns_2)

@@ -124,7 +124,7 @@ loop_again c =
 returns_2 : tie.Need-returns invariant_loop decreases_loop
 returns_2 c e =
     let l = c.loop-done in
-    let d = c.before.before in
+    let d = c in
     let a = (s d).args in
     let end : l.done ≡ a.many = omega arith in
     subst (λ (p : LevelAndM). Lined (line_cell a.by p a.step) (λ j. a.first + j) a.many a.table.now l.table) (start_is d)

@@ -93,8 +93,8 @@ claim_stretch_requires c κs = rw (back c) (there c)
 
 returns : tie.Need-returns-then-many-by
 returns c e =
-    let r = c.before.before in
-    let d = r.before in
+    let r = c in
+    let d = r in
     let a = (q d).args in
     lined_as (λ j. begin d + j) (line_cell a.by a.start a.step) (λ j. a.first.0 + j) a.many
     (λ j h. stretch_cell a.by a.start a.step a.first.0 a.many a.table.now (q d).requires (straight (told d) (tested d)) (one (told d) (tested d)) j)

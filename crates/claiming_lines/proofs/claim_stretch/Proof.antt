@@ -17,8 +17,8 @@ returns c e = absurd (true≢false (sym e))
 
 number_requires : tie.Need-number-requires
 number_requires c κs =
-    let i = c.before.before in
-    (i.requires, i.is_free.ensures (not-false _ c.if-not-is_free.false))
+    let i = c in
+    (i.requires, i.is_free.ensures (c.if-not-is_free.false))
 
 pub claim_stretch_spec : {M : Type 1} → statement M
 claim_stretch_spec =

@@ -16,7 +16,7 @@ decreases_loop table from many free₀ k₀ free k = many - k
 
 loop_again : tie.Need-loop-k-preserved invariant_loop decreases_loop
 loop_again c =
-    let t = c.before in
+    let t = c in
     let a = t.args in
     let l = t.loop-k in
     (omega (arith, t.loop-k-test.true), free_more a.table.now a.from l.k l.free l.invariant.1)

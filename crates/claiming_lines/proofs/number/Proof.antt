@@ -16,7 +16,7 @@ decreases_loop table₀ from many first entry k₀ table k = many - k
 
 loop_again : tie.Need-loop-k-preserved invariant_loop decreases_loop
 loop_again c =
-    let s = c.before.before in
+    let s = c in
     let a = s.args in
     let l = c.loop-k in (
       omega arith,

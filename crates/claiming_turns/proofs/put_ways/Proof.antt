@@ -26,7 +26,7 @@ loop_holds c = (omega arith, ways_none c.args.numbers.now c.args.strides.now c.a
 
 way_requires : tie.Need-way-step-requires invariant_loop decreases_loop
 way_requires c κs =
-    let s = c.before.before in
+    let s = c in
     let w = walkable_shard s.args.numbers.now s.args.strides.now s.requires.0 in
     (s.requires.0, omega (arith, c.loop-k-test.true, s.requires.1.most, iters_count s.args.numbers.now s.args.strides.now w.of.few))
 
@@ -35,10 +35,10 @@ below c = omega (arith, c.loop-k-test.true, few c.before.before.before.before.be
 
 loop_again : tie.Need-loop-k-preserved invariant_loop decreases_loop
 loop_again c =
-    let y = c.before.before in
-    let t = y.before in
+    let y = c in
+    let t = y in
     let l = t.loop-k in
-    let s = t.before.before in
+    let s = t in
     let p = y.way-step.result in (
       omega (arith, t.loop-k-test.true),
       rw (to_z-of_z {w = w64} {z = p.level} (record { sfits = c.struct_told-in-loop-k-1.given.0.1 }), to_z-of_z {w = w64} {z = p.m} (record { sfits = c.struct_told-in-loop-k-1.given.1.0.1 }))

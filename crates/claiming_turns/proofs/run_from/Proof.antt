@@ -45,14 +45,14 @@ loop_holds c = (omega arith, λ strides. let numbers = c.args.numbers.now in all
 
 returns : tie.Need-returns-then-numbers-k-ne1 invariant_loop decreases_loop
 returns c strides =
-    let t = c.before.before in
+    let t = c in
     slower_run (shard_iters (numbers t strides) strides) (j t strides) (below t strides) (before_it t strides) (λ e. c.if-numbers-k-ne1.true (sym (extent_is t strides) ∙ e))
 
 loop_again : tie.Need-loop-k-preserved invariant_loop decreases_loop
 loop_again c = (
   omega (arith, c.loop-k.invariant.0),
   λ strides.
-      let t = c.before.before in
+      let t = c in
       ones_more (shard_iters (numbers t strides) strides) (j t strides) (below t strides) (before_it t strides) (extent_is t strides ∙ c.if-numbers-k-ne1.false),
 )
 

@@ -40,7 +40,7 @@ alike e d = ap₂ (λ (x y : ℤ). record { level = x; m = y }) e d
 
 loop_holds : tie.Need-loop-k-init invariant_loop decreases_loop
 loop_holds c =
-    let s = c.before.before in
+    let s = c in
     let a = s.args in (
       omega arith,
       subst (DigitsAt a.numbers.now a.strides.now a.digits.now)
@@ -180,16 +180,16 @@ back_requires_2 c κs = rw (m_step_read c) (back_m (t3 (first c)))
 
 loop_again : tie.Need-loop-k-preserved invariant_loop decreases_loop
 loop_again c =
-    let e = c.before in
-    let b = e.before in
-    let f = b.before in
+    let e = c in
+    let b = e in
+    let f = b in
     let t = t3 f in
     let full : get_or (iter_extents (l t)) (j t) 0 ≤ digit t + 1 = omega (arith, extent_is t, f.if-digit-numbers.false) in
     let index = index_back (numbers t) (strides t) (digits t) (here t) (j t) (below t) t.before.loop.inv.1 (adds t) full in (
       omega (arith, t.before.loop.inv.0),
       turn_back (numbers t) (strides t) (digits t) (here t) (j t) (below t) t.before.loop.inv.1 (adds t)
-          (ap (λ (z : ℤ). z +ℤ pos (digit t) *ℤ (way t).level) (to_z-of_z {w = w64} {z = b.back-level.result} (record { sfits = b.back-level.type-inv })) ∙ rw (step_read f) at b.back-level.ensures)
-          (ap (λ (z : ℤ). z +ℤ pos (digit t) *ℤ (way t).m) (to_z-of_z {w = w64} {z = c.back-m.result} (record { sfits = c.back-m.type-inv })) ∙ rw (m_step_read e) at c.back-m.ensures),
+          (ap (λ (z : ℤ). z +ℤ pos (digit t) *ℤ (way t).level) (to_z-of_z {w = w64} {z = b.back-level.result} (record { sfits = b.back-level.type_inv })) ∙ rw (step_read f) at b.back-level.ensures)
+          (ap (λ (z : ℤ). z +ℤ pos (digit t) *ℤ (way t).m) (to_z-of_z {w = w64} {z = c.back-m.result} (record { sfits = c.back-m.type_inv })) ∙ rw (m_step_read e) at c.back-m.ensures),
       length-set (digits t) (j t) 0 ∙ t.before.loop.inv.2,
       omega (arith, index, after_is t, t.before.loop.inv.3),
     )

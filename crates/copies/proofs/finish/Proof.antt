@@ -41,7 +41,7 @@ loop_again c =
 returns : tie.Need-returns invariant_loop decreases_loop
 returns c =
     let l = c.loop-axis in
-    let s = c.before.before in
+    let s = c in
     let sums = s.args.sums.now in
     let f = l.invariant.1 in
     let long : length (map on_axis sums) ≡ 8 = length-map sums on_axis ∙ s.requires.0 in

@@ -11,8 +11,8 @@ use Rattle.copies.proofs.locate.Tie as tie
 
 returns : tie.Need-returns
 returns c =
-    let n = c.before in
-    let s = n.before.before in
+    let n = c in
+    let s = n in
     let a = s.args in
     let xs = take a.count a.coordinates.now in
     let same : 0 + a.count ≡ a.count = omega arith in

@@ -36,13 +36,13 @@ loop_holds c =
     (omega arith, subst (λ (i : ℕ). Numbering (sizes c) (coordinates c) (left c i) (coordinates c) 0 0) here (numbering_none (sizes c) (coordinates c) c.requires.0.some))
 
 -- the size and the coordinate of a turn, apart from those that are left after it
-turn : (c : tie.In-loop-k invariant_loop decreases_loop) → let s = c.before.before in
+turn : (c : tie.In-loop-k invariant_loop decreases_loop) → let s = c in
     let a = s.args in
     let k = c.loop-k.k in
     Numbering (sizes s) (coordinates s) (get_or a.sizes.now (a.from + k) 0 ∷ left s (a.from + (k + 1)))
     (get_or a.coordinates.now k 0 ∷ slice (k + 1) a.count a.coordinates.now) k c.loop-k.number
 turn c =
-    let s = c.before.before in
+    let s = c in
     let a = s.args in
     let k = c.loop-k.k in
     let on : a.from + k + 1 ≡ a.from + (k + 1) = omega arith in
@@ -57,10 +57,10 @@ abbrev met : tie.Else-size-coordinate invariant_loop decreases_loop → tie.In-l
 met c = c.before.before.before
 
 shared_slice_read_size : tie.Need-bounds-sizes-from invariant_loop decreases_loop
-shared_slice_read_size c = let s = c.before.before.before in omega (arith, s.requires.0.there)
+shared_slice_read_size c = let s = c in omega (arith, s.requires.0.there)
 
 returns : tie.Need-returns-then-size-coordinate invariant_loop decreases_loop
-returns c = sym (ap number_of (numbering_past _ _ _ _ _ _ (turn c.before.before.before) c.if-size-coordinate.true))
+returns c = sym (ap number_of (numbering_past _ _ _ _ _ _ (turn c.before.before.before.before) c.if-size-coordinate.true))
 
 mul_number : tie.Need-overflow_mul-number invariant_loop decreases_loop
 mul_number c = omega (arith, numbering_room _ _ _ _ _ _ (turn (met c)) c.if-size-coordinate.false, (met c).before.before.requires.0.small)
@@ -73,7 +73,7 @@ loop_again c = (omega arith, numbering_more _ _ _ _ _ _ (turn (met c)) c.if-size
 
 returns_2 : tie.Need-returns invariant_loop decreases_loop
 returns_2 c =
-    let s = c.before.before in
+    let s = c in
     let a = s.args in
     let l = c.loop-k in
     let end : l.k ≡ a.count = omega arith in

@@ -40,16 +40,16 @@ copy_number_requires c κs = c.requires
 
 loop_again : tie.Need-loop-combination-preserved invariant_loop decreases_loop
 loop_again c =
-    let p = c.before in
-    let n = p.before in
-    let t = n.before in
+    let p = c in
+    let n = p in
+    let t = n in
     let l = t.loop-combination in
-    let s = t.before.before.before.before in
+    let s = t in
     let here = at s l.combination in (
       omega arith,
       rw (
-        c.smaller-outside.ensures ∙ ap (min l.outside) (p.axis_from.ensures ∙ axis_from_lem here (small s l.combination) t.copy_number-number.ensures),
-        n.cell_from.ensures ∙ cell_from_lem here (small s l.combination) t.copy_number-number.ensures,
+        c.smaller-outside.ensures ∙ ap (min l.outside) (p.axis_from.ensures ∙ axis_from_lem here (small s.before.before.before.before.before.before.before l.combination) t.copy_number-number.ensures),
+        n.cell_from.ensures ∙ cell_from_lem here (small s.before.before.before.before.before.before.before l.combination) t.copy_number-number.ensures,
       )
           (filling_more (λ r. spot_at (at s r)) s.args.row.now l.combination (omega arith) l.invariant.1),
     )
@@ -57,7 +57,7 @@ loop_again c =
 returns : tie.Need-returns invariant_loop decreases_loop
 returns c =
     let l = c.loop-combination in
-    let s = c.before.before.before in
+    let s = c in
     let end : l.combination ≡ length s.args.row.now = omega arith in
     filling_all (λ r. spot_at (at s r)) s.args.row.now (rw end at l.invariant.1)
 

@@ -11,13 +11,13 @@ use Rattle.copies.proofs.spot_at.Statement.{statement}
 use Rattle.copies.proofs.spot_at.Tie as tie
 
 number_among_requires : tie.Need-number_among-requires
-number_among_requires c κs = let s = c.before in (space_numerable s.args.numbers.now (search rules) s.requires.0, s.requires.1)
+number_among_requires c κs = let s = c in (space_numerable s.args.numbers.now (search rules) s.requires.0, s.requires.1)
 
-found : (c : tie.After-position_from) → let s = c.before.before.before in
+found : (c : tie.After-position_from) → let s = c in
     position (slice 32 40 s.args.numbers.now) s.args.coordinates.now ≡ c.position_from.result
 found c =
-    let n = c.before in
-    let s = n.before.before in
+    let n = c in
+    let s = n in
     let lengths = slice 32 40 s.args.numbers.now in
     let room = roomed lengths s.requires.0 in
     sym

@@ -59,26 +59,26 @@ module _ (c : tie.After-cell_at-arg-in-loop-combination-1 invariant_loop decreas
 
 add_cell_at : tie.Need-overflow_add-level invariant_loop decreases_loop
 add_cell_at c =
-    let t = c.before in
+    let t = c in
     let s = start t in
     let k = t.loop-combination.combination in
     sum_fits s.args.level (get_or s.args.levels.now k (pos 0)) s.fits.level (record { sfits = c.cell_at-arg-1.given })
-    s.pre.near (s.pre.levels_near k (below t))
+    s.pre.near (s.pre.levels_near k (below t.before))
 
 add_cell_at_2 : tie.Need-overflow_add-m invariant_loop decreases_loop
 add_cell_at_2 c =
-    let t = c.before.before in
+    let t = c in
     let s = start t in
     let k = t.loop-combination.combination in
     sum_fits s.args.m (get_or s.args.ms.now k (pos 0)) s.fits.m (record { sfits = c.cell_at-arg-in-loop-combination-1.given })
-    s.pre.m_near (s.pre.ms_near k (below t))
+    s.pre.m_near (s.pre.ms_near k (below t.before.before))
 
 cell_at_requires : tie.Need-cell_at-cell-requires invariant_loop decreases_loop
 cell_at_requires c κs =
-    let t = c.before.before in
+    let t = c in
     rw (level_back c, m_back c)
     (subst (λ (w : Swizzle). CellThere w ((s c).args.level +ℤ get_or (s c).args.levels.now (k c) (pos 0)) ((s c).args.m +ℤ get_or (s c).args.ms.now (k c) (pos 0)))
-    (sym t.swizzle_of-by.ensures) ((start t).requires.cells (k c) (below t)))
+    (sym t.swizzle_of-by.ensures) ((start t).requires.cells (k c) (below t.before.before)))
 
 -- the cell that was found
 module _ (f : tie.After-cell_at-cell invariant_loop decreases_loop) where
@@ -102,23 +102,23 @@ module _ (f : tie.After-cell_at-cell invariant_loop decreases_loop) where
 
 loop_again : tie.Need-loop-combination-preserved invariant_loop decreases_loop
 loop_again c =
-    let f = c.before in
-    let d = f.before in
-    let t = d.before.before in
+    let f = c in
+    let d = f in
+    let t = d in
     let s = start t in
     let l = t.loop-combination in
     let a = s.args in
     let level_is = to_z-of_z s.fits.level in
     let m_is = to_z-of_z s.fits.m in (
-      omega (arith, below t),
+      omega (arith, below t.before.before.before.before),
       filled_more a.numbers.now (to_z w64 (of_z w64 a.level)) (to_z w64 (of_z w64 a.m)) a.levels.now a.ms.now a.row.now l.row l.combination f.Cell-at.result.0
-          (below t) l.invariant.1 (rw (level_is, m_is) (found f)),
+          (below t.before.before.before.before) l.invariant.1 (rw (level_is, m_is) (found f)),
     )
 
 returns : tie.Need-returns invariant_loop decreases_loop
 returns c =
     let l = c.loop-combination in
-    let s = c.before.before.before.before in
+    let s = c in
     let end : l.combination ≡ length s.args.row.now = omega (arith, l.invariant.1.size) in
     rw (to_z-of_z s.ranges.level, to_z-of_z s.ranges.m, end) at l.invariant.1
 

@@ -50,7 +50,7 @@ loop_again c =
 returns : tie.Need-returns invariant_loop decreases_loop
 returns c =
     let l = c.loop-combination in
-    let s = c.before.before in
+    let s = c in
     let end : l.combination ≡ length s.args.levels.now = omega (arith, l.invariant.1.levels_size) in
     rw end at l.invariant.1
 

@@ -51,12 +51,12 @@ loop_holds c = (omega arith, λ strides. ap run_length (slice_empty (get_or c.ar
 
 returns : tie.Need-returns-then-extent-ne1 invariant_loop decreases_loop
 returns c strides =
-    let t = c.before.before in
+    let t = c in
     let numbers = t.args.numbers.now in
-    sym (run_behind (t.loop-k.k - 1) (from numbers strides 0) (λ e. c.if-extent-ne1.true (sym (turn t strides) ∙ e)) ∙ turn t strides)
+    sym (run_behind (t.loop-k.k - 1) (from numbers strides 0) (λ e. c.if-extent-ne1.true (sym (turn t.before.before.before strides) ∙ e)) ∙ turn t.before.before.before strides)
 
 loop_again : tie.Need-loop-k-preserved invariant_loop decreases_loop
-loop_again c = (omega arith, λ strides. turn c.before.before strides ∙ c.if-extent-ne1.false)
+loop_again c = (omega arith, λ strides. turn c.before.before.before strides ∙ c.if-extent-ne1.false)
 
 returns_2 : tie.Need-returns invariant_loop decreases_loop
 returns_2 c strides =

@@ -41,13 +41,13 @@ met c = let a = c.before.before.before.args in iter_at a.numbers.now a.strides.n
 
 turn : (c : tie.In-loop-k invariant_loop decreases_loop) → Meets (met c)
 turn c =
-    let s = c.before.before.before in
+    let s = c in
     meets s.args.numbers.now s.args.strides.now s.args.list s.requires.0 (c.loop-k.k - 1) (omega arith)
 
 -- the sum on its axis so far is not far from zero
 sum_so_far : (c : tie.In-loop-k invariant_loop decreases_loop) → nat_abs (get_or c.loop-k.sums (met c).axis (pos 0)) ≤ 2 * roomy
 sum_so_far c =
-    let s = c.before.before.before in
+    let s = c in
     let a = s.args in
     let l = c.loop-k in
     let axis = (met c).axis in
@@ -72,18 +72,18 @@ stride_back c = to_z-of_z (record { sfits = c.step-arg-in-loop-k-1.given })
 
 loop_holds : tie.Need-loop-k-init invariant_loop decreases_loop
 loop_holds c =
-    let s = c.before in
+    let s = c in
     let a = s.args in
     (le_refl (counted s), walking_none (slots_of s) (counted s) a.index a.sums.now s.requires.1.eight)
 
 mul_step : tie.Need-offset_bounds-sums-axis invariant_loop decreases_loop
-mul_step c = let t = turn c.before.before in omega (arith, t.an_axis)
+mul_step c = let t = turn c.before.before.before in omega (arith, t.an_axis)
 
 element_copy_out_step : tie.Need-bounds-sums-axis invariant_loop decreases_loop
-element_copy_out_step c = let t = turn c.before.before in omega (arith, t.an_axis)
+element_copy_out_step c = let t = turn c.before.before.before in omega (arith, t.an_axis)
 
 rem_step : tie.Need-nonzero_rem-rest invariant_loop decreases_loop
-rem_step c = (turn c.before.before.before).some_extent
+rem_step c = (turn c.before.before.before.before).some_extent
 
 step_requires : tie.Need-step-sum-requires invariant_loop decreases_loop
 step_requires c κs =
@@ -92,17 +92,17 @@ step_requires c κs =
     rw (sum_back c, stride_back c)
     (record {
       small_component = omega (arith, small);
-      room = omega (arith, sum_so_far d, mul-le-mul {n₂ = most_extent} {m₂ = farthest} small (turn d).most-stride);
+      room = omega (arith, sum_so_far d, mul-le-mul {n₂ = most_extent} {m₂ = farthest} small (turn d).most_stride_lem);
     })
 
 mul_sum : tie.Need-offset_bounds-sums-axis-in-loop-k invariant_loop decreases_loop
-mul_sum c = let t = turn c.before.before.before.before.before in omega (arith, t.an_axis)
+mul_sum c = let t = turn c.before.before.before.before.before.before in omega (arith, t.an_axis)
 
 element_set_from_sum : tie.Need-bounds-sums-axis-in-loop-k invariant_loop decreases_loop
-element_set_from_sum c = let t = turn c.before.before.before.before.before in omega (arith, t.an_axis)
+element_set_from_sum c = let t = turn c.before.before.before.before.before.before in omega (arith, t.an_axis)
 
 div_rest : tie.Need-nonzero_div-rest invariant_loop decreases_loop
-div_rest c = (turn c.before.before.before.before.before).some_extent
+div_rest c = (turn c.before.before.before.before.before.before).some_extent
 
 loop_again : tie.Need-loop-k-preserved invariant_loop decreases_loop
 loop_again c =
@@ -113,7 +113,7 @@ loop_again c =
     let j = l.k - 1 in
     let back : l.k ≡ j + 1 = omega arith in
     let walking = subst (λ (k : ℕ). Walking (slots_of s) (counted s) a.index a.sums.now k l.rest l.sums) back l.inv.1 in
-    let new = to_z-of_z {w = w64} {z = c.step-sum.result} (record { sfits = c.step-sum.type-inv }) ∙ rw (sum_back c.before, stride_back c.before) at c.step-sum.ensures in (
+    let new = to_z-of_z {w = w64} {z = c.step-sum.result} (record { sfits = c.step-sum.type_inv }) ∙ rw (sum_back c.before, stride_back c.before) at c.step-sum.ensures in (
       omega arith,
       rw new
           (walking_more (slots_of s) (counted s) a.index a.sums.now j l.rest (met d)
@@ -123,7 +123,7 @@ loop_again c =
 returns : tie.Need-returns invariant_loop decreases_loop
 unfolding walked
 returns c =
-    let s = c.before.before.before in
+    let s = c in
     let l = c.loop-k in
     let end : l.k ≡ 0 = omega arith in
     walked_all (slots_of s) (counted s) s.args.index s.args.sums.now (rw end at l.invariant.1)

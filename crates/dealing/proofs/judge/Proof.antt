@@ -22,7 +22,7 @@ returns : tie.Need-returns-then-is_wrong invariant_loop decreases_loop
 returns c =
     let a = c.args in
     let l = c.loop-n in
-    sym (judged_at a.kind a.computation (entry Empty a.t3) l.n c.loop-n-test.true l.invariant.1
+    sym (judged_at a.kind a.computation (entry Empty a.lanes) l.n c.loop-n-test.true l.invariant.1
     (sym c.is_wrong.ensures ∙ c.if-is_wrong.true))
 
 loop_again : tie.Need-loop-n-preserved invariant_loop decreases_loop
@@ -30,7 +30,7 @@ loop_again c =
     let a = c.args in
     let l = c.loop-n in (
       omega arith,
-      none_next (is_wrong a.kind a.computation (entry Empty a.t3)) l.n l.invariant.1 (sym c.is_wrong.ensures ∙ c.if-is_wrong.false),
+      none_next (is_wrong a.kind a.computation (entry Empty a.lanes)) l.n l.invariant.1 (sym c.is_wrong.ensures ∙ c.if-is_wrong.false),
     )
 
 returns_2 : tie.Need-returns invariant_loop decreases_loop
@@ -38,7 +38,7 @@ returns_2 c =
     let a = c.args in
     let l = c.loop-n in
     let end : l.n ≡ 256 = omega (arith, l.invariant.0, c.loop-n-test.false) in
-    sym (judged_done a.kind a.computation (entry Empty a.t3) (rw end at l.invariant.1))
+    sym (judged_done a.kind a.computation (entry Empty a.lanes) (rw end at l.invariant.1))
 
 pub judge_spec : {M : Type 1} → statement M
 judge_spec =

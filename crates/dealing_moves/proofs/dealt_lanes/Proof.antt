@@ -17,19 +17,19 @@ abbrev decreases_loop : tie.decreases-loop-lane
 decreases_loop kind computation tile given lanes₀ lane₀ lanes lane = 32 - lane
 
 loop_holds : tie.Need-loop-lane-init invariant_loop decreases_loop
-loop_holds c = anew_none [] 32 _ c.args.t4 (search rules)
+loop_holds c = anew_none [] 32 _ c.args.given (search rules)
 
 loop_again : tie.Need-loop-lane-preserved invariant_loop decreases_loop
 loop_again c =
     let a = c.args in
     let l = c.loop-lane in
-    anew_next [] 32 (λ row. each (dealt_entry Empty a.kind a.computation a.tile row)) a.t4 l.lanes l.lane c.dealt_lane.result l.invariant c.loop-lane-test.true c.dealt_lane.ensures
+    anew_next [] 32 (λ row. each (dealt_entry Empty a.kind a.computation a.tile row)) a.given l.lanes l.lane c.dealt_lane.result l.invariant c.loop-lane-test.true c.dealt_lane.ensures
 
 returns : tie.Need-returns invariant_loop decreases_loop
 returns c =
     let a = c.args in
     let l = c.loop-lane in
-    anew_all [] 32 (λ row. each (dealt_entry Empty a.kind a.computation a.tile row)) a.t4 l.lanes l.lane l.invariant c.loop-lane-test.false
+    anew_all [] 32 (λ row. each (dealt_entry Empty a.kind a.computation a.tile row)) a.given l.lanes l.lane l.invariant c.loop-lane-test.false
 
 pub dealt_lanes_spec : {M : Type 1} → statement M
 dealt_lanes_spec =

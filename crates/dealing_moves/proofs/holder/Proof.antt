@@ -26,11 +26,11 @@ inside c =
 
 returns : tie.Need-returns-in-Slot
 returns c =
-    let k = c.before.before in
+    let k = c in
     let a = k.args in
     let s : Slot = k.in-Slot.slot in
-    sym (rw (stays_inside a.kind s (at a.computation a.row a.column) (held k))
-    (ap (λ (t : Slot). 8 * t.lane + t.register) (leads_back a.kind s (at a.computation a.row a.column) (held k))))
+    sym (rw (stays_inside a.kind s (at a.computation a.row a.column) (held k.before.before))
+    (ap (λ (t : Slot). 8 * t.lane + t.register) (leads_back a.kind s (at a.computation a.row a.column) (held k.before.before))))
 
 returns_2 : tie.Need-returns-in-Refused
 returns_2 c =

@@ -8,31 +8,31 @@ use Rattle.dealing_moves.proofs.matrix_source.Tie as tie
 
 past : tie.Need-returns-then-i-gt1
 past c =
-    let s = c.before.before in
+    let s = c in
     let a = s.args in
     sym (source_past a.kind a.computation a.lane a.i (omega (arith, s.requires.0, c.if-kind-eq5.false)) c.if-i-gt1.true)
 
 of_6 : tie.Need-returns-then-kind-eq6
 of_6 c =
-    let s = c.before.before.before.before in
+    let s = c in
     let a = s.args in
     rw c.if-kind-eq6.true (c.double_source.ensures ∙ sym (source_6 a.computation a.lane a.i s.requires.1))
 
 of_7 : tie.Need-returns-then-kind-eq7
 of_7 c =
-    let s = c.before.before.before.before.before in
+    let s = c in
     let a = s.args in
     rw c.if-kind-eq7.true (c.double_source-then-kind-eq7.ensures ∙ sym (source_7 a.computation a.lane a.i s.requires.1))
 
 of_8 : tie.Need-returns-then-kind-eq8
 of_8 c =
-    let s = c.before.before.before.before.before.before in
+    let s = c in
     let a = s.args in
     rw c.if-kind-eq8.true (c.double_source-then-kind-eq8.ensures ∙ sym (source_8 a.computation a.lane a.i s.requires.1))
 
 unknown : tie.Need-returns
 unknown c =
-    let s = c.before.before.before.before.before in
+    let s = c in
     let a = s.args in
     sym (source_unknown a.kind a.computation a.lane a.i
     (omega (arith, s.requires.0, c.if-kind-eq5.false, c.if-kind-eq6.false, c.if-kind-eq7.false, c.if-kind-eq8.false)))

@@ -22,17 +22,17 @@ inside c = let a = c.args in place_in_tile a.kind a.lane a.i c.in-Place.place (h
 
 returns : tie.Need-returns-then-place-computation
 returns c =
-    let k = c.before.before.before in
+    let k = c in
     let a = k.args in
     let p : Place = k.in-Place.place in
-    sym (rw (own_held a.kind a.computation a.lane a.i p (held k) ∙ eq-eqb _ _ c.if-place-computation.true)
-    (ap (λ (q : Place). 8 * q.row + q.column) (answered a.kind (by a.lane a.i) p (held k)).1))
+    sym (rw (own_held a.kind a.computation a.lane a.i p (held k.before.before.before) ∙ eq-eqb _ _ c.if-place-computation.true)
+    (ap (λ (q : Place). 8 * q.row + q.column) (answered a.kind (by a.lane a.i) p (held k.before.before.before)).1))
 
 returns_2 : tie.Need-returns-else-place-computation
 returns_2 c =
-    let k = c.before in
+    let k = c in
     let a = k.args in
-    rw (own_held a.kind a.computation a.lane a.i k.in-Place.place (held k) ∙ ne_eqb _ _ c.if-place-computation.false)
+    rw (own_held a.kind a.computation a.lane a.i k.in-Place.place (held k.before) ∙ ne_eqb _ _ c.if-place-computation.false)
 
 returns_3 : tie.Need-returns-in-Refused
 returns_3 c =

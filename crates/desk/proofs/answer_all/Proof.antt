@@ -23,9 +23,9 @@ slice_aggregate_answer_whole_3 c = sym c.before.before.before.before.before.befo
 
 loop_again : tie.Need-loop-turns-preserved invariant_loop decreases_loop
 loop_again c =
-    let w = c.before.before.before.before in
+    let w = c in
     let kept = w.answer_whole-at.auto.1.1.1.1.1 in
-    let inv = w.before.before.before.before.before.before.before.before.before.before.before.before.before.loop.invariant in
+    let inv = w.loop-turns.invariant in
     (kept.0 ∙ inv.0, (kept.1.0 ∙ inv.1.0, kept.1.1.0 ∙ inv.1.1))
 
 pub answer_all_spec : {M : Type 1} → statement M

@@ -26,12 +26,12 @@ bounds c =
 
 -- the last arm is that of kind 8
 last : (c : tie.In_default) → c.args.kind ≡ 8
-last c = let b = bounds c.before in omega (arith, none_below 8 c.args.kind c.in_default.rest)
+last c = let b = bounds c.before in omega (arith, none_below 8 c.args.kind c.in_default.in_default-own.rest)
 
 -- the arm of kind 1
 column_major : tie.Need-returns-in-1
 unfolding computation place
-column_major c = arm c.before.before.before 1 _ c.in-1.keys2 (rw (c.at-in-1.ensures, c.high-h.ensures))
+column_major c = arm c.before.before.before 1 _ c.in-1.is (rw (c.at-in-1.ensures, c.high-h.ensures))
 
 pub place_held_spec : {M : Type 1} → statement M
 unfolding computation place
@@ -39,14 +39,14 @@ place_held_spec =
     tie.close
     (tie.spec (λ c κs. tt) (λ c. let b = bounds c.before in omega arith) (λ c κs. tt) (λ c. let b = bounds c.before in omega arith) (λ c κs. tt)
     (λ c. let b = bounds c.before in omega arith) (λ c κs. tt) (λ c. let b = bounds c.before in omega arith) (λ c κs. tt)
-    (λ c. let b = bounds c.before in omega arith) (λ c κs. tt) (λ c κs. rw c.in-5.keys6 at c.requires) (λ c κs. tt) (λ c κs. tt)
+    (λ c. let b = bounds c.before in omega arith) (λ c κs. tt) (λ c κs. rw c.in-5.is at c.requires) (λ c κs. tt) (λ c κs. tt)
     (λ c. omega arith) (λ c. let b = bounds c.before in omega arith) (λ c κs. tt)
-    (λ c. arm c.before.before.before 0 _ c.in-0.keys1 (rw (c.at.ensures, c.high-h.ensures)))
+    (λ c. arm c.before.before.before 0 _ c.in-0.is (rw (c.at.ensures, c.high-h.ensures)))
     column_major
-    (λ c. arm c.before.before.before 2 _ c.in-2.keys3 (rw (c.at-in-2.ensures, c.high-h.ensures)))
-    (λ c. arm c.before.before.before 3 _ c.in-3.keys4 (rw (c.at-in-3.ensures, c.high-h.ensures)))
-    (λ c. arm c.before.before.before 4 _ c.in-4.keys5 (rw (c.at-in-4.ensures, c.high-h.ensures)))
-    (λ c. arm c.before.before.before 5 _ c.in-5.keys6 c.accumulator_place.ensures)
-    (λ c. arm c.before.before.before 6 _ c.in-6.keys7 c.at-in-6.ensures)
-    (λ c. arm c.before.before.before 7 _ c.in-7.keys8 c.at-in-7.ensures)
+    (λ c. arm c.before.before.before 2 _ c.in-2.is (rw (c.at-in-2.ensures, c.high-h.ensures)))
+    (λ c. arm c.before.before.before 3 _ c.in-3.is (rw (c.at-in-3.ensures, c.high-h.ensures)))
+    (λ c. arm c.before.before.before 4 _ c.in-4.is (rw (c.at-in-4.ensures, c.high-h.ensures)))
+    (λ c. arm c.before.before.before 5 _ c.in-5.is c.accumulator_place.ensures)
+    (λ c. arm c.before.before.before 6 _ c.in-6.is c.at-in-6.ensures)
+    (λ c. arm c.before.before.before 7 _ c.in-7.is c.at-in-7.ensures)
     (λ c. arm c.before.before.before 8 _ (last c.before) c.at-in_default.ensures))

@@ -34,7 +34,7 @@ arm c n s e found = rw (found, sym e) (back_answers c.args.kind (asked c) c.requ
 
 -- the last arm is that of kind 8
 last : (c : tie.In_default) → c.args.kind ≡ 8
-last c = let b = bounds c.before in omega (arith, none_below 8 c.args.kind c.in_default.rest)
+last c = let b = bounds c.before in omega (arith, none_below 8 c.args.kind c.in_default.in_default-own.rest)
 
 pub slot_holding_spec : {M : Type 1} → statement M
 unfolding back
@@ -46,12 +46,12 @@ slot_holding_spec =
     (λ c. let b = bounds c.before in omega arith) (λ c. let b = bounds c.before in omega arith)
     (λ c κs. let b = bounds c.before in omega arith) (λ c κs. let b = bounds c.before in omega arith)
     (λ c κs. let b = bounds c.before in omega arith) (λ c κs. let b = bounds c.before in omega arith)
-    (λ c. arm c.before.before 0 _ c.in-0.keys1 c.in_group.ensures)
-    (λ c. arm c.before.before 1 _ c.in-1.keys2 c.in_group-in-1.ensures)
-    (λ c. arm c.before.before 2 _ c.in-2.keys3 c.in_group-in-2.ensures)
-    (λ c. arm c.before.before 3 _ c.in-3.keys4 c.in_group-in-3.ensures)
-    (λ c. arm c.before.before 4 _ c.in-4.keys5 c.in_group-in-4.ensures)
-    (λ c. arm c.before.before 5 _ c.in-5.keys6 c.in_group-in-5.ensures)
-    (λ c. arm c.before.before 6 _ c.in-6.keys7 c.in_group-in-6.ensures)
-    (λ c. arm c.before.before 7 _ c.in-7.keys8 c.in_group-in-7.ensures)
+    (λ c. arm c.before.before 0 _ c.in-0.is c.in_group.ensures)
+    (λ c. arm c.before.before 1 _ c.in-1.is c.in_group-in-1.ensures)
+    (λ c. arm c.before.before 2 _ c.in-2.is c.in_group-in-2.ensures)
+    (λ c. arm c.before.before 3 _ c.in-3.is c.in_group-in-3.ensures)
+    (λ c. arm c.before.before 4 _ c.in-4.is c.in_group-in-4.ensures)
+    (λ c. arm c.before.before 5 _ c.in-5.is c.in_group-in-5.ensures)
+    (λ c. arm c.before.before 6 _ c.in-6.is c.in_group-in-6.ensures)
+    (λ c. arm c.before.before 7 _ c.in-7.is c.in_group-in-7.ensures)
     (λ c. arm c.before.before 8 _ (last c.before) c.in_group-in_default.ensures))

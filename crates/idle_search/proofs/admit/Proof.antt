@@ -11,7 +11,7 @@ admit_packed_requires c κs = c.pack-packed.ensures.whole
 
 returns : tie.Need-returns
 returns c =
-    let k = c.before.before.before.before.before in
+    let k = c in
     (admission_exactly k.args.card c.admit_packed.result).1 (c.admit_packed.ensures ∙ ap full_admission k.pack-packed.ensures.same_card)
 
 pub admit_spec : {M : Type 1} → statement M

@@ -29,7 +29,7 @@ judged f i e =
 
 returns : tie.Need-returns-in-Refused
 returns c =
-    let d = c.before in
+    let d = c in
     sym (refused_before (asked d.before) (sym d.admit_packed-admission.ensures ∙ c.in-Refused.is))
 
 find_pair_requires : tie.Need-find_pair-requires

@@ -40,7 +40,7 @@ loop_again c =
 returns_2 : tie.Need-returns invariant_loop decreases_loop
 returns_2 c =
     let l = c.loop-axis in
-    let s = c.before.before in
+    let s = c in
     let end : l.axis ≡ 8 = omega arith in
     says_equal s.args.one.now s.args.other.now s.requires.0 s.requires.1 (rw end at l.invariant.3)
 

@@ -14,7 +14,7 @@ decreases_loop keys from b key a₀ a = b - a
 
 before : (c : tie.In-loop-a invariant_loop decreases_loop) → c.loop-a.a < c.args.b
 before c =
-    let s = c.before.before.before.before in
+    let s = c in
     let l = c.loop-a in
     not_yet s.args.keys.now s.args.b s.args.from l.a c.loop-a-test.true l.invariant
 
@@ -40,7 +40,7 @@ loop_less c = omega (arith, before c)
 
 loop_again : tie.Need-loop-a-preserved invariant_loop decreases_loop
 loop_again c =
-    let s = c.before.before.before.before in
+    let s = c in
     let l = c.loop-a in
     passes_more s.args.keys.now s.args.b s.args.from l.a c.loop-a-test.true l.invariant
 

@@ -34,7 +34,7 @@ replica s = iters_of s.args.numbers.now s.args.strides.now 1
 counted : (s : tie.Start invariant_loop decreases_loop) → (get_or s.args.numbers.now 46 0 ≡ size (replica s)) × (size (replica s) ≤ most_copies)
 counted s =
     let a = s.args in
-    ((measured a.numbers.now a.strides.now s.requires).copies_are, (sized (card_of a.numbers.now a.strides.now) s.requires.admitted).most-copies)
+    ((measured a.numbers.now a.strides.now s.requires).copies_are, (sized (card_of a.numbers.now a.strides.now) s.requires.admitted).most_copies_lem)
 
 few : (s : tie.Start invariant_loop decreases_loop) (b : ℕ) → b < get_or s.args.numbers.now 46 0 → b < 64
 few s b h = omega (arith, (counted s).0, (counted s).1)
@@ -43,7 +43,7 @@ walkable : (s : tie.Start invariant_loop decreases_loop) → Walkable s.args.num
 walkable s = walkable_replica s.args.numbers.now s.args.strides.now s.requires
 
 returns : tie.Need-returns-then-copies-lt2 invariant_loop decreases_loop
-returns c = λ x y less below. absurd (omega (arith, (counted c.before.before).0, c.if-copies-lt2.true))
+returns c = λ x y less below. absurd (omega (arith, (counted c.before.before.before).0, c.if-copies-lt2.true))
 
 put_first_key_requires : tie.Need-put_first_key-requires invariant_loop decreases_loop
 put_first_key_requires c κs = refl
@@ -67,14 +67,14 @@ find_twin_requires c κs =
 
 returns_2 : tie.Need-returns-then-a-b invariant_loop decreases_loop
 returns_2 c =
-    let t = c.before in
+    let t = c in
     let l = t.loop-b in
     let s = start t.before.before.before.before.before.before in
     pair_found (replica s) l.b t.find_twin-a.result (omega (arith, (counted s).0)) c.if-a-b.true t.find_twin-a.ensures l.invariant.2
 
 loop_again : tie.Need-loop-b-preserved invariant_loop decreases_loop
 loop_again c =
-    let t = c.before in
+    let t = c in
     let l = t.loop-b in
     let s = start t.before.before.before.before.before.before in
     (omega arith, t.put_key.ensures, none_before_more (replica s) l.b t.find_twin-a.result (omega arith) t.find_twin-a.ensures l.invariant.2)

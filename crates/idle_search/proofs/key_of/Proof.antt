@@ -22,13 +22,13 @@ loop_holds c = (omega arith, refl)
 
 mix_requires : tie.Need-mix-key-requires invariant_loop decreases_loop
 mix_requires c κs =
-    let s = c.before.before.before in
+    let s = c in
     let k = c.loop-k.k in
     rw (to_z-of_z {w = w64} {z = get_or s.args.sums.now k (pos 0)} (record { sfits = c.mix-arg-1.given })) (s.requires.each k (omega arith))
 
 loop_again : tie.Need-loop-k-preserved invariant_loop decreases_loop
 loop_again c =
-    let s = c.before.before.before.before in
+    let s = c in
     let l = c.loop-k in
     let sums = s.args.sums.now in
     let here = to_z-of_z {w = w64} {z = get_or sums l.k (pos 0)} (record { sfits = c.mix-arg-1.given }) in
@@ -37,7 +37,7 @@ loop_again c =
 returns : tie.Need-returns invariant_loop decreases_loop
 unfolding key_of
 returns c =
-    let s = c.before.before in
+    let s = c in
     let l = c.loop-k in
     let end : l.k ≡ 8 = omega arith in
     sym (key_all s.args.sums.now s.requires.eight l.key) ∙ rw end at l.invariant.1

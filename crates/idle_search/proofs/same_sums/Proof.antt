@@ -16,17 +16,17 @@ walk_requires_2 c κs = (c.requires, far_sums)
 
 are_equal_requires : tie.Need-are_equal-requires
 are_equal_requires c κs =
-    let v = c.before.before in
-    let w = v.before.before in
-    let s = w.before.before in
+    let v = c in
+    let w = v in
+    let s = w in
     let iters = iters_of s.args.numbers.now s.args.strides.now 1 in
     (ap length w.walk.ensures ∙ walked_eight iters _ far, ap length v.walk-2.ensures ∙ walked_eight iters _ far)
 
 returns : tie.Need-returns
 returns c =
-    let v = c.before.before.before in
-    let w = v.before.before in
-    let s = w.before.before in
+    let v = c in
+    let w = v in
+    let s = w in
     let iters = iters_of s.args.numbers.now s.args.strides.now 1 in
     walks_same iters s.args.a s.args.b w.walk.ensures v.walk-2.ensures c.are_equal.ensures
 

@@ -7,8 +7,8 @@ use Rattle.judge.proofs.judge_kept.Tie as tie
 
 returns : tie.Need-returns
 returns c one two e f =
-    let j = c.before.before in
-    let k = j.before.before in
+    let j = c in
+    let k = j in
     record {
       after = _;
       verdict = j.judge_lines-verdict.result;

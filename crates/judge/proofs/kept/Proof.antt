@@ -7,7 +7,7 @@ use Rattle.judge.proofs.kept.Statement.{statement}
 use Rattle.judge.proofs.kept.Tie as tie
 
 slice_aggregate_result : tie.Need-slice_bounds-result-end
-slice_aggregate_result c = let s = c.before in sym (length-take-le s.args.held s.args.line.now (omega arith))
+slice_aggregate_result c = let s = c in sym (length-take-le s.args.held s.args.line.now (omega arith))
 
 returns_2 : tie.Need-returns
 returns_2 c = sym (take_all c.args.held c.args.line.now c.if-held-line.false)

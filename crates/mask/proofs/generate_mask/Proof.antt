@@ -17,7 +17,7 @@ use Rattle.mask.proofs.generate_mask.Tie as tie
 
 -- what each test says of the numbers asked
 size_known : (c : tie.Else-not-is_mask_size) → mask_size c.args.m c.args.n ≡ true
-size_known c = sym c.is_mask_size.ensures ∙ not-false c.is_mask_size.result c.if-not-is_mask_size.false
+size_known c = sym c.is_mask_size.ensures ∙ c.if-not-is_mask_size.false
 
 none_reserved : (c : tie.Else-has_reserved) → reserved c.args.descriptor ≡ false
 none_reserved c = sym c.has_reserved.ensures ∙ c.if-has_reserved.false
@@ -41,42 +41,42 @@ part_long : (c : tie.Else-mask-needed) → let a = c.args in length (take (a.n /
 part_long c = let a = c.args in length-take-le (a.n / 8) a.mask.now c.if-mask-needed.false
 
 returns : tie.Need-returns-then-not-is_mask_size
-returns c = (rw (sym c.is_mask_size.ensures ∙ not-true c.is_mask_size.result c.if-not-is_mask_size.true), refl)
+returns c = (rw (sym c.is_mask_size.ensures ∙ c.if-not-is_mask_size.true), refl)
 
 returns_3 : tie.Need-returns-then-limit-fields
 returns_3 c =
-    let two = c.before.before.before.before in
+    let two = c in
     let limit = c.shift_limit-limit in
-    (rw (size_known two.before.before, none_reserved two, shift_above c, limit.ensures.0), refl)
+    (rw (size_known two.before.before.before.before.before.before, none_reserved two.before.before.before.before, shift_above c, limit.ensures.0), refl)
 
 returns_4 : tie.Need-returns-then-mask-needed
 returns_4 c =
-    let two = c.before.before.before.before.before in
+    let two = c in
     let a = two.args in
-    (rw (size_known two.before.before, none_reserved two, shift_allowed c.before, lt-ltb (length a.mask.now) (a.n / 8) c.if-mask-needed.true), refl)
+    (rw (size_known two.before.before.before.before.before.before.before, none_reserved two.before.before.before.before.before, shift_allowed c.before, lt-ltb (length a.mask.now) (a.n / 8) c.if-mask-needed.true), refl)
 
 fill_mask_requires : tie.Need-fill_mask-requires
 fill_mask_requires c κs =
-    let one = c.before.before.before.before.before.before.before.before.before in
+    let one = c in
     let a = one.args in
-    let size = sized a.m a.n (size_known one) in
+    let size = sized a.m a.n (size_known one.before.before.before.before.before.before.before.before.before) in
     let bits = c.sub_bits.ensures in
     let long = part_long c.before.before in
     omega arith
 
 returns_5 : tie.Need-returns
 returns_5 c =
-    let four = c.before.before.before.before.before in
-    let two = four.before.before.before.before.before in
-    let one = two.before.before in
+    let four = c in
+    let two = four in
+    let one = two in
     let a = one.args in
     let fill = c.fill_mask in
     let bits = c.sub_bits.ensures in
     let fields = four.fields_of-fields.ensures in
-    let long = part_long four in
+    let long = part_long four.before.before.before.before.before in
     let filled : fill.result ≡ mask_of (mask_columns a.m a.n a.descriptor) a.n =
-    fill.ensures.0 ∙ rw (bits, fields, long, (sized a.m a.n (size_known one)).whole) in (
-      rw (size_known one, none_reserved two, shift_allowed four.before, le-ltb (length a.mask.now) (a.n / 8) four.if-mask-needed.false) filled,
+    fill.ensures.0 ∙ rw (bits, fields, long, (sized a.m a.n (size_known one.before.before.before.before.before.before.before.before.before.before.before.before)).whole) in (
+      rw (size_known one.before.before.before.before.before.before.before.before.before.before.before.before, none_reserved two.before.before.before.before.before.before.before.before.before.before, shift_allowed four.before.before.before.before.before.before, le-ltb (length a.mask.now) (a.n / 8) four.if-mask-needed.false) filled,
       rw (filled, fill.ensures.1, bits, fields, long),
     )
 

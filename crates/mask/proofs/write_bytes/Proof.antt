@@ -23,8 +23,8 @@ loop_again c =
     let now = c.loop-j in (
       omega arith,
       simp length-set now.invariant.1,
-      ap₂ (λ (l : List ℕ) (v : ℕ). store l now.j v) now.invariant.2 (word_byte a.t1 now.j)
-          ∙ bytes_store (word_bit a.t1) a.mask.now now.j (omega arith),
+      ap₂ (λ (l : List ℕ) (v : ℕ). store l now.j v) now.invariant.2 (word_byte a.words now.j)
+          ∙ bytes_store (word_bit a.words) a.mask.now now.j (omega arith),
     )
 
 returns : tie.Need-returns invariant_loop decreases_loop

@@ -21,7 +21,7 @@ within c = let a = c.args in mod-lt (a.p + c.loop-k.k) {m = a.size} (omega arith
 
 piece_requires : tie.Need-piece-requires invariant_loop decreases_loop
 piece_requires c κs =
-    let start = c.before.before.before in
+    let start = c in
     let w = within c.before in
     (omega arith, start.requires.1, start.requires.2, start.requires.3, start.requires.4, omega arith, omega arith)
 

@@ -21,11 +21,11 @@ loop_holds c = let a = c.args in none_counted (side a.skip a.used a.size a.count
 
 -- a word has at most 64 ones
 few : (c : tie.After-mask_word-word invariant_loop decreases_loop) → ones c.mask_word-word.result ≤ 64
-few c = ones-le 64 c.mask_word-word.result c.mask_word-word.type-inv
+few c = ones-le 64 c.mask_word-word.result c.mask_word-word.type_inv
 
 mask_word_requires : tie.Need-mask_word-word-requires invariant_loop decreases_loop
 mask_word_requires c κs =
-    let start = c.before.before.before.before in
+    let start = c in
     (omega arith, start.requires.1, start.requires.2, start.requires.3, c.pattern_word-pattern.ensures, omega arith)
 
 loop_again : tie.Need-loop-p-preserved invariant_loop decreases_loop

@@ -28,5 +28,5 @@ returns c =
 pub piece_spec : {M : Type 1} → statement M
 piece_spec =
     tie.close
-    (tie.spec (λ c. search rules) (λ c. omega (arith, below_four c)) (λ c. omega (arith, below_four c.before)) (λ c κs. tt) (λ c. search rules)
+    (tie.spec (λ c. search rules) (λ c. omega (arith, below_four c.before)) (λ c. omega (arith, below_four c.before.before.before)) (λ c κs. tt) (λ c. search rules)
     (λ c. search rules) (λ c κs. search rules) (λ c κs. search rules) (λ c κs. tt) returns)

@@ -21,7 +21,7 @@ both : (c : tie.Then-rest-lt64)
     → let a = c.args in
     Holds (endless true a.skip a.used) a.at 64 (c.ones_up_to-lead.result + a.pattern * 2 ^ (period a.skip a.used - a.at) % 2 ^ 64)
 both c =
-    let start = c.before.before in
+    let start = c in
     let a = start.args in
     let P = period a.skip a.used in
     let end : a.at + (P - a.at) ≡ P = omega arith in

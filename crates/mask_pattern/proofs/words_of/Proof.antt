@@ -27,7 +27,7 @@ returns c =
 
 returns_2 : tie.Need-returns
 returns_2 c =
-    let start = c.before.before.before.before.before.before.before.before.before in
+    let start = c in
     let a = start.args in
     let on = not-false a.fields.non_zero c.if-not-fields.false in
     rw (columns_set a.size a.fields on) c.pattern_words.ensures

@@ -14,16 +14,16 @@ returns : tie.Need-returns-then-not-is_kind
 returns c =
     let a = c.args in
     ap HoldsNot c.outside.ensures
-    ∙ sym (held_no_kind a.kind a.warp a.lane a.register (sym c.is_kind.ensures ∙ not-true _ c.if-not-is_kind.true))
+    ∙ sym (held_no_kind a.kind a.warp a.lane a.register (sym c.is_kind.ensures ∙ c.if-not-is_kind.true))
 
 there : (c : tie.Else-not-is_slot) → form_slot c.form-f.result c.args.warp c.args.lane c.args.register ≡ true
-there c = sym c.is_slot.ensures ∙ not-false _ c.if-not-is_slot.false
+there c = sym c.is_slot.ensures ∙ c.if-not-is_slot.false
 
 returns_2 : tie.Need-returns-then-not-is_slot
 returns_2 c =
     let a = c.args in
     ap HoldsNot c.outside-then-not-is_slot.ensures
-    ∙ sym (held_no_slot a.kind _ c.form-f.ensures.0 a.warp a.lane a.register (sym c.is_slot.ensures ∙ not-true _ c.if-not-is_slot.true))
+    ∙ sym (held_no_slot a.kind _ c.form-f.ensures.0 a.warp a.lane a.register (sym c.is_slot.ensures ∙ c.if-not-is_slot.true))
 
 place_held_requires : tie.Need-place_held-requires
 place_held_requires c κs =
@@ -40,5 +40,5 @@ returns_3 c =
 pub held_by_spec : {M : Type 1} → statement M
 held_by_spec =
     tie.close
-    (tie.spec (λ c κs. search rules) (λ c κs. search rules) returns (λ c κs. sym c.is_kind.ensures ∙ not-false _ c.if-not-is_kind.false) (λ c κs. search rules)
+    (tie.spec (λ c κs. search rules) (λ c κs. search rules) returns (λ c κs. sym c.is_kind.ensures ∙ c.if-not-is_kind.false) (λ c κs. search rules)
     (λ c κs. search rules) returns_2 place_held_requires returns_3)

@@ -12,15 +12,15 @@ use Rattle.mma.proofs.holder_of.Tie as tie
 returns : tie.Need-returns-then-not-is_kind
 returns c =
     let a = c.args in
-    (holder_no_kind a.kind (mma_at a.matrix a.row a.column) (sym c.is_kind.ensures ∙ not-true _ c.if-not-is_kind.true), c.outside.ensures)
+    (holder_no_kind a.kind (mma_at a.matrix a.row a.column) (sym c.is_kind.ensures ∙ c.if-not-is_kind.true), c.outside.ensures)
 
 returns_2 : tie.Need-returns-then-not-is_place
 returns_2 c =
     let a = c.args in
-    (no_such_place a.kind _ c.form-f.ensures.0 (mma_at a.matrix a.row a.column) (sym c.is_place.ensures ∙ not-true _ c.if-not-is_place.true), c.outside-then-not-is_place.ensures)
+    (no_such_place a.kind _ c.form-f.ensures.0 (mma_at a.matrix a.row a.column) (sym c.is_place.ensures ∙ c.if-not-is_place.true), c.outside-then-not-is_place.ensures)
 
 there : (c : tie.Else-not-is_place) → place_in c.form-f.result (mma_at c.args.matrix c.args.row c.args.column) ≡ true
-there c = sym c.is_place.ensures ∙ not-false _ c.if-not-is_place.false
+there c = sym c.is_place.ensures ∙ c.if-not-is_place.false
 
 few_matrices : tie.Need-slot_holding-requires
 few_matrices c κs =
@@ -49,5 +49,5 @@ returns_4 c =
 pub holder_of_spec : {M : Type 1} → statement M
 holder_of_spec =
     tie.close
-    (tie.spec (λ c κs. search rules) (λ c κs. search rules) returns (λ c κs. sym c.is_kind.ensures ∙ not-false _ c.if-not-is_kind.false) (λ c κs. search rules)
+    (tie.spec (λ c κs. search rules) (λ c κs. search rules) returns (λ c κs. sym c.is_kind.ensures ∙ c.if-not-is_kind.false) (λ c κs. search rules)
     (λ c κs. search rules) returns_2 few_matrices returns_3 few_matrices_2 returns_4)

@@ -38,7 +38,7 @@ asked c = c.before.before
 
 -- both start from the offset
 ends_requires : tie.Need-ends-requires
-ends_requires c κs = let o = c.before.before in (o.requires, o.offset-low.ensures, o.offset-high.ensures)
+ends_requires c κs = let o = c in (o.requires, o.offset-low.ensures, o.offset-high.ensures)
 
 first_axis_requires : tie.Need-first_axis-first-requires
 first_axis_requires c κs =
@@ -54,8 +54,8 @@ m_between_requires c κs = let s = start (looked c.before.before) in spaced s.ar
 
 returns : tie.Need-returns-then-first-m_between
 returns c =
-    let m = c.before in
-    let f = m.before.before.before in
+    let m = c in
+    let f = m in
     let e = looked f in
     let s = start e in
     let both = (and-eq-true_iff (eqb f.first_axis-first.result 7) m.m_between.result).0 c.if-first-m_between.true in
@@ -76,7 +76,7 @@ found c = looked (axes_found c)
 
 first_of_all_requires : tie.Need-first_of_all-word-requires
 first_of_all_requires c κs =
-    let f = c.before.before.before.before.before.before in
+    let f = c in
     let e = looked f in
     (record { admits = (start e).pre; low_there = e.ends.ensures.0; high_there = e.ends.ensures.1 }, f.first_axis-first.ensures.0, f.first_axis-first.ensures.1)
 
@@ -85,13 +85,13 @@ all s = (measured s.args.numbers.now s.args.strides.now s.requires).elements_are
 
 returns_2 : tie.Need-returns-then-numbers-word
 returns_2 c =
-    let w = c.before.before in
+    let w = c in
     let s = start (found w) in
     word_none (card s) (eight s) (fits s) w.first_of_all-word.result w.first_of_all-word.ensures (omega (arith, c.if-numbers-word.true, all s))
 
 returns_3 : tie.Need-returns
 returns_3 c =
-    let w = c.before.before in
+    let w = c in
     let s = start (found w) in
     word_first (card s) (eight s) (fits s) w.first_of_all-word.result w.first_of_all-word.ensures (omega (arith, c.if-numbers-word.false, all s))
 
@@ -99,4 +99,4 @@ pub find_outside_spec : {M : Type 1} → statement M
 find_outside_spec =
     tie.close
     (tie.spec (λ c κs. c.requires.whole.all_strides) (λ c κs. c.requires.whole.all_strides) ends_requires first_axis_requires (λ c. search rules) (λ c. search rules) m_between_requires returns
-    first_of_all_requires (λ c. search rules) (λ c. let s = start (found c.before) in omega (arith, all s, (sized (card s) s.pre.admitted).most-elements)) returns_2 returns_3)
+    first_of_all_requires (λ c. search rules) (λ c. let s = start (found c.before) in omega (arith, all s, (sized (card s) s.pre.admitted).most_elements_lem)) returns_2 returns_3)

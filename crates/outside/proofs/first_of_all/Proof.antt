@@ -28,7 +28,7 @@ card s = card_of s.args.numbers.now s.args.strides.now
 
 first_astray_requires : tie.Need-first_astray-from-requires
 first_astray_requires c κs =
-    let w = c.before.before in
+    let w = c in
     let s = start w in
     let a = s.args in
     rw (
@@ -47,11 +47,11 @@ strayed c = c.before.before.before
 
 -- the first that strays from the whole blocks is one of the elements, or past them
 early : (c : tie.After-first_astray-from) → c.first_astray-from.result.0 ≤ 65536
-early c = omega (arith, c.first_astray-from.ensures.most, (sizes (start (strayed c)).requires.0).most-elements)
+early c = omega (arith, c.first_astray-from.ensures.most, (sizes (start (strayed c)).requires.0).most_elements_lem)
 
 returns : tie.Need-returns-then-whole-numbers
 returns c =
-    let f = c.before.before.before.before in
+    let f = c in
     let w = strayed f in
     let s = start w in
     rw c.smaller.ensures
@@ -60,7 +60,7 @@ returns c =
 
 first_leaving_requires : tie.Need-first_leaving-flat-requires
 first_leaving_requires c κs =
-    let f = c.before.before in
+    let f = c in
     let w = strayed f in
     let s = start w in (
       s.pre.0.admits,
@@ -71,11 +71,11 @@ first_leaving_requires c κs =
 small : (c : tie.After-first_leaving-flat) → c.first_leaving-flat.result.0 ≤ 65536
 small c =
     let w = strayed c.before.before.before in
-    omega (arith, c.first_leaving-flat.ensures.most, few w, (sizes (start w).pre.0).most-elements)
+    omega (arith, c.first_leaving-flat.ensures.most, few w, (sizes (start w).pre.0).most_elements_lem)
 
 returns_2 : tie.Need-returns
 returns_2 c =
-    let f = c.before.before in
+    let f = c in
     let w = strayed f.before.before.before in
     rw c.smaller-2.ensures
     (word_m (card (start w)) w.before.first-on-axes.result f.first_leaving-flat.result.0 w.before.first-on-axes.ensures f.first_leaving-flat.ensures)
@@ -83,5 +83,5 @@ returns_2 c =
 pub first_of_all_spec : {M : Type 1} → statement M
 first_of_all_spec =
     tie.close
-    (tie.spec (λ c κs. search rules) (λ c κs. let s = c.before in spaced s.args.numbers.now s.args.strides.now s.requires.0.admits) (λ c. search rules) (λ c. search rules) first_astray_requires
-    (λ c. search rules) (λ c. search rules) (λ c. search rules) (λ c. omega (arith, early c.before.before.before)) (λ c. omega (arith, early c.before.before.before)) (λ c κs. search rules) returns first_leaving_requires (λ c. omega (arith, small c.before)) (λ c. omega (arith, small c.before)) (λ c κs. search rules) returns_2)
+    (tie.spec (λ c κs. search rules) (λ c κs. let s = c in spaced s.args.numbers.now s.args.strides.now s.requires.0.admits) (λ c. search rules) (λ c. search rules) first_astray_requires
+    (λ c. search rules) (λ c. search rules) (λ c. search rules) (λ c. omega (arith, early c.before.before.before.before)) (λ c. omega (arith, early c.before.before.before.before)) (λ c κs. search rules) returns first_leaving_requires (λ c. omega (arith, small c.before)) (λ c. omega (arith, small c.before)) (λ c κs. search rules) returns_2)

@@ -26,11 +26,11 @@ abbrev card : tie.Start invariant_loop decreases_loop → Card
 card s = card_of s.args.numbers.now s.args.strides.now
 
 few : (s : tie.Start invariant_loop decreases_loop) → get_or s.args.numbers.now 45 0 ≤ 65536
-few s = omega (arith, (measured s.args.numbers.now s.args.strides.now s.requires.0.admits).elements_are, (sizes s.requires.0).most-elements)
+few s = omega (arith, (measured s.args.numbers.now s.args.strides.now s.requires.0.admits).elements_are, (sizes s.requires.0).most_elements_lem)
 
 loop_holds : tie.Need-loop-axis-init invariant_loop decreases_loop
 loop_holds c =
-    let s = c.before in (
+    let s = c in (
       s.requires.1,
       rw (measured s.args.numbers.now s.args.strides.now s.requires.0.admits).elements_are
           (no_word (card s) s.args.first (none_leaves s.requires.0 s.args.first s.requires.1 s.requires.2)),
@@ -55,11 +55,11 @@ first_on_axis_requires c κs =
     (ended_on s.pre.0 axis (get_or a.numbers.now (32 + axis) 0) (omega (arith, t.loop-test.taken)) (short_length s.pre.0 axis (omega (arith, t.loop-test.taken))), t.loop-test.taken)
 
 small : (c : tie.After-first_on_axis-flat invariant_loop decreases_loop) → c.first_on_axis-flat.result.0 ≤ 65536
-small c = let s = start (turn c.before) in omega (arith, c.first_on_axis-flat.ensures.most, (sizes s.pre.0).most-elements)
+small c = let s = start (turn c.before) in omega (arith, c.first_on_axis-flat.ensures.most, (sizes s.pre.0).most_elements_lem)
 
 loop_again : tie.Need-loop-axis-preserved invariant_loop decreases_loop
 loop_again c =
-    let f = c.before.before in
+    let f = c in
     let t = turn f.before in
     let s = start t in
     let l = t.before.loop in (
@@ -71,12 +71,12 @@ loop_again c =
 returns : tie.Need-returns invariant_loop decreases_loop
 returns c =
     let l = c.loop-axis in
-    let s = c.before.before.before in
+    let s = c in
     let end : l.axis ≡ 7 = omega (arith, l.invariant.0, c.loop-axis-test.false) in
     rw end at l.invariant.1
 
 pub first_on_axes_spec : {M : Type 1} → statement M
 first_on_axes_spec =
     tie.close
-    (tie.spec invariant_loop decreases_loop (λ c. search rules) (λ c. omega (arith, few c.before)) loop_holds (λ c. omega arith) (λ c. omega arith) (λ c. omega arith) (λ c. omega arith) first_on_axis_requires (λ c. omega (arith, small c.before)) (λ c. omega (arith, small c.before, (turn c.before.before).loop-test.taken)) (λ c κs. search rules) (λ c. omega arith)
+    (tie.spec invariant_loop decreases_loop (λ c. search rules) (λ c. omega (arith, few c.before.before)) loop_holds (λ c. omega arith) (λ c. omega arith) (λ c. omega arith) (λ c. omega arith) first_on_axis_requires (λ c. omega (arith, small c.before)) (λ c. omega (arith, small c.before, (turn c.before.before).loop-test.taken)) (λ c κs. search rules) (λ c. omega arith)
     (λ c. omega arith) loop_again returns)

@@ -56,14 +56,14 @@ first_over_requires c κs = rw (high_back c, bound_back c) (record {
 })
 
 first_over_requires_2 : tie.Need-first_over-below-requires
-first_over_requires_2 c κs = let s = c.before in rw (low_back s) (record {
+first_over_requires_2 c κs = let s = c in rw (low_back s.before) (record {
   admits = s.requires.admits;
-  there = to_z-of_z (below_fits s) ∙ ap (λ (z : ℤ). negsuc 0 -ℤ z) s.requires.low_there;
+  there = to_z-of_z (below_fits s.before) ∙ ap (λ (z : ℤ). negsuc 0 -ℤ z) s.requires.low_there;
 })
 
 returns : tie.Need-returns
 returns c =
-    let s = c.before.before.before in
+    let s = c in
     let a = s.args in
     rw c.smaller.ensures
     (first_astray (card s) s.requires.admits.admitted a.axis a.bound c.first_over-above.result.0 c.first_over-below.result.0

@@ -107,7 +107,7 @@ room c =
 
 loop_holds : tie.Need-loop-k-init invariant_loop decreases_loop
 loop_holds c =
-    let s = c.before in
+    let s = c in
     let some = product_positive most_extent (map extent_of (later s 0)) (fitting (iters_of s.args.numbers.now s.args.strides.now s.args.list) s.requires.walkable.fit).extents in
     (omega arith, omega arith, numbering_none (map extent_of (later s 0)) (first s s.args.spare (later s 0)) some)
 
@@ -125,7 +125,7 @@ loop_again c =
 
 returns : tie.Need-returns invariant_loop decreases_loop
 returns c =
-    let s = c.before.before.before in
+    let s = c in
     let a = s.args in
     let l = c.loop-k in
     let end : l.k ≡ get_or a.numbers.now (40 + a.list) 0 = omega arith in
@@ -143,6 +143,6 @@ first_within_spec =
     (λ c. omega (arith, (start c.before).pre.walkable.of)) (λ c. omega (arith, (start c.before).pre.walkable.of)) (λ c. omega (arith, (start c.before).pre.walkable.of))
     (λ c. omega (arith, (start c.before).pre.walkable.of)) (λ c. omega (arith, (start c.before.before).pre.walkable.of)) (λ c. omega (arith, (start c.before.before).pre.walkable.of))
     (λ c. omega (arith, (start c.before.before).pre.walkable.of)) (λ c. omega (arith, (start c.before.before).pre.walkable.of))
-    (λ c κs. rw (to_z-of_z {w = w64} {z = (met c.before.before.before).stride} (record { sfits = c.step_ahead-arg-in-loop-k-1.given })) (turn c.before.before.before).most-stride)
+    (λ c κs. rw (to_z-of_z {w = w64} {z = (met c.before.before.before).stride} (record { sfits = c.step_ahead-arg-in-loop-k-1.given })) (turn c.before.before.before.before).most_stride_lem)
     (λ c κs. (turn (turned c)).some_extent) (λ c. omega (arith, room c)) (λ c. omega (arith, (turn (turned c.before)).some_extent)) (λ c. omega (arith, most c)) (λ c. omega (arith, room c))
     (λ c. let t = turned c.before in omega (arith, spared c, t.before.loop.inv.1, (start t).fits.spare)) (λ c. omega (arith, spared c)) (λ c. omega arith) (λ c. omega arith) loop_again returns)

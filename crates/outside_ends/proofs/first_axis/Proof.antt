@@ -37,8 +37,8 @@ neither false b e = (refl, e)
 
 loop_again : tie.Need-loop-axis-preserved invariant_loop decreases_loop
 loop_again c =
-    let t = c.before.before.before.before in
-    let s = t.before.before in
+    let t = c in
+    let s = t in
     let a = s.args in
     let l = t.loop-axis in
     let low = get_or a.low.now l.axis (pos 0) in
@@ -46,7 +46,7 @@ loop_again c =
     let length = get_or a.numbers.now (32 + l.axis) 0 in
     let low_back = to_z-of_z {w = w64} {z = low} (record { sfits = c.t14-1.given }) in
     let high_back = to_z-of_z {w = w64} {z = high} (record { sfits = c.t17-1.given }) in
-    let length_back : to_z w64 length ≡ pos length = to_z_pos w64 (omega (arith, short t)) in
+    let length_back : to_z w64 length ≡ pos length = to_z_pos w64 (omega (arith, short t.before.before.before.before.before)) in
     let both = neither (lt_z low (pos 0)) (le_z (pos length) high) (rw (low_back, high_back, length_back) at c.if-low-axis.false) in (
       omega (arith, t.loop-axis-test.true),
       below_more (On a.low.now a.high.now a.numbers.now) l.axis l.invariant.1 (lt_z_false low (pos 0) both.0, le_z_false (pos length) high both.1),
@@ -58,7 +58,7 @@ passed low high numbers axis on = record { from_zero = λ j h. (on j h).0; below
 
 returns : tie.Need-returns-then-low-axis invariant_loop decreases_loop
 returns c =
-    let t = c.before.before.before.before in
+    let t = c in
     let l = t.loop-axis in
     let a = t.args in
     (l.invariant.0, passed a.low.now a.high.now a.numbers.now l.axis l.invariant.1)
@@ -73,5 +73,5 @@ returns_2 c =
 pub first_axis_spec : {M : Type 1} → statement M
 first_axis_spec =
     tie.close
-    (tie.spec invariant_loop decreases_loop (λ c. (omega arith, λ j h. absurd (omega arith))) (λ c. omega arith) (λ c. omega arith) (λ c. omega arith) (λ c. far_fits (omega (arith, short c.before))) (λ c. omega arith) (λ c. omega arith)
+    (tie.spec invariant_loop decreases_loop (λ c. (omega arith, λ j h. absurd (omega arith))) (λ c. omega arith) (λ c. omega arith) (λ c. omega arith) (λ c. far_fits (omega (arith, short c.before.before))) (λ c. omega arith) (λ c. omega arith)
     (λ c. omega arith) (λ c. omega arith) returns (λ c. omega arith) (λ c. omega arith) loop_again returns_2)

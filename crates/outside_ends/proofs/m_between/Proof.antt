@@ -20,7 +20,7 @@ back c = to_z_pos w64 (omega (arith, c.whole_blocks-whole.ensures, few_blocks c.
 
 returns : tie.Need-returns
 returns c = λ e.
-    let s = c.before in
+    let s = c in
     let a = s.args in
     let blocks = blocks_of a.numbers.now in
     let both = (and-eq-true_iff (le_z (pos 0) a.low) (lt_z a.high (pos blocks))).0 (rw (to_z-of_z s.ranges.low, to_z-of_z s.ranges.high, back c) at e) in

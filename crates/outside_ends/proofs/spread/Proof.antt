@@ -76,10 +76,10 @@ module _ (t : tie.In-loop-k invariant_loop decreases_loop) (up : Bool) (before s
   steps : Steps (get_or sums (met t).axis (pos 0)) (far_end up (met t)) (met t).stride
   steps =
       let below = end_below up (met t) (turn t).some_extent in
-      let few : far_end up (met t) ≤ most_extent = omega (arith, (turn t).most-extent) in
+      let few : far_end up (met t) ≤ most_extent = omega (arith, (turn t).most_extent_lem) in
       record {
         small_component = omega (arith, few);
-        room = omega (arith, sum_so_far, mul-le-mul {n₂ = most_extent} {m₂ = farthest} few (turn t).most-stride);
+        room = omega (arith, sum_so_far, mul-le-mul {n₂ = most_extent} {m₂ = farthest} few (turn t).most_stride_lem);
       }
 
   -- and is, by the turn
@@ -111,7 +111,7 @@ ended a up e = e ∙ ap (λ (z : ℤ). far_end up (record { extent = (met (at_ax
 
 loop_holds : tie.Need-loop-k-init invariant_loop decreases_loop
 loop_holds c =
-    let s = c.before in (
+    let s = c in (
       le_refl (counted s),
       spread_none false (slots_of s) (counted s) s.args.low.now s.requires.1.eight,
       spread_none true (slots_of s) (counted s) s.args.high.now s.requires.2.eight,
@@ -141,16 +141,16 @@ step_requires_2 c κs =
 
 loop_again : tie.Need-loop-k-preserved invariant_loop decreases_loop
 loop_again c =
-    let h = c.before in
-    let p = h.before.before in
-    let e = p.before in
+    let h = c in
+    let p = h in
+    let e = p in
     let a = to_low e in
     let t = at_axis a in
     let s = start t in
     let l = t.before.loop in
     let moved : List ℤ → ℕ → ℤ = λ sums n. get_or sums (met t).axis (pos 0) +ℤ pos n *ℤ (met t).stride in
-    let down = to_z-of_z {w = w64} {z = p.step-down.result} (record { sfits = p.step-down.type-inv }) ∙ rw (low_back e, stride_back a) at p.step-down.ensures ∙ ap (moved l.low) (ended a false e.far_end.ensures) in
-    let up = to_z-of_z {w = w64} {z = c.step-up.result} (record { sfits = c.step-up.type-inv }) ∙ rw (high_back h, stride_back a) at c.step-up.ensures ∙ ap (moved l.high) (ended a true h.far_end-in-loop-k.ensures) in (
+    let down = to_z-of_z {w = w64} {z = p.step-down.result} (record { sfits = p.step-down.type_inv }) ∙ rw (low_back e.before.before.before.before, stride_back a) at p.step-down.ensures ∙ ap (moved l.low) (ended a false e.far_end.ensures) in
+    let up = to_z-of_z {w = w64} {z = c.step-up.result} (record { sfits = c.step-up.type_inv }) ∙ rw (high_back h.before, stride_back a) at c.step-up.ensures ∙ ap (moved l.high) (ended a true h.far_end-in-loop-k.ensures) in (
       omega arith,
       rw down (more t false s.args.low.now l.low s.pre.1 l.inv.1),
       rw up (more t true s.args.high.now l.high s.pre.2 l.inv.2),
@@ -159,7 +159,7 @@ loop_again c =
 returns : tie.Need-returns invariant_loop decreases_loop
 unfolding walked
 returns c =
-    let s = c.before.before.before in
+    let s = c in
     let l = c.loop-k in
     let end : l.k ≡ 0 = omega arith in (
       spread_all false (slots_of s) (counted s) s.args.low.now (rw end at l.invariant.1),

@@ -16,4 +16,4 @@ pub whole_blocks_spec : {M : Type 1} → statement M
 whole_blocks_spec =
     tie.close
     (tie.spec (λ c. search rules) (λ c. search rules) (λ c. omega (arith, c.requires.few_bits)) (λ c. search rules) (λ c. search rules) (λ c. search rules)
-    (λ c. omega (arith, c.requires.few_bits)) (λ c. omega (arith, c.requires.few_bits)) (λ c. same c.before.before.before))
+    (λ c. omega (arith, c.requires.few_bits)) (λ c. omega (arith, c.requires.few_bits)) (λ c. same c.before.before.before.before))

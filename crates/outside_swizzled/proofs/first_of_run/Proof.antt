@@ -69,7 +69,7 @@ told : (c : tie.After-m_leaves invariant_loop decreases_loop)
 told c = rw (m_is c.before) at c.m_leaves.ensures
 
 returns : tie.Need-returns-then-m_leaves invariant_loop decreases_loop
-returns c = let t = c.before.before in sought_here t.loop-c-test.true ((told c.before).yes_holds c.if-m_leaves.true) (none t)
+returns c = let t = c in sought_here t.loop-c-test.true ((told c.before).yes_holds c.if-m_leaves.true) (none t.before.before)
 
 next_is : (t : tie.In-loop-c invariant_loop decreases_loop)
     → to_z w64 (of_z w64 (to_z w64 t.loop-c.m +ℤ to_z w64 (of_z w64 (start t).args.step))) ≡ (start t).args.base +ℤ pos (t.loop-c.c + 1) *ℤ (start t).args.step
@@ -78,21 +78,21 @@ next_is t =
 
 loop_again : tie.Need-loop-c-preserved invariant_loop decreases_loop
 loop_again c =
-    let t = c.before.before in
+    let t = c in
     let s = start t in
     let a = s.args in
-    rw (next_is t, base_back s, step_back s) (
+    rw (next_is t.before.before, base_back s, step_back s) (
       omega (arith, t.loop-c-test.true),
       refl,
-      below_more (λ j. MLeaves a.numbers.now a.adds.now (a.base +ℤ pos j *ℤ a.step) → ⊥) t.loop-c.c (none t) ((told c.before).no_fails c.if-m_leaves.false),
+      below_more (λ j. MLeaves a.numbers.now a.adds.now (a.base +ℤ pos j *ℤ a.step) → ⊥) t.loop-c.c (none t.before.before) ((told c.before).no_fails c.if-m_leaves.false),
     )
 
 returns_2 : tie.Need-returns invariant_loop decreases_loop
 returns_2 c =
     let l = c.loop-c in
-    let s = c.before.before in
-    sought_none (λ j h. (rw (base_back s, step_back s) at l.invariant.2) j (omega (arith, c.loop-c-test.false)))
+    let s = c in
+    sought_none (λ j h. (rw (base_back s.before.before, step_back s.before.before) at l.invariant.2) j (omega (arith, c.loop-c-test.false)))
 
 pub first_of_run_spec : {M : Type 1} → statement M
 first_of_run_spec =
-    tie.close (tie.spec invariant_loop decreases_loop loop_holds m_leaves_requires returns (λ c. let t = c.before.before in rw (m_is t, step_back (start t)) (next_fits t)) (λ c. omega arith) (λ c. omega arith) loop_again returns_2)
+    tie.close (tie.spec invariant_loop decreases_loop loop_holds m_leaves_requires returns (λ c. let t = c in rw (m_is t.before.before, step_back (start t)) (next_fits t.before.before)) (λ c. omega arith) (λ c. omega arith) loop_again returns_2)

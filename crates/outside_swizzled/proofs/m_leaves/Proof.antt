@@ -43,13 +43,13 @@ fits c =
     let s = start c in
     far_fits (omega (arith, sum_far s.args.m (added c), s.pre.near, s.pre.near_adds c.loop-r.r))
 
-told : (c : tie.After-m_lies invariant_loop decreases_loop) → let p = c.before in Says (MLies (start p).args.numbers.now ((start p).args.m +ℤ added p)) c.m_lies.result
-told c = let p = c.before in rw (m_back (start p), added_back p, to_z-of_z (fits p)) at c.m_lies.ensures
+told : (c : tie.After-m_lies invariant_loop decreases_loop) → let p = c in Says (MLies (start p).args.numbers.now ((start p).args.m +ℤ added p)) c.m_lies.result
+told c = let p = c in rw (m_back (start p), added_back p.before, to_z-of_z (fits p.before)) at c.m_lies.ensures
 
 returns : tie.Need-returns-then-not-m_lies invariant_loop decreases_loop
 returns c =
     let l = c.loop-r in
-    let off = (told c.before).no_fails (not-true _ c.if-not-m_lies.true) in
+    let off = (told c.before).no_fails (c.if-not-m_lies.true) in
     record {
       yes_holds = λ e. record { copy = l.r; below = c.loop-r-test.true; off = off };
       no_fails = λ e. absurd (true≢false e);
@@ -57,12 +57,12 @@ returns c =
 
 loop_again : tie.Need-loop-r-preserved invariant_loop decreases_loop
 loop_again c =
-    let p = c.before.before in
+    let p = c in
     let l = p.loop-r in
     let s = start p in (
       omega (arith, p.loop-r-test.true),
       rw (m_back s)
-          (below_more (λ j. MLies s.args.numbers.now (s.args.m +ℤ get_or s.args.adds.now j (pos 0))) l.r (rw (m_back s) at l.invariant.1) ((told c.before).yes_holds (not-false _ c.if-not-m_lies.false))),
+          (below_more (λ j. MLies s.args.numbers.now (s.args.m +ℤ get_or s.args.adds.now j (pos 0))) l.r (rw (m_back s) at l.invariant.1) ((told c.before).yes_holds (c.if-not-m_lies.false))),
     )
 
 returns_2 : tie.Need-returns invariant_loop decreases_loop

@@ -15,7 +15,7 @@ use Rattle.outside_swizzled.proofs.m_sum.Tie as tie
 
 returns : tie.Need-returns
 returns c =
-    let s = c.before.before.before in
+    let s = c in
     let sums = c.walk.new.sums in
     to_z-of_z {w = w64} {z = get_or sums last_axis (pos 0)} (record { sfits = c.result-1.given })
     ∙ ap (λ (l : List ℤ). get_or l last_axis (pos 0)) c.walk.ensures

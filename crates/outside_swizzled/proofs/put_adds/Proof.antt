@@ -40,7 +40,7 @@ offset_back : (c : tie.After-m_sum-sum invariant_loop decreases_loop) → to_z w
 offset_back c = let s = start c in to_z-of_z (far_fits (omega (arith, offset_near s.args.numbers.now s.args.strides.now s.pre.0)))
 
 result_back : (c : tie.After-m_sum-sum invariant_loop decreases_loop) → to_z w64 (of_z w64 c.m_sum-sum.result) ≡ c.m_sum-sum.result
-result_back c = to_z-of_z {w = w64} {z = c.m_sum-sum.result} (record { sfits = c.m_sum-sum.type-inv })
+result_back c = to_z-of_z {w = w64} {z = c.m_sum-sum.result} (record { sfits = c.m_sum-sum.type_inv })
 
 fits : (c : tie.After-m_sum-sum invariant_loop decreases_loop) → SFits w64 (offset c +ℤ c.m_sum-sum.result)
 fits c =
@@ -80,12 +80,12 @@ loop_again c =
 returns : tie.Need-returns invariant_loop decreases_loop
 returns c =
     let l = c.loop-r in
-    let s = c.before.before.before in
+    let s = c in
     record { one_each = l.invariant.1 ∙ s.requires.1; there = λ r h. l.invariant.2 r (omega (arith, c.loop-r-test.false)) }
 
 pub put_adds_spec : {M : Type 1} → statement M
 put_adds_spec =
     tie.close
     (tie.spec invariant_loop decreases_loop (λ c. search rules) (λ c. search rules) (λ c. search rules) loop_holds
-    (λ c κs. let s = c.before.before.before in walkable_replica s.args.numbers.now s.args.strides.now s.requires.0) (λ c. rw (offset_back c, result_back c) (fits c)) (λ c. search rules) (λ c. search rules) (λ c. search rules) (λ c. search rules) loop_again
+    (λ c κs. let s = c in walkable_replica s.args.numbers.now s.args.strides.now s.requires.0) (λ c. rw (offset_back c, result_back c) (fits c)) (λ c. search rules) (λ c. search rules) (λ c. search rules) (λ c. search rules) loop_again
     (λ c. search rules) returns)

@@ -13,7 +13,7 @@ returns c =
 
 returns_2 : tie.Need-returns
 returns_2 c =
-    let s = c.before.before.before.before.before.before.before.before in
+    let s = c in
     let a = s.args in
     let write = c.write_row in
     let free = sym c.entry_met.ensures ∙ c.if-entry_met-ne0.false in

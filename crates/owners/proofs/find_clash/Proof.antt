@@ -18,7 +18,7 @@ cell c =
 
 sub_t8 : tie.Need-overflow_sub-result-2
 sub_t8 c =
-    let s = c.before.before.before.before in
+    let s = c in
     omega (arith, cell c, cell_found s.args.table.now s.args.row.now s.requires.1)
 
 pub find_clash_spec : {M : Type 1} → statement M

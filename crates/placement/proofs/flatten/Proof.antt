@@ -13,21 +13,21 @@ returns c = let a = c.args in element_uncounted a.shape a.coordinates c.if-coord
 
 returns_2 : tie.Need-returns-in-At
 returns_2 c =
-    let l = c.before in
-    let i = l.before.before.before in
+    let l = c in
+    let i = l in
     let a = i.args in
     element_found a.shape a.coordinates i.if-coordinates-shape.false c.in-At.number (sym l.locate.ensures ∙ c.in-At.is)
 
 returns_3 : tie.Need-returns-in-Past
 returns_3 c =
-    let l = c.before in
-    let i = l.before.before.before in
+    let l = c in
+    let i = l in
     let a = i.args in
     element_past a.shape a.coordinates i.if-coordinates-shape.false c.in-Past.field-0 (sym l.locate.ensures ∙ c.in-Past.is)
 
 locate_requires : tie.Need-locate-requires
 locate_requires c κs =
-    let s = c.before.before.before.before.before.before.before in
+    let s = c in
     let at = s.args.shape.at in
     let eight : length at ≡ 8 = search rules in
     let p = s.requires in

@@ -18,7 +18,7 @@ product_requires c κs =
 
 returns : tie.Need-returns-then-count
 returns c =
-    let s = c.before.before.before in
+    let s = c in
     rw c.if-count.true
     (ap (λ (n : ℕ). eqb n s.args.elements) c.product.ensures
     ∙ capped_eqb beyond (product (entries s.args.shape)) s.args.elements s.requires)

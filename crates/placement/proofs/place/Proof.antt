@@ -12,8 +12,8 @@ place_packed_requires c κs = c.pack-packed.ensures.whole
 
 returns : tie.Need-returns
 returns c =
-    let p = c.before.before in
-    let k = p.before.before.before.before.before.before in
+    let p = c in
+    let k = p in
     let a = k.args in
     let after = p.place_packed.new.memory in
     (placement_exactly a.card a.shape a.coordinates a.memory.now after p.place_packed.result).1

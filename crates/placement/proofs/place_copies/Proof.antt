@@ -16,7 +16,7 @@ use Rattle.placement.proofs.place_copies.Statement.{statement}
 use Rattle.placement.proofs.place_copies.Tie as tie
 
 fits : (s : tie.Start) → length s.args.memory.now ≤ 64
-fits s = let n = sized (card_of s.args.numbers.now s.args.strides.now) s.requires.0.admitted in omega (arith, s.requires.1, n.most-copies)
+fits s = let n = sized (card_of s.args.numbers.now s.args.strides.now) s.requires.0.admitted in omega (arith, s.requires.1, n.most_copies_lem)
 
 long : (s : tie.Start) → length {A = ℕ} (take (length s.args.memory.now) (replicate 64 0)) ≡ length s.args.memory.now
 long s = length-take-le (length s.args.memory.now) (replicate 64 0) (fits s)
@@ -58,24 +58,24 @@ returns c = record { smallest_axis = axis_is c.before.before; refused = λ h. re
 
 write_requires : tie.Need-write-requires
 write_requires c κs =
-    let p = c.before.before.before.before in
+    let p = c in
     let n = length (start p).args.memory.now in
-    (rw p.place_row-outside.ensures.cells (length_front (replicate 64 0) (cells p) n (cells_long p ∙ sym (long (start p)))), fits (start p))
+    (rw p.place_row-outside.ensures.cells (length_front (replicate 64 0) (cells p) n (cells_long p.before.before.before.before ∙ sym (long (start p)))), fits (start p))
 
 returns_2 : tie.Need-returns
 returns_2 c =
-    let w = c.before.before in
-    let two = w.before.before.before in
-    let p = two.before.before in
+    let w = c in
+    let two = w in
+    let p = two in
     let n = length (start p).args.memory.now in
     record {
-      smallest_axis = axis_is p;
+      smallest_axis = axis_is p.before.before.before.before.before.before.before;
       refused = λ h. absurd (omega (arith, two.if-outside-lt-AXES.false));
       placed = λ h.
           w.write.ensures
           ∙ ap (λ (l : List ℕ). take n (l ++ drop n (replicate 64 0))) p.place_row-outside.ensures.cells
-          ∙ take_at (cells p) (drop n (replicate 64 0)) n (cells_long p)
-          ∙ cells_are p;
+          ∙ take_at (cells p) (drop n (replicate 64 0)) n (cells_long p.before.before.before.before.before.before.before)
+          ∙ cells_are p.before.before.before.before.before.before.before;
     }
 
 pub place_copies_spec : {M : Type 1} → statement M

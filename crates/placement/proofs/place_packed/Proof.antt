@@ -28,8 +28,8 @@ asked s = card_of s.args.numbers.now s.args.strides.now
 
 returns : tie.Need-returns-in-Refused
 returns c =
-    let d = c.before in
-    let s = d.before.before in
+    let d = c in
+    let s = d in
     not_admitted (asked s) s.args.shape s.args.coordinates s.args.memory.now _ (sym d.admit_packed-admission.ensures ∙ c.in-Refused.is)
 
 -- what each check that was passed says
@@ -50,37 +50,37 @@ is_elements e = (measured (start e).args.numbers.now (start e).args.strides.now 
 
 is_shape : (i : tie.After-is_admitted) → let s = start i.before.before in shape_admitted s.args.shape (elements (asked s)) ≡ i.is_admitted.result
 is_shape i =
-    let e = i.before.before in
-    sym (i.is_admitted.ensures ∙ ap (shape_admitted (start e).args.shape) (is_elements e))
+    let e = i in
+    sym (i.is_admitted.ensures ∙ ap (shape_admitted (start e).args.shape) (is_elements e.before.before.before))
 
 shape_fits : (c : tie.Else-not-is_admitted) → let s = start c.before.before.before in shape_admitted s.args.shape (elements (asked s)) ≡ true
-shape_fits c = is_shape c.before ∙ not-false _ c.if-not-is_admitted.false
+shape_fits c = is_shape c.before ∙ c.if-not-is_admitted.false
 
 is_admitted_requires : tie.Need-is_admitted-requires
 is_admitted_requires c κs =
-    let e = c.before in
-    let n = sized (asked (start e)) (admits e).admitted in
-    omega (arith, is_elements e, n.most-elements)
+    let e = c in
+    let n = sized (asked (start e)) (admits e.before.before).admitted in
+    omega (arith, is_elements e.before.before, n.most_elements_lem)
 
 returns_2 : tie.Need-returns-then-not-is_admitted
 returns_2 c =
-    let e = c.before.before.before in
+    let e = c in
     let s = start e in
-    not_shaped (asked s) s.args.shape s.args.coordinates s.args.memory.now (admitted e) (is_shape c.before ∙ not-true _ c.if-not-is_admitted.true)
+    not_shaped (asked s) s.args.shape s.args.coordinates s.args.memory.now (admitted e.before.before.before.before) (is_shape c.before ∙ c.if-not-is_admitted.true)
 
 flatten_requires : tie.Need-flatten-found-requires
 flatten_requires c κs =
-    let e = c.before.before.before in
+    let e = c in
     let s = start e in
-    let n = sized (asked s) (admits e).admitted in
-    shaped s.args.shape (elements (asked s)) n.some_elements n.most-elements (shape_fits c)
+    let n = sized (asked s) (admits e.before.before.before.before).admitted in
+    shaped s.args.shape (elements (asked s)) n.some_elements n.most_elements_lem (shape_fits c)
 
 returns_3 : tie.Need-returns-in_default-found
 returns_3 c =
-    let f = c.before in
-    let e = f.before.before.before.before in
+    let f = c in
+    let e = f in
     let s = start e in
-    not_fitting (asked s) s.args.shape s.args.coordinates s.args.memory.now (admitted e) (shape_fits f.before)
+    not_fitting (asked s) s.args.shape s.args.coordinates s.args.memory.now (admitted e.before.before.before.before.before.before) (shape_fits f.before.before)
     (unnamed s.args.shape s.args.coordinates (sym f.flatten-found.ensures ∙ c.in_default-found.is))
 
 -- the element that the coordinates name
@@ -97,51 +97,51 @@ name_it : (k : tie.In-Element)
     → (coordinates_fit (start (told k)).args.shape (start (told k)).args.coordinates ≡ true)
     × (flatten (start (told k)).args.shape (start (told k)).args.coordinates ≡ (flat_of k).0)
 name_it k =
-    let f = k.before in
+    let f = k in
     let a = (start (told k)).args in
     named a.shape a.coordinates (flat_of k) (sym f.flatten-found.ensures ∙ k.in-Element.is)
 
 returns_4 : tie.Need-returns-then-memory-copies
 returns_4 c =
-    let k = c.before.before in
+    let k = c in
     let e = told k in
     let s = start e in
-    too_short (asked s) s.args.shape s.args.coordinates s.args.memory.now (admitted e) (shape_fits (shape_of k)) (flat_of k) (name_it k)
+    too_short (asked s) s.args.shape s.args.coordinates s.args.memory.now (admitted e) (shape_fits (shape_of k)) (flat_of k) (name_it k.before.before)
     _ (is_copies e) c.if-memory-copies.true
 
 slice_aggregate_place_cells : tie.Need-slice_bounds-place_cells-end-2
 slice_aggregate_place_cells c =
-    let two = c.before in
+    let two = c in
     sym (length-take-le _ (start (told two.before.before)).args.memory.now two.if-memory-copies.false)
 
 place_cells_requires : tie.Need-place_cells-axis-requires
 place_cells_requires c κs =
-    let two = c.before in
+    let two = c in
     let e = told two.before.before in
     (admits e, length-take-le _ (start e).args.memory.now two.if-memory-copies.false ∙ is_copies e)
 
 returns_5 : tie.Need-returns-then-axis-lt-AXES
 returns_5 c =
-    let p = c.before.before.before in
-    let two = p.before.before in
-    let k = two.before.before in
+    let p = c in
+    let two = p in
+    let k = two in
     let e = told k in
     let s = start e in
     let n = get_or s.args.numbers.now 46 0 in
     let memory = s.args.memory.now in
     rw (ap (λ (l : List ℕ). l ++ drop n memory) (p.place_cells-axis.ensures.refused c.if-axis-lt-AXES.true) ∙ take-append-drop n memory)
-    (lies_outside (asked s) s.args.shape s.args.coordinates memory (admitted e) (shape_fits (shape_of k)) (flat_of k) (name_it k)
+    (lies_outside (asked s) s.args.shape s.args.coordinates memory (admitted e) (shape_fits (shape_of k)) (flat_of k) (name_it k.before.before.before.before.before.before.before)
     n p.place_cells-axis.result (is_copies e) two.if-memory-copies.false p.place_cells-axis.ensures.smallest_axis c.if-axis-lt-AXES.true)
 
 returns_6 : tie.Need-returns
 returns_6 c =
-    let p = c.before.before.before in
-    let two = p.before.before in
-    let k = two.before.before in
+    let p = c in
+    let two = p in
+    let k = two in
     let e = told k in
     let s = start e in
     let n = get_or s.args.numbers.now 46 0 in
-    copied (asked s) s.args.shape s.args.coordinates s.args.memory.now (admitted e) (shape_fits (shape_of k)) (flat_of k) (name_it k)
+    copied (asked s) s.args.shape s.args.coordinates s.args.memory.now (admitted e) (shape_fits (shape_of k)) (flat_of k) (name_it k.before.before.before.before.before.before.before)
     n p.place_cells-axis.result (is_copies e) two.if-memory-copies.false p.place_cells-axis.ensures.smallest_axis c.if-axis-lt-AXES.false
     (ap (λ (l : List ℕ). l ++ drop n s.args.memory.now) (p.place_cells-axis.ensures.placed c.if-axis-lt-AXES.false))
 

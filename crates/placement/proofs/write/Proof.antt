@@ -24,16 +24,16 @@ mul_memory : tie.Need-offset_bounds-row-k invariant_loop decreases_loop
 mul_memory c = omega (arith, below c)
 
 element_copy_out_memory : tie.Need-bounds-row-k invariant_loop decreases_loop
-element_copy_out_memory c = below c
+element_copy_out_memory c = below c.before
 
 mul_memory_2 : tie.Need-offset_bounds-memory-k invariant_loop decreases_loop
-mul_memory_2 c = omega (arith, below c.before)
+mul_memory_2 c = omega (arith, below c.before.before)
 
 slice_write_memory : tie.Need-bounds-memory-k invariant_loop decreases_loop
 slice_write_memory c = omega (arith, c.loop-k.invariant.1.long)
 
 add_k : tie.Need-overflow_add-k invariant_loop decreases_loop
-add_k c = omega (arith, below c.before)
+add_k c = omega (arith, below c.before.before)
 
 loop_less : tie.Need-loop-k-smaller invariant_loop decreases_loop
 loop_less c = omega (arith, c.loop-k.invariant.1.long)
@@ -50,7 +50,7 @@ same_length c = c.loop-k.invariant.1.long
 returns : tie.Need-returns invariant_loop decreases_loop
 returns c =
     let l = c.loop-k in
-    let s = c.before.before in
+    let s = c in
     let end : l.k ≡ length s.args.memory.now = omega (arith, l.invariant.1.long) in
     copied_all s.args.row.now s.args.memory.now l.memory (omega (arith, s.requires.0)) (rw end at l.invariant.1)
 

@@ -34,17 +34,17 @@ parted_other c = length-take-le (size c) (judged c).open-pair.new.1.1.1.0 (long_
 
 returns : tie.Need-returns-in-Matching
 returns c =
-    let call = c.before.before.before.before in
-    let p = call.before.before.before in
+    let call = c in
+    let p = call in
     let s = start (judged p) in
     let plan : List ℕ = s.args.plan.now in
     (check_exactly s.args.one s.args.two s.args.first.now s.args.second.now plan _ _ _).1
-    (out (judged p).open-pair.ensures (ready p) Refused (plan_checked (cells s.args.one) plan) (λ (n : ℕ) (l r : List ℕ). plan_checked n plan l r)
+    (out (judged p).open-pair.ensures (ready p.before.before.before.before.before.before.before) Refused (plan_checked (cells s.args.one) plan) (λ (n : ℕ) (l r : List ℕ). plan_checked n plan l r)
     (λ l r. refl) call.check_cells.ensures)
 
 returns_2 : tie.Need-returns-in-Refused
 returns_2 c =
-    let k = c.before.before.before.before.before in
+    let k = c in
     let s = start k in
     (check_exactly s.args.one s.args.two s.args.first.now s.args.second.now s.args.plan.now _ _ _).1
     (refused_before k.open_pair-opened.ensures Refused (plan_checked (cells s.args.one) s.args.plan.now) c.in-Refused.is)

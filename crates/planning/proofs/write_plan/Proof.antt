@@ -38,21 +38,21 @@ matching c =
 
 write_cells_requires : tie.Need-write_cells-requires
 write_cells_requires c κs =
-    let p = c.before.before.before in
-    (matching p, (parted p ∙ sym (parted_other p), (ready p).counted ∙ ap occupied (sym (take_second (judged p).open-pair.ensures (ready p)))))
+    let p = c in
+    (matching p.before.before.before, (parted p.before.before.before ∙ sym (parted_other p.before.before.before), (ready p.before.before.before).counted ∙ ap occupied (sym (take_second (judged p).open-pair.ensures (ready p.before.before.before)))))
 
 returns : tie.Need-returns-in-Matching
 returns c =
-    let call = c.before.before.before.before.before.before in
-    let p = call.before.before.before.before in
+    let call = c in
+    let p = call in
     let done = call.write_cells.ensures in
     let a = (start (judged p)).args in
     (plan_exactly a.one a.two a.first.now a.second.now a.plan.now _ _ _ _).1
-    (written_out (judged p).open-pair.ensures (ready p) a.plan.now done.0 done.1)
+    (written_out (judged p).open-pair.ensures (ready p.before.before.before.before.before.before.before.before.before.before) a.plan.now done.0 done.1)
 
 returns_2 : tie.Need-returns-in-Refused
 returns_2 c =
-    let k = c.before.before.before.before.before in
+    let k = c in
     let a = (start k).args in
     (plan_exactly a.one a.two a.first.now a.second.now a.plan.now _ _ _ _).1
     (not_planned k.open_pair-opened.ensures a.plan.now c.in-Refused.is)

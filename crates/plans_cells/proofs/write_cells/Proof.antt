@@ -14,10 +14,10 @@ use Rattle.plans_cells.proofs.write_cells.Tie as tie
 
 returns : tie.Need-returns-then-shared-ne0
 returns c =
-    let other = c.before.before in
-    let call = other.before.before.before.before in
-    let k = call.before.before in
-    let s = k.before.before.before.before.before in
+    let other = c in
+    let call = other in
+    let k = call in
+    let s = k in
     overlaps s.args.plan.now s.args.first.now s.args.second.now s.requires.1.0 k.first_shared-shared.ensures (omega (arith, k.if-shared-ne0.true))
     call.clear.ensures other.clear-then-shared-ne0.ensures
 
@@ -30,16 +30,16 @@ none c = sym c.first_shared-shared.ensures ∙ omega (arith, c.if-shared-ne0.fal
 -- twice the occupied cells is a number
 mul_numbers : tie.Need-overflow_mul-numbers
 mul_numbers c =
-    let s = c.before.before.before.before.before in
+    let s = c in
     omega (arith, s.requires.1.1, occupied_most s.args.second.now)
 
 returns_2 : tie.Need-returns-then-plan-numbers
 returns_2 c =
-    let other = c.before.before in
-    let call = other.before.before.before.before in
-    let k = call.before.before.before in
-    let s = k.before.before.before.before.before in
-    too_few s.args.plan.now s.args.first.now s.args.second.now s.requires.1.0 (none k) (ap (λ (n : ℕ). 2 * n) s.requires.1.1)
+    let other = c in
+    let call = other in
+    let k = call in
+    let s = k in
+    too_few s.args.plan.now s.args.first.now s.args.second.now s.requires.1.0 (none k.before.before.before.before.before.before.before.before.before) (ap (λ (n : ℕ). 2 * n) s.requires.1.1)
     (omega (arith, call.if-plan-numbers.true)) call.clear-then-plan-numbers.ensures other.clear-then-plan-numbers-2.ensures
 
 -- there is room
@@ -60,7 +60,7 @@ put_plan_requires c κs =
 
 returns_3 : tie.Need-returns
 returns_3 c =
-    let call = c.before.before in
+    let call = c in
     let k = called call.before in
     let s = start k in
     filled s.args.plan.now s.args.first.now s.args.second.now s.pre.1.0 (none k.before) (ap (λ (n : ℕ). 2 * n) s.pre.1.1) (room k)

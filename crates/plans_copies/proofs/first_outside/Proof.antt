@@ -21,7 +21,7 @@ returns : tie.Need-returns-then-not-names_cells invariant_loop decreases_loop
 returns c =
     let head = c.loop-copy in
     let a = c.args in
-    sym (outside_here a.cells a.plan.now head.copy (omega arith) (sym c.names_cells.ensures ∙ not-true _ c.if-not-names_cells.true))
+    sym (outside_here a.cells a.plan.now head.copy (omega arith) (sym c.names_cells.ensures ∙ c.if-not-names_cells.true))
     ∙ head.invariant.1
 
 loop_again : tie.Need-loop-copy-preserved invariant_loop decreases_loop
@@ -29,7 +29,7 @@ loop_again c =
     let head = c.loop-copy in
     let a = c.args in
     let in_cells = both_inside (get_or a.plan.now (2 * head.copy) 0) (get_or a.plan.now (2 * head.copy + 1) 0) a.cells
-    (sym c.names_cells.ensures ∙ not-false _ c.if-not-names_cells.false) in (
+    (sym c.names_cells.ensures ∙ c.if-not-names_cells.false) in (
       omega arith,
       outside_step a.cells a.plan.now head.copy (omega arith) in_cells.0 in_cells.1 ∙ head.invariant.1,
     )

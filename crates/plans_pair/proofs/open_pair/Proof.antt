@@ -25,7 +25,7 @@ start c = c.before.before.before.before.before.before.before
 -- one space
 space : (c : tie.Else-not-same_lengths-space_fits) → one_space (start c).args.one.lengths (start c).args.two.lengths ≡ true
 space c =
-    sym (ap₂ (λ (a b : Bool). a && b) c.same_lengths.ensures c.space_fits.ensures) ∙ not-false _ c.if-not-same_lengths-space_fits.false
+    sym (ap₂ (λ (a b : Bool). a && b) c.same_lengths.ensures c.space_fits.ensures) ∙ c.if-not-same_lengths-space_fits.false
 
 -- the cells
 cells_are : (c : tie.After-product-cells) → c.product-cells.result ≡ cells (start c.before).args.one
@@ -37,26 +37,26 @@ cells_are c =
 
 returns : tie.Need-returns-then-not-same_lengths-space_fits
 returns c =
-    let s = c.before.before.before.before.before.before.before in
+    let s = c in
     no_space s.args.one s.args.two s.args.first.now s.args.second.now
-    (sym (ap₂ (λ (a b : Bool). a && b) c.same_lengths.ensures c.space_fits.ensures) ∙ not-true _ c.if-not-same_lengths-space_fits.true)
+    (sym (ap₂ (λ (a b : Bool). a && b) c.same_lengths.ensures c.space_fits.ensures) ∙ c.if-not-same_lengths-space_fits.true)
 
 returns_2 : tie.Need-returns-then-is_one_short
 returns_2 c =
-    let p = c.before.before in
+    let p = c in
     let s = start p.before in
-    no_room s.args.one s.args.two s.args.first.now s.args.second.now (space p.before) (cells_are p)
+    no_room s.args.one s.args.two s.args.first.now s.args.second.now (space p.before.before.before) (cells_are p.before.before)
     (sym c.is_one_short.ensures ∙ c.if-is_one_short.true)
 
 settle_both_requires : tie.Need-settle_both-requires
 settle_both_requires c κs =
-    let k = c.before.before in
-    let p = k.before.before in
+    let k = c in
+    let p = k in
     let s = start p.before in
     let enough =
     neither (ltb (length s.args.first.now) p.product-cells.result) (ltb (length s.args.second.now) p.product-cells.result)
     (sym k.is_one_short.ensures ∙ k.if-is_one_short.false) in
-    (space p.before, (cells_are p, ltb-false _ _ enough.0, ltb-false _ _ enough.1))
+    (space p.before.before.before.before.before, (cells_are p.before.before.before.before, ltb-false _ _ enough.0, ltb-false _ _ enough.1))
 
 pub open_pair_spec : {M : Type 1} → statement M
 open_pair_spec =

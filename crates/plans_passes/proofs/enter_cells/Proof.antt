@@ -24,12 +24,12 @@ loop_holds c =
 enter_cell_requires : tie.Need-enter_cell-requires invariant_loop decreases_loop
 enter_cell_requires c κs =
     let head = c.loop-cell in
-    let s = c.before.before.before.before.before.before in
+    let s = c in
     omega (arith, s.requires (head.cell - 1), head.invariant.1)
 
 loop_again : tie.Need-loop-cell-preserved invariant_loop decreases_loop
 loop_again c =
-    let call = c.before.before in
+    let call = c in
     let head = call.loop-cell in
     let a = call.args in
     let cell : ℕ = head.cell in (

@@ -18,16 +18,16 @@ fits_second s = second_fits s.requires.0.elements s.args.first.now s.args.second
 
 put_sources_requires : tie.Need-put_sources-requires
 put_sources_requires c κs =
-    let call = c.before.before.before in
-    let s = call.before.before.before.before.before in
-    (λ d. omega (arith, fits_second s d, call.enter_cells.auto.plan), omega (arith, s.requires.1, call.enter_cells.auto.plan))
+    let call = c in
+    let s = call in
+    (λ d. omega (arith, fits_second s.before.before.before.before.before.before.before.before d, call.enter_cells.auto.plan), omega (arith, s.requires.1, call.enter_cells.auto.plan))
 
 returns : tie.Need-returns
 returns c =
-    let third = c.before.before in
-    let next = third.before.before.before.before in
-    let call = next.before.before.before.before in
-    let s = call.before.before.before.before.before in
+    let third = c in
+    let next = third in
+    let call = next in
+    let s = call in
     let a = s.args in
     third.put_targets.ensures
     ∙ ap (λ (p : List ℕ). aimed_from a.second.now 0 0 p) next.put_sources.ensures

@@ -23,13 +23,13 @@ decreases_loop second plan₀ copy₀ cell₀ plan copy cell = length second - c
 put_source_requires : tie.Need-put_source-copy-requires invariant_loop decreases_loop
 put_source_requires c κs =
     let head = c.loop-cell in
-    let s = c.before.before.before.before.before.before in
+    let s = c in
     let step = occupied_step s.args.second.now head.cell (omega arith) in
     (omega (arith, s.requires.0 head.cell, head.invariant.1), omega (arith, s.requires.1, head.invariant.1, head.invariant.2, step))
 
 loop_again : tie.Need-loop-cell-preserved invariant_loop decreases_loop
 loop_again c =
-    let call = c.before.before in
+    let call = c in
     let head = call.loop-cell in
     let a = call.args in
     let owner : ℕ = get_or a.second.now head.cell 0 in

@@ -21,61 +21,61 @@ loop_holds c = (omega (arith, c.requires.0), c.requires.1, λ part l m g h. h)
 
 returns : tie.Need-returns-then-not-one invariant_loop decreases_loop
 returns c =
-    let n = c.before.before.before in
-    let l = n.before in
+    let n = c in
+    let l = n in
     let a = l.args in
     rw c.no_extents.ensures
-    (extents_none a.text.now a.from a.least a.most l.loop-at.i l.loop-at.k l.loop-at.at n.number-one.result l.loop-at.invariant.2 n.number-one.ensures _ _ (not-true _ c.if-not-one.true))
+    (extents_none a.text.now a.from a.least a.most l.loop-at.i l.loop-at.k l.loop-at.at n.number-one.result l.loop-at.invariant.2 n.number-one.ensures _ _ (c.if-not-one.true))
 
 add_word : tie.Need-overflow_add-next invariant_loop decreases_loop
 add_word c =
-    let n = c.before.before.before.before.before.before in
-    let l = n.before in
+    let n = c in
+    let l = n in
     let a = l.args in
     omega (arith, within_yes a.text.now n.number-one.result.next (eqb (get_or a.text.now n.number-one.result.next 0) 41) (leb a.least (l.loop-at.k + 1)) (rw c.stands-then-not-stands-k.ensures at c.if-stands-least.true))
 
 word_requires : tie.Need-word-open-requires invariant_loop decreases_loop
 word_requires c κs =
-    let n = c.before.before.before.before.before.before in
-    let l = n.before in
+    let n = c in
+    let l = n in
     let a = l.args in
     omega (arith, within_yes a.text.now n.number-one.result.next (eqb (get_or a.text.now n.number-one.result.next 0) 41) (leb a.least (l.loop-at.k + 1)) (rw c.stands-then-not-stands-k.ensures at c.if-stands-least.true))
 
 returns_2 : tie.Need-returns-then-stands-least invariant_loop decreases_loop
 returns_2 c =
-    let d = c.before.before.before in
-    let n = d.before.before.before.before in
-    let l = n.before in
+    let d = c in
+    let n = d in
+    let l = n in
     let a = l.args in
     extents_good a.text.now a.from a.least a.most l.loop-at.i l.loop-at.k l.loop-at.at n.number-one.result l.loop-at.invariant.2 n.number-one.ensures c.word-open.result (omega (arith, l.loop-at.invariant.0, l.loop-at.invariant.1))
-    (not-false _ d.if-not-one.false) (not-true _ (rw d.stands.ensures at d.if-not-stands-k.true)) (rw c.stands-then-not-stands-k.ensures at c.if-stands-least.true) c.word-open.ensures
+    (d.if-not-one.false) (not-true _ (rw d.stands.ensures at d.if-not-stands-k.true)) (rw c.stands-then-not-stands-k.ensures at c.if-stands-least.true) c.word-open.ensures
 
 returns_3 : tie.Need-returns-then-not-stands-k invariant_loop decreases_loop
 returns_3 c =
-    let d = c.before.before.before in
-    let n = d.before.before.before.before in
-    let l = n.before in
+    let d = c in
+    let n = d in
+    let l = n in
     let a = l.args in
     rw c.no_extents-then-not-stands-k.ensures
     (extents_bad a.text.now a.from a.least a.most l.loop-at.i l.loop-at.k l.loop-at.at n.number-one.result l.loop-at.invariant.2 n.number-one.ensures _ _
-    (not-false _ d.if-not-one.false) (not-true _ (rw d.stands.ensures at d.if-not-stands-k.true)) (rw c.stands-then-not-stands-k.ensures at c.if-stands-least.false))
+    (d.if-not-one.false) (not-true _ (rw d.stands.ensures at d.if-not-stands-k.true)) (rw c.stands-then-not-stands-k.ensures at c.if-stands-least.false))
 
 add_i : tie.Need-overflow_add-i invariant_loop decreases_loop
 add_i c =
-    let n = c.before.before.before.before in
-    let l = n.before in
+    let n = c in
+    let l = n in
     let a = l.args in
     omega (arith, within_yes a.text.now n.number-one.result.next (eqb (get_or a.text.now n.number-one.result.next 0) 44) (ltb (l.loop-at.k + 1) a.most) (not-false _ (rw c.stands.ensures at c.if-not-stands-k.false)))
 
 loop_again : tie.Need-loop-at-preserved invariant_loop decreases_loop
 loop_again c =
-    let n = c.before.before.before.before in
-    let l = n.before in
+    let n = c in
+    let l = n in
     let a = l.args in
     let comma = not-false _ (rw c.stands.ensures at c.if-not-stands-k.false) in (
       second_less a.text.now n.number-one.result.next 44 (l.loop-at.k + 1) a.most comma,
       l.loop-at.invariant.1,
-      extents_more a.text.now a.from a.least a.most l.loop-at.i l.loop-at.k l.loop-at.at n.number-one.result l.loop-at.invariant.2 n.number-one.ensures (not-false _ c.if-not-one.false) comma,
+      extents_more a.text.now a.from a.least a.most l.loop-at.i l.loop-at.k l.loop-at.at n.number-one.result l.loop-at.invariant.2 n.number-one.ensures (c.if-not-one.false) comma,
     )
 
 pub read_extents_spec : {M : Type 1} → statement M

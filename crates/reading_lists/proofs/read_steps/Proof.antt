@@ -21,72 +21,72 @@ loop_holds c = (omega (arith, c.requires.0), c.requires.1, λ part l g e h. h)
 
 returns : tie.Need-returns-then-not-one invariant_loop decreases_loop
 returns c =
-    let n = c.before.before.before in
-    let l = n.before in
+    let n = c in
+    let l = n in
     let a = l.args in
     rw c.no_steps.ensures
-    (steps_none a.text.now a.from a.iters a.count a.shard l.loop-at.i l.loop-at.k l.loop-at.at l.loop-at.marks n.Read-step.result l.loop-at.invariant.2 n.Read-step.ensures _ _ (not-true _ c.if-not-one.true))
+    (steps_none a.text.now a.from a.iters a.count a.shard l.loop-at.i l.loop-at.k l.loop-at.at l.loop-at.marks n.Read-step.result l.loop-at.invariant.2 n.Read-step.ensures _ _ (c.if-not-one.true))
 
 with_step_requires : tie.Need-with_step-requires invariant_loop decreases_loop
-with_step_requires c κs = let n = c.before.before.before.before in n.Read-step.ensures.small (not-false _ c.if-not-one.false)
+with_step_requires c κs = let n = c in n.Read-step.ensures.small (c.if-not-one.false)
 
 add_word : tie.Need-overflow_add-next invariant_loop decreases_loop
 add_word c =
-    let d = c.before.before in
-    let n = d.before.before.before.before.before.before.before.before in
-    let l = n.before in
+    let d = c in
+    let n = d in
+    let l = n in
     let a = l.args in
     omega (arith, within_yes a.text.now n.Read-step.result.next (eqb (get_or a.text.now n.Read-step.result.next 0) 41) (eqb (l.loop-at.k + 1) a.count) (rw c.stands-then-not-stands-k.ensures at c.if-stands-k.true))
 
 word_requires : tie.Need-word-shut-requires invariant_loop decreases_loop
 word_requires c κs =
-    let d = c.before.before in
-    let n = d.before.before.before.before.before.before.before.before in
-    let l = n.before in
+    let d = c in
+    let n = d in
+    let l = n in
     let a = l.args in
     omega (arith, within_yes a.text.now n.Read-step.result.next (eqb (get_or a.text.now n.Read-step.result.next 0) 41) (eqb (l.loop-at.k + 1) a.count) (rw c.stands-then-not-stands-k.ensures at c.if-stands-k.true))
 
 returns_2 : tie.Need-returns-then-stands-k invariant_loop decreases_loop
 returns_2 c =
-    let d = c.before.before.before in
-    let m = d.before.before in
-    let n = m.before.before.before.before.before.before in
-    let l = n.before in
+    let d = c in
+    let m = d in
+    let n = m in
+    let l = n in
     let a = l.args in
     rw (m.is_marked.ensures, m.with_step.ensures)
     (steps_good a.text.now a.from a.iters a.count a.shard l.loop-at.i l.loop-at.k l.loop-at.at l.loop-at.marks n.Read-step.result l.loop-at.invariant.2 n.Read-step.ensures c.word-shut.result
-    (not-false _ m.if-not-one.false) (not-true _ (rw d.stands.ensures at d.if-not-stands-k.true)) (rw c.stands-then-not-stands-k.ensures at c.if-stands-k.true) c.word-shut.ensures)
+    (m.if-not-one.false) (not-true _ (rw d.stands.ensures at d.if-not-stands-k.true)) (rw c.stands-then-not-stands-k.ensures at c.if-stands-k.true) c.word-shut.ensures)
 
 returns_3 : tie.Need-returns-then-not-stands-k invariant_loop decreases_loop
 returns_3 c =
-    let d = c.before.before.before in
-    let m = d.before.before in
-    let n = m.before.before.before.before.before.before in
-    let l = n.before in
+    let d = c in
+    let m = d in
+    let n = m in
+    let l = n in
     let a = l.args in
     rw c.no_steps-then-not-stands-k.ensures
     (steps_bad a.text.now a.from a.iters a.count a.shard l.loop-at.i l.loop-at.k l.loop-at.at l.loop-at.marks n.Read-step.result l.loop-at.invariant.2 n.Read-step.ensures _ _
-    (not-false _ m.if-not-one.false) (not-true _ (rw d.stands.ensures at d.if-not-stands-k.true)) (rw c.stands-then-not-stands-k.ensures at c.if-stands-k.false))
+    (m.if-not-one.false) (not-true _ (rw d.stands.ensures at d.if-not-stands-k.true)) (rw c.stands-then-not-stands-k.ensures at c.if-stands-k.false))
 
 add_i : tie.Need-overflow_add-i invariant_loop decreases_loop
 add_i c =
-    let m = c.before.before in
-    let n = m.before.before.before.before.before.before in
-    let l = n.before in
+    let m = c in
+    let n = m in
+    let l = n in
     let a = l.args in
     omega (arith, within_yes a.text.now n.Read-step.result.next (eqb (get_or a.text.now n.Read-step.result.next 0) 44) (ltb (l.loop-at.k + 1) a.count) (not-false _ (rw c.stands.ensures at c.if-not-stands-k.false)))
 
 loop_again : tie.Need-loop-at-preserved invariant_loop decreases_loop
 loop_again c =
-    let m = c.before.before in
-    let n = m.before.before.before.before.before.before in
-    let l = n.before in
+    let m = c in
+    let n = m in
+    let l = n in
     let a = l.args in
     let comma = not-false _ (rw c.stands.ensures at c.if-not-stands-k.false) in
     rw (m.is_marked.ensures, m.with_step.ensures) (
       second_less a.text.now n.Read-step.result.next 44 (l.loop-at.k + 1) a.count comma,
       l.loop-at.invariant.1,
-      steps_more a.text.now a.from a.iters a.count a.shard l.loop-at.i l.loop-at.k l.loop-at.at l.loop-at.marks n.Read-step.result l.loop-at.invariant.2 n.Read-step.ensures (not-false _ m.if-not-one.false) comma,
+      steps_more a.text.now a.from a.iters a.count a.shard l.loop-at.i l.loop-at.k l.loop-at.at l.loop-at.marks n.Read-step.result l.loop-at.invariant.2 n.Read-step.ensures (m.if-not-one.false) comma,
     )
 
 pub read_steps_spec : {M : Type 1} → statement M

@@ -6,7 +6,7 @@ use Rattle.reading_lists.proofs.with_step.Tie as tie
 
 returns : tie.Need-returns
 returns c =
-    let a = c.before in
+    let a = c in
     let t = a.args.step in
     let stride = as_written t.negative t.size a.requires c.value-stride.result c.value-stride.ensures in
     λ j. record { extent = a.args.iter.extent; stride = stride j; axis = a.axis_of-axis.ensures j }

@@ -23,7 +23,7 @@ returns_2 c =
 
 returns_3 : tie.Need-returns-then-a-least
 returns_3 c =
-    let n = c.before.before.before in
+    let n = c in
     let a = n.args in
     let b = get_or a.text.now a.from 0 in
     let named = rw n.initial-a.ensures at c.if-a-least.true in
@@ -32,7 +32,7 @@ returns_3 c =
 
 returns_4 : tie.Need-returns
 returns_4 c =
-    let n = c.before.before in
+    let n = c in
     let a = n.args in
     rw c.wrong-2.ensures
     (axis_bad At a.text.now a.from a.least (λ p s. refl)

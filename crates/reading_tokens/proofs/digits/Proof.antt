@@ -22,26 +22,26 @@ loop_holds c = (c.requires, (λ q p s l n h. h), λ h. h)
 
 returns : tie.Need-returns-then-not-goes_on invariant_loop decreases_loop
 returns c =
-    let d = c.before.before.before in
-    let l = d.before.before.before in
+    let d = c in
+    let l = d in
     rw c.right.ensures
-    record { fit = refl; runs_to = l.loop-i.invariant.1; stops = λ _. rw d.digit-d.ensures at (sym c.goes_on.ensures ∙ not-true _ c.if-not-goes_on.true); small = l.loop-i.invariant.2 }
+    record { fit = refl; runs_to = l.loop-i.invariant.1; stops = λ _. rw d.digit-d.ensures at (sym c.goes_on.ensures ∙ c.if-not-goes_on.true); small = l.loop-i.invariant.2 }
 
 longer_requires : tie.Need-longer-value-requires invariant_loop decreases_loop
-longer_requires c κs = sym c.goes_on.ensures ∙ not-false _ c.if-not-goes_on.false
+longer_requires c κs = sym c.goes_on.ensures ∙ c.if-not-goes_on.false
 
 loop_again : tie.Need-loop-i-preserved invariant_loop decreases_loop
 loop_again c =
-    let d = c.before.before.before in
-    let l = d.before.before.before in
+    let d = c in
+    let l = d in
     let t = l.args.text.now in
-    let on = rw d.digit-d.ensures at (sym c.goes_on.ensures ∙ not-false _ c.if-not-goes_on.false) in
+    let on = rw d.digit-d.ensures at (sym c.goes_on.ensures ∙ c.if-not-goes_on.false) in
     rw (c.longer-value.ensures, d.digit-d.ensures)
     (omega arith, digits_more t l.args.from l.args.first l.loop-i.i l.loop-i.value l.loop-i.invariant.1 (omega arith) on, λ _. still_small l.loop-i.value (digit_of (get_or t l.loop-i.i 0)) on)
 
 returns_2 : tie.Need-returns invariant_loop decreases_loop
 returns_2 c =
-    let l = c.before.before in
+    let l = c in
     rw c.right-2.ensures record { fit = refl; runs_to = l.loop-i.invariant.1; stops = λ h. absurd (omega (arith, h)); small = l.loop-i.invariant.2 }
 
 pub digits_spec : {M : Type 1} → statement M

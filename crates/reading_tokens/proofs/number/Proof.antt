@@ -12,13 +12,13 @@ returns c =
 
 returns_2 : tie.Need-returns-then-least-d
 returns_2 c =
-    let d = c.before.before in
+    let d = c in
     let a = d.args in
     number_good a.text.now a.from a.least _ (omega arith) (rw d.digit-d.ensures at c.if-least-d.true) (rw d.digit-d.ensures at c.digits.ensures)
 
 returns_3 : tie.Need-returns
 returns_3 c =
-    let d = c.before.before in
+    let d = c in
     let a = d.args in
     rw c.wrong-2.ensures (number_bad a.text.now a.from a.least (λ _. rw d.digit-d.ensures at c.if-least-d.false))
 

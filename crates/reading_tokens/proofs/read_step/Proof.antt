@@ -6,13 +6,13 @@ use Rattle.reading_tokens.proofs.read_step.Tie as tie
 
 returns : tie.Need-returns-then-m
 returns c =
-    let m = c.before.before in
+    let m = c in
     let a = m.args in
     step_good a.text.now a.from a.least a.marks m.size-m.result c.spot-p.result c.if-m.true m.size-m.ensures c.spot-p.ensures
 
 returns_2 : tie.Need-returns
 returns_2 c =
-    let m = c.before.before in
+    let m = c in
     let a = m.args in
     step_bad a.text.now a.from a.least a.marks m.size-m.result _ c.if-m.false m.size-m.ensures
 

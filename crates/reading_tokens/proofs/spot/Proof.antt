@@ -14,12 +14,12 @@ use Rattle.reading_tokens.proofs.spot.Tie as tie
 returns : tie.Need-returns-then-not-stands
 returns c =
     let a = c.args in
-    spot_bare a.text.now a.from a.least a.marks (stands_no a.text.now a.from 64 (sym c.stands.ensures ∙ not-true _ c.if-not-stands.true))
+    spot_bare a.text.now a.from a.least a.marks (stands_no a.text.now a.from 64 (sym c.stands.ensures ∙ c.if-not-stands.true))
 
 at_sign : (c : tie.Else-not-stands) → let a = c.args in (a.from < length a.text.now) × (eqb (get_or a.text.now a.from 0) 64 ≡ true)
 at_sign c =
     let a = c.args in
-    let y = stands_yes a.text.now a.from 64 (sym c.stands.ensures ∙ not-false _ c.if-not-stands.false) in
+    let y = stands_yes a.text.now a.from 64 (sym c.stands.ensures ∙ c.if-not-stands.false) in
     (y.0, eq-eqb (get_or a.text.now a.from 0) 64 y.1)
 
 add_axis : tie.Need-overflow_add-from
@@ -27,30 +27,30 @@ add_axis c = omega (arith, (at_sign c).0)
 
 returns_2 : tie.Need-returns-then-not-name
 returns_2 c =
-    let x = c.before.before in
+    let x = c in
     let a = x.args in
-    let y = at_sign x.before in
-    spot_bad a.text.now a.from a.least a.marks x.axis-name.result y.0 y.1 x.axis-name.ensures (not-true _ c.if-not-name.true)
+    let y = at_sign x.before.before.before in
+    spot_bad a.text.now a.from a.least a.marks x.axis-name.result y.0 y.1 x.axis-name.ensures (c.if-not-name.true)
 
 add_t12 : tie.Need-overflow_add-result
 add_t12 c =
-    let x = c.before.before.before.before in
+    let x = c in
     let a = x.args in
     omega (arith, marked_inside a.text.now x.axis-name.result.next a.marks (rw c.stands-2.ensures at c.if-stands-marks.true))
 
 returns_3 : tie.Need-returns-then-stands-marks
 returns_3 c =
-    let x = c.before.before.before.before in
+    let x = c in
     let a = x.args in
-    let y = at_sign x.before in
-    spot_marked a.text.now a.from a.least a.marks x.axis-name.result y.0 y.1 x.axis-name.ensures (not-false _ c.if-not-name.false) (rw c.stands-2.ensures at c.if-stands-marks.true)
+    let y = at_sign x.before.before.before.before.before in
+    spot_marked a.text.now a.from a.least a.marks x.axis-name.result y.0 y.1 x.axis-name.ensures (c.if-not-name.false) (rw c.stands-2.ensures at c.if-stands-marks.true)
 
 returns_4 : tie.Need-returns
 returns_4 c =
-    let x = c.before.before.before.before in
+    let x = c in
     let a = x.args in
-    let y = at_sign x.before in
-    spot_at_lem a.text.now a.from a.least a.marks x.axis-name.result y.0 y.1 x.axis-name.ensures (not-false _ c.if-not-name.false) (rw c.stands-2.ensures at c.if-stands-marks.false)
+    let y = at_sign x.before.before.before.before.before in
+    spot_at_lem a.text.now a.from a.least a.marks x.axis-name.result y.0 y.1 x.axis-name.ensures (c.if-not-name.false) (rw c.stands-2.ensures at c.if-stands-marks.false)
 
 pub spot_spec : {M : Type 1} → statement M
 spot_spec = tie.close (tie.spec (λ c κs. search rules) returns add_axis (λ c κs. search rules) returns_2 (λ c κs. search rules) add_t12 returns_3 returns_4)

@@ -19,37 +19,37 @@ loop_holds c = (c.requires, λ q p s l h. h)
 
 returns : tie.Need-returns-then-wanted-eq0 invariant_loop decreases_loop
 returns c =
-    let w = c.before.before in
-    let l = w.before.before in
+    let w = c in
+    let l = w in
     let a = l.args in
     rw c.right.ensures (word_good a.text.now a.from a.owed a.value l.loop-i.i l.loop-i.o l.loop-i.invariant.1 (rw w.expected-wanted.ensures at c.if-wanted-eq0.true))
 
 returns_2 : tie.Need-returns-then-text-i invariant_loop decreases_loop
 returns_2 c =
-    let w = c.before.before.before.before in
-    let l = w.before.before in
+    let w = c in
+    let l = w in
     let a = l.args in
     rw c.wrong.ensures
     (word_bad a.text.now a.from a.owed a.value l.loop-i.i l.loop-i.o l.loop-i.invariant.1 (rw w.expected-wanted.ensures at c.if-wanted-eq0.false) (λ _. rw w.expected-wanted.ensures at c.if-text-i.true))
 
 loop_again : tie.Need-loop-i-preserved invariant_loop decreases_loop
 loop_again c =
-    let w = c.before.before.before in
-    let l = w.before.before in
+    let w = c in
+    let l = w in
     let a = l.args in
     (omega arith, word_more a.text.now a.from a.owed l.loop-i.i l.loop-i.o l.loop-i.invariant.1 (omega arith) (rw w.expected-wanted.ensures at c.if-wanted-eq0.false) (rw w.expected-wanted.ensures at c.if-text-i.false))
 
 returns_3 : tie.Need-returns-then-expected-eq0 invariant_loop decreases_loop
 returns_3 c =
-    let w = c.before.before in
-    let l = w.before.before in
+    let w = c in
+    let l = w in
     let a = l.args in
     rw c.right-then-expected-eq0.ensures (word_good a.text.now a.from a.owed a.value l.loop-i.i l.loop-i.o l.loop-i.invariant.1 (rw w.expected.ensures at c.if-expected-eq0.true))
 
 returns_4 : tie.Need-returns invariant_loop decreases_loop
 returns_4 c =
-    let w = c.before.before in
-    let l = w.before.before in
+    let w = c in
+    let l = w in
     let a = l.args in
     rw c.wrong-2.ensures (word_bad a.text.now a.from a.owed a.value l.loop-i.i l.loop-i.o l.loop-i.invariant.1 (rw w.expected.ensures at c.if-expected-eq0.false) (λ h. absurd (omega (arith, h))))
 

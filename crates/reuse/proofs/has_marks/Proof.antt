@@ -26,7 +26,7 @@ loop_again c =
 
 returns_2 : tie.Need-returns invariant_loop decreases_loop
 returns_2 c = λ strides e.
-    let s = c.before.before.before in
+    let s = c in
     none_marked s.args.numbers.now strides s.requires (λ j h. c.loop-k.invariant.1 j (omega arith))
 
 pub has_marks_spec : {M : Type 1} → statement M

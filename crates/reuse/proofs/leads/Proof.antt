@@ -7,7 +7,7 @@ use Rattle.reuse.proofs.leads.Tie as tie
 
 returns_2 : tie.Need-returns-else-marked
 returns_2 c = λ strides.
-    let s = c.before in
+    let s = c in
     let a = s.args in
     sym (eq-eqb _ a.flat.0 (unmarked_leads a.numbers.now a.flat.0 s.requires.0 strides (s.requires.1 strides c.if-marked.false)))
 

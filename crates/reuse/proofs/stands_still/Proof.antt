@@ -49,32 +49,32 @@ both_or false n e h = absurd (true≢false (sym h))
 
 returns : tie.Need-returns-then-numbers-k invariant_loop decreases_loop
 returns c = λ strides.
-    let t = c.before.before.before in
+    let t = c in
     let s = start t in
     let a = s.args in
     let l = t.loop-k in
     let here = get_or a.numbers.now (passed t) 0 in
     let both = (and-eq-true_iff (mark_at a.numbers.now (passed t)) (not (eqb (l.rest % here) 0))).0 c.if-numbers-k.true in
-    let next = next_is a.numbers.now a.flat.0 s.pre (passed t) l.rest (so_far t s.pre) in
+    let next = next_is a.numbers.now a.flat.0 s.pre (passed t) l.rest (so_far t.before.before.before.before s.pre) in
     sym (ne_eqb _ a.flat.0
-    (moved_follows a.numbers.now a.flat.0 s.pre strides (passed t) (listed t) both.0
+    (moved_follows a.numbers.now a.flat.0 s.pre strides (passed t) (listed t.before.before.before.before) both.0
     (λ z. true≢false (sym both.1 ∙ ap not (eq-eqb (l.rest % here) 0 (next ∙ z))))))
 
 loop_again : tie.Need-loop-k-preserved invariant_loop decreases_loop
 loop_again c =
-    let t = c.before.before.before in
+    let t = c in
     let a = (start t).args in
     let l = t.loop-k in
     let here = get_or a.numbers.now (passed t) 0 in (
       omega (arith, l.invariant.0),
       λ e.
-          walked_more a.numbers.now a.flat.0 e (passed t) l.rest (listed t) (so_far t e)
-          (λ m. sym (next_is a.numbers.now a.flat.0 e (passed t) l.rest (so_far t e)) ∙ both_or (mark_at a.numbers.now (passed t)) (l.rest % here) c.if-numbers-k.false m),
+          walked_more a.numbers.now a.flat.0 e (passed t) l.rest (listed t.before.before.before.before) (so_far t.before.before.before.before e)
+          (λ m. sym (next_is a.numbers.now a.flat.0 e (passed t) l.rest (so_far t.before.before.before.before e)) ∙ both_or (mark_at a.numbers.now (passed t)) (l.rest % here) c.if-numbers-k.false m),
     )
 
 returns_2 : tie.Need-returns invariant_loop decreases_loop
 returns_2 c = λ strides.
-    let s = c.before.before.before in
+    let s = c in
     let l = c.loop-k in
     let done : l.k ≡ 0 = omega arith in
     sym (eq-eqb _ s.args.flat.0 (walked_leads s.args.numbers.now s.args.flat.0 s.requires strides l.rest (subst (λ (k : ℕ). Walked s.args.numbers.now s.args.flat.0 s.requires k l.rest) done (l.invariant.1 s.requires))))
@@ -84,4 +84,4 @@ stands_still_spec =
     tie.close
     (tie.spec invariant_loop decreases_loop (λ c. search rules) (λ c. search rules) (λ c. search rules) loop_holds (λ c. omega arith) (λ c. omega arith)
     (λ c. omega (arith, c.requires.of.few)) (λ c. omega arith) (λ c. omega arith) (λ c. omega (arith, c.requires.of.few))
-    (λ c. extent c.before.before) returns (λ c. extent c.before.before.before) (λ c. omega arith) loop_again returns_2)
+    (λ c. extent c.before.before.before) returns (λ c. extent c.before.before.before.before) (λ c. omega arith) loop_again returns_2)

@@ -24,13 +24,13 @@ part_result_end c = let p = was c.before in omega (arith, p.room, p.noted, c.not
 
 returns : tie.Need-returns-in-Done
 returns c =
-    let n = c.before in
-    let e = n.before in
-    rw (done e, add-sub_cancel_left 216 n.noted_in.result, n.noted_in.ensures.0) (refl, (refl, omega arith))
+    let n = c in
+    let e = n in
+    rw (done e.before.before, add-sub_cancel_left 216 n.noted_in.result, n.noted_in.ensures.0) (refl, (refl, omega arith))
 
 returns_2 : tie.Need-returns-in-Refused
 returns_2 c =
-    let e = c.before in
+    let e = c in
     rw (ap (λ (p : Page). p.answer) (sym e.read_block-page.ensures) ∙ e.in-Refused.is) (refl, (refl, omega arith))
 
 pub read_note_spec : {M : Type 1} → statement M

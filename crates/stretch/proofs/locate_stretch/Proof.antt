@@ -42,22 +42,22 @@ an_axis c = le-ltb last_axis c.args.axis c.if-axis-gt-LAST_AXIS.false
 
 -- the space fits
 fits : (c : tie.Else-not-space_fits) → space_fits (start c).args.t2 ≡ true
-fits c = sym c.space_fits.ensures ∙ not-false _ c.if-not-space_fits.false
+fits c = sym c.space_fits.ensures ∙ c.if-not-space_fits.false
 
 parts : (c : tie.Else-not-space_fits) → Parted (start c).args.t2 ((start c).args.axis + 1)
 parts c = parted (start c).args.t2 ((start c).args.axis + 1) (fits c)
 
 locate_requires : tie.Need-locate-requires
 locate_requires c κs =
-    let two = c.before.before in
+    let two = c in
     let a = (start two).args in
-    let p = parts two in
+    let p = parts two.before.before in
     let eight : length a.t2 ≡ 8 = search rules in
     (prefix_numerable a.t2 (a.axis + 1) (omega arith) (omega arith) (omega arith) (omega arith), search rules)
 
 returns_3 : tie.Need-returns-in-Past
 returns_3 c =
-    let at = c.before in
+    let at = c in
     let two = fitting at in
     let a = (start two).args in
     let past = position_past (asked a.axis a.t2) (asked a.axis a.t4) _ (sym at.locate.ensures ∙ c.in-Past.is) in
@@ -132,6 +132,6 @@ pub locate_stretch_spec : {M : Type 1} → statement M
 locate_stretch_spec =
     tie.close
     (tie.spec (λ c. rw (lt-ltb last_axis c.args.axis c.if-axis-gt-LAST_AXIS.true)) (λ c κs. search rules)
-    (λ c. rw (an_axis c.before.before, sym c.space_fits.ensures ∙ not-true _ c.if-not-space_fits.true)) (λ c. search rules) locate_requires
+    (λ c. rw (an_axis c.before.before, sym c.space_fits.ensures ∙ c.if-not-space_fits.true)) (λ c. search rules) locate_requires
     (λ c. search rules) (λ c. search rules) returns_3 (λ c κs. search rules) returns_4 (λ c. search rules) (λ c κs. search rules) div_length mul_t20
     returns_5)

@@ -12,17 +12,17 @@ use Rattle.stretch.proofs.stretch.Tie as tie
 
 -- the answer, and that the stretch lies within the table
 found : (c : tie.In-Stretch) →
-    let s = c.before.before.before in
+    let s = c in
     let v = c.located-1.given.0 in
     stretch_answer s.args.lengths s.args.axis s.args.coordinates (length s.args.table.now) ≡ Stretch v.0 v.1.0
 found c = sym c.locate_stretch-located.ensures ∙ c.in-Stretch.is
 
 within : (c : tie.In-Stretch) →
-    let s = c.before.before.before in
+    let s = c in
     let v = c.located-1.given.0 in
     StretchWithin s.args.lengths (length s.args.table.now) v.0.0 v.1.0
 within c =
-    let s = c.before.before.before in
+    let s = c in
     let v = c.located-1.given.0 in
     answer_within s.args.lengths s.args.axis s.args.coordinates (length s.args.table.now) v.0 v.1.0 (found c)
 

@@ -7,8 +7,8 @@ use Rattle.typed.proofs.judge_lines.Tie as tie
 
 returns : tie.Need-returns
 returns c =
-    let j = c.before.before in
-    let r = j.before.before in
+    let j = c in
+    let r = j in
     (judge_exactly _ _ _ _ _).1
     (record {
       line = r.read-line.result;

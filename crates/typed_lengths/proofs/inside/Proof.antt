@@ -15,11 +15,11 @@ longer_requires c κs = sym c.goes_on.ensures ∙ c.if-goes_on.true
 
 returns : tie.Need-returns-then-goes_on
 returns c =
-    let d = c.before.before.before.before.before in
+    let d = c in
     rw (c.to.ensures, c.longer.ensures, d.digit-d.ensures, rw d.digit-d.ensures at (sym c.goes_on.ensures ∙ c.if-goes_on.true))
 
 few : (c : tie.Then-b-count) → c.args.r.count < 7
-few c = let s = c.before.before.before.before.before in ltb-true _ 7 (both (eqb s.args.b 32) (ltb s.args.r.count 7) c.if-b-count.true).1
+few c = let s = c in ltb-true _ 7 (both (eqb s.args.b 32) (ltb s.args.r.count 7) c.if-b-count.true).1
 
 mul_lengths : tie.Need-offset_bounds-lengths-count
 mul_lengths c = omega (arith, few c)
@@ -32,12 +32,12 @@ add_to c = omega (arith, few c)
 
 returns_2 : tie.Need-returns-then-b-count
 returns_2 c =
-    let d = c.before.before.before.before.before in
+    let d = c in
     rw (c.to-then-b-count.ensures, c.if-b-count.true, rw d.digit-d.ensures at (sym c.goes_on.ensures ∙ c.if-goes_on.false))
 
 returns_3 : tie.Need-returns
 returns_3 c =
-    let d = c.before.before.before.before.before in
+    let d = c in
     rw (c.halt.ensures, c.if-b-count.false, rw d.digit-d.ensures at (sym c.goes_on.ensures ∙ c.if-goes_on.false))
 
 pub inside_spec : {M : Type 1} → statement M

@@ -21,13 +21,13 @@ loop_holds c = (omega arith, c.begin-r.ensures)
 
 loop_again : tie.Need-loop-i-preserved invariant_loop decreases_loop
 loop_again c =
-    let l = c.before.before.before in
+    let l = c in
     let t = l.args.line.now in
     (omega arith, c.advance-r.ensures ∙ stands l.loop-i.r t l.loop-i.i (omega arith) l.loop-i.invariant.1)
 
 returns : tie.Need-returns invariant_loop decreases_loop
 returns c =
-    let l = c.before.before in
+    let l = c in
     let t = l.args.line.now in
     rw c.conclude.ensures (read_whole l.loop-i.r t l.loop-i.i (omega arith) l.loop-i.invariant.1)
 

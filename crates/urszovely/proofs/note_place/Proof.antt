@@ -12,14 +12,14 @@ use Rattle.urszovely.proofs.note_place.Statement.{statement}
 use Rattle.urszovely.proofs.note_place.Tie as tie
 
 was : (c : tie.In-Done) → Passed c.args.block.now
-was c = let s = c.before.before in passed s.args.block.now (sym s.requires ∙ c.in-Done.is)
+was c = let s = c in passed s.args.block.now (sym s.requires ∙ c.in-Done.is)
 
 returns : tie.Need-returns-in-Done
 returns c =
-    let e = c.before in
+    let e = c in
     let block = e.args.block.now in
     let long : length (note_in block) ≡ noted_in block =
-    length-take-le (noted_in block) (drop 216 block) (omega (arith, length-drop 216 block, (was e).room, (was e).noted)) in
+    length-take-le (noted_in block) (drop 216 block) (omega (arith, length-drop 216 block, (was e.before).room, (was e.before).noted)) in
     rw e.in-Done.is (ap (λ (n : ℕ). 216 ∷ n ∷ []) (c.noted_in.ensures.0 ∙ sym long))
 
 pub note_place_spec : {M : Type 1} → statement M

@@ -7,7 +7,7 @@ use Rattle.urszovely.proofs.urszovely_admit.Tie as tie
 
 returns : tie.Need-returns
 returns c =
-    let a = c.before.before in
+    let a = c in
     record {
       admission = a.admit_packed-admission.result;
       allowed = rw (sym a.pack.ensures.same_card) ((admission_exactly _ _).1 a.admit_packed-admission.ensures);

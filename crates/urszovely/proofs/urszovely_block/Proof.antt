@@ -9,10 +9,10 @@ use Rattle.urszovely.proofs.urszovely_block.Tie as tie
 
 returns : tie.Need-returns
 returns c =
-    let n = c.before in
-    let w = n.before.before.before in
-    let k = w.before.before in
-    let s = k.before.before.before in
+    let n = c in
+    let w = n in
+    let k = w in
+    let s = k in
     let note = s.args.note.now in
     let bytes = s.args.bytes.now in
     record {

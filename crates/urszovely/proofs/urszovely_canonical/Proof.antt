@@ -6,8 +6,8 @@ use Rattle.urszovely.proofs.urszovely_canonical.Tie as tie
 
 returns : tie.Need-returns
 returns c =
-    let n = c.before in
-    let j = n.before.before.before.before in
+    let n = c in
+    let j = n in
     record {
       reported = j.judge-reported.result;
       allowed = j.judge-reported.ensures;

@@ -6,10 +6,10 @@ use Rattle.urszovely.proofs.urszovely_carry.Tie as tie
 
 returns : tie.Need-returns
 returns c =
-    let n = c.before in
-    let q = n.before.before.before.before.before in
-    let two = q.before.before.before in
-    let one = two.before in
+    let n = c in
+    let q = n in
+    let two = q in
+    let one = two in
     let plan = one.args.plan.now in
     record {
       checked = q.check_plan-checked.result;

@@ -16,9 +16,9 @@ use Rattle.urszovely.proofs.urszovely_collect.Tie as tie
 
 returns : tie.Need-returns-in_default
 returns c =
-    let f = c.before in
-    let m = f.before in
-    let j = m.before in
+    let f = c in
+    let m = f in
+    let j = m in
     let a = j.args in
     let told = j.judge_collecting-told.ensures in (
       f.four.ensures ∙ ap four (m.moved_numbers-numbers.ensures ∙ ap moved_numbers told),
@@ -27,12 +27,12 @@ returns c =
 
 returns_2 : tie.Need-returns
 returns_2 c =
-    let e = c.before.before.before.before.before.before.before in
-    let f = e.before in
-    let m = f.before in
-    let j = m.before in
+    let e = c in
+    let f = e in
+    let m = f in
+    let j = m in
     let a = j.args in
-    let lanes : List (List Bits) = rows_from 32 a.lane-sorts.now a.lane-singles.now a.lane-doubles.now in
+    let lanes : List (List Bits) = rows_from 32 a.lane_sorts.now a.lane_singles.now a.lane_doubles.now in
     let told = j.judge_collecting-told.ensures in (
       f.four.ensures ∙ ap four (m.moved_numbers-numbers.ensures ∙ ap moved_numbers told),
       stored 8 a.sorts.now a.singles.now a.doubles.now (omega (arith, c.collect-arg-4-1.given)) (omega (arith, c.collect-arg-5-1.given)) (omega (arith, c.collect-arg-6-1.given)) _ (collected Empty a.kind a.computation lanes (empties 8)) _ refl

@@ -18,9 +18,9 @@ use Rattle.urszovely.proofs.urszovely_collect_f64.Tie as tie
 
 returns : tie.Need-returns-in_default
 returns c =
-    let f = c.before in
-    let m = f.before in
-    let j = m.before in
+    let f = c in
+    let m = f in
+    let j = m in
     let a = j.args in
     let told = j.judge_collecting-told.ensures in (
       f.four.ensures ∙ ap four (m.moved_numbers-numbers.ensures ∙ ap moved_numbers told),
@@ -29,10 +29,10 @@ returns c =
 
 returns_2 : tie.Need-returns
 returns_2 c =
-    let e = c.before.before.before.before.before in
-    let f = e.before in
-    let m = f.before in
-    let j = m.before in
+    let e = c in
+    let f = e in
+    let m = f in
+    let j = m in
     let a = j.args in
     let lanes : List (List Bits) = lanes_from a.kind a.holdings.now in
     let done : collect_holdings_answer a.kind a.computation ≡ Done = sym j.judge_collecting-told.ensures ∙ e.in-Done.is in (

@@ -17,9 +17,9 @@ use Rattle.urszovely.proofs.urszovely_deal.Tie as tie
 
 returns : tie.Need-returns-in_default
 returns c =
-    let f = c.before in
-    let m = f.before in
-    let j = m.before in
+    let f = c in
+    let m = f in
+    let j = m in
     let a = j.args in
     let told = j.judge_dealing-told.ensures in (
       f.four.ensures ∙ ap four (m.moved_numbers-numbers.ensures ∙ ap moved_numbers told),
@@ -28,20 +28,20 @@ returns c =
 
 deal_requires : tie.Need-deal-requires
 deal_requires c κs =
-    let e = c.before.before.before.before.before.before in
-    let j = e.before.before.before in
+    let e = c in
+    let j = e in
     let a = j.args in
-    let tile : List (List Bits) = rows_from 8 a.tile-sorts.now a.tile-singles.now a.tile-doubles.now in
+    let tile : List (List Bits) = rows_from 8 a.tile_sorts.now a.tile_singles.now a.tile_doubles.now in
     (dealt_kind a.kind a.computation (registers_held tile) (sym j.judge_dealing-told.ensures ∙ e.in-Done.is), (search rules, search rules))
 
 returns_2 : tie.Need-returns
 returns_2 c =
-    let e = c.before.before.before.before.before.before.before in
-    let f = e.before in
-    let m = f.before in
-    let j = m.before in
+    let e = c in
+    let f = e in
+    let m = f in
+    let j = m in
     let a = j.args in
-    let tile : List (List Bits) = rows_from 8 a.tile-sorts.now a.tile-singles.now a.tile-doubles.now in
+    let tile : List (List Bits) = rows_from 8 a.tile_sorts.now a.tile_singles.now a.tile_doubles.now in
     let told = j.judge_dealing-told.ensures in (
       f.four.ensures ∙ ap four (m.moved_numbers-numbers.ensures ∙ ap moved_numbers told),
       stored 32 a.sorts.now a.singles.now a.doubles.now (omega (arith, c.deal-arg-4-1.given)) (omega (arith, c.deal-arg-5-1.given)) (omega (arith, c.deal-arg-6-1.given)) _ (dealt Empty a.kind a.computation tile (empties 32)) _ refl

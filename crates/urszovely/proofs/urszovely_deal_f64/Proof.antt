@@ -13,9 +13,9 @@ use Rattle.urszovely.proofs.urszovely_deal_f64.Tie as tie
 
 returns : tie.Need-returns-in_default
 returns c =
-    let f = c.before in
-    let m = f.before in
-    let j = m.before in
+    let f = c in
+    let m = f in
+    let j = m in
     let told = j.judge_dealing_holdings-told.ensures in (
       f.four.ensures ∙ ap four (m.moved_numbers-numbers.ensures ∙ ap moved_numbers told),
       rw (sym told ∙ c.in_default.is),
@@ -23,21 +23,21 @@ returns c =
 
 deal_requires : tie.Need-deal_holdings-requires
 deal_requires c κs =
-    let e = c.before.before.before in
-    let j = e.before.before.before in
-    let l = j.before.before.before.before in
+    let e = c in
+    let j = e in
+    let l = j in
     let a = l.args in
-    let tile : List (List Bits) = rows_from 8 a.tile-sorts.now a.tile-singles.now a.tile-doubles.now in (
+    let tile : List (List Bits) = rows_from 8 a.tile_sorts.now a.tile_singles.now a.tile_doubles.now in (
       (dealt_holdings_kind a.kind a.computation (registers_held tile) (sym j.judge_dealing_holdings-told.ensures ∙ e.in-Done.is), omega (arith, l.fields-1.given)),
       search rules,
     )
 
 returns_2 : tie.Need-returns
 returns_2 c =
-    let e = c.before.before.before.before in
-    let f = e.before in
-    let m = f.before in
-    let j = m.before in
+    let e = c in
+    let f = e in
+    let m = f in
+    let j = m in
     let told = j.judge_dealing_holdings-told.ensures in (
       f.four.ensures ∙ ap four (m.moved_numbers-numbers.ensures ∙ ap moved_numbers told),
       rw (sym told ∙ e.in-Done.is) c.deal_holdings.ensures,

@@ -13,15 +13,15 @@ use Rattle.urszovely.proofs.urszovely_page.Statement.{statement}
 use Rattle.urszovely.proofs.urszovely_page.Tie as tie
 
 note_place_requires : tie.Need-note_place-requires
-note_place_requires c κs = let r = c.before.before.before.before.before in ap (λ (q : Page). q.answer) r.read_block-page.ensures
+note_place_requires c κs = let r = c in ap (λ (q : Page). q.answer) r.read_block-page.ensures
 
 returns : tie.Need-returns
 returns c =
-    let n = c.before in
-    let p = n.before in
-    let b = p.before.before in
-    let w = b.before in
-    let r = w.before.before.before in
+    let n = c in
+    let p = n in
+    let b = p in
+    let w = b in
+    let r = w in
     let block = r.args.block.now in
     record {
       of_card = w.card_numbers.ensures ∙ ap (λ (q : Page). card_numbers q.card) r.read_block-page.ensures;

@@ -6,11 +6,11 @@ use Rattle.urszovely.proofs.urszovely_place.Tie as tie
 
 returns : tie.Need-returns
 returns c =
-    let n = c.before in
-    let p = n.before.before.before in
-    let two = p.before.before in
-    let one = two.before in
-    let k = one.before.before.before in
+    let n = c in
+    let p = n in
+    let two = p in
+    let one = two in
+    let k = one in
     record {
       placement = p.place_packed-placement.result;
       allowed =

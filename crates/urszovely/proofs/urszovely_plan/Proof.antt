@@ -6,10 +6,10 @@ use Rattle.urszovely.proofs.urszovely_plan.Tie as tie
 
 returns : tie.Need-returns
 returns c =
-    let n = c.before in
-    let q = n.before.before.before.before.before.before.before in
-    let two = q.before.before.before.before in
-    let one = two.before in
+    let n = c in
+    let q = n in
+    let two = q in
+    let one = two in
     record {
       written = q.write_plan-written.result;
       allowed = rw (sym one.card-one.ensures, sym two.card-two.ensures) q.write_plan-written.ensures;

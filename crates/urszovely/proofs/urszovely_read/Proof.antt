@@ -6,10 +6,10 @@ use Rattle.urszovely.proofs.urszovely_read.Tie as tie
 
 returns : tie.Need-returns
 returns c =
-    let n = c.before in
-    let b = n.before.before in
-    let w = b.before in
-    let r = w.before.before.before.before in
+    let n = c in
+    let b = n in
+    let w = b in
+    let r = w in
     record {
       reading = r.read-reading.result;
       allowed = r.read-reading.ensures;

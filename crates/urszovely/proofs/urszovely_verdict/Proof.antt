@@ -7,9 +7,9 @@ use Rattle.urszovely.proofs.urszovely_verdict.Tie as tie
 
 returns : tie.Need-returns
 returns c =
-    let n = c.before in
-    let j = n.before.before.before in
-    let k = j.before.before.before.before in
+    let n = c in
+    let j = n in
+    let k = j in
     record {
       verdict = j.judge_packed-verdict.result;
       allowed = rw (sym k.pack.ensures.same_card) ((verdict_exactly _ _ _ _).1 j.judge_packed-verdict.ensures);

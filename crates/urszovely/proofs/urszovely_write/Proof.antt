@@ -10,9 +10,9 @@ use Rattle.urszovely.proofs.urszovely_write.Tie as tie
 
 returns : tie.Need-returns
 returns c =
-    let n = c.before in
-    let w = n.before.before.before in
-    let k = w.before.before in
+    let n = c in
+    let w = n in
+    let k = w in
     let bytes = k.args.text.now in (
       rw (c.four.ensures, n.write_numbers-numbers.ensures, w.write-written.ensures.0, k.card.ensures),
       w.write-written.ensures.1

@@ -12,8 +12,8 @@ judge_packed_requires c κs = c.pack-packed.ensures.whole
 
 returns : tie.Need-returns
 returns c =
-    let p = c.before.before in
-    let k = p.before.before.before.before.before.before in
+    let p = c in
+    let k = p in
     let a = k.args in
     let after = p.judge_packed.new.table in
     (verdict_exactly a.card a.table.now after p.judge_packed.result).1

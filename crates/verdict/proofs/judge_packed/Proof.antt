@@ -8,14 +8,14 @@ use Rattle.verdict.proofs.judge_packed.Tie as tie
 
 returns : tie.Need-returns-in-Refused
 returns c =
-    let d = c.before in
+    let d = c in
     let a = d.args in
     not_admitted (card_of a.numbers.now a.strides.now) a.table.now (sym d.admit_packed-admission.ensures ∙ c.in-Refused.is)
 
 judge_admitted_requires : tie.Need-judge_admitted-requires
 judge_admitted_requires c κs =
-    let k = c.before in
-    let d = k.before in
+    let k = c in
+    let d = k in
     (d.requires, sym d.admit_packed-admission.ensures ∙ k.in_default.is)
 
 returns_2 : tie.Need-returns

@@ -36,7 +36,7 @@ returns c =
 
 returns_2 : tie.Need-returns-in-Refused
 returns_2 c =
-    let j = c.before.before.before in
+    let j = c in
     entry_read (start j).args.cell.0 j.judge_admitted-verdict.ensures c.in-Refused.is
 
 pub owner_at_spec : {M : Type 1} → statement M

@@ -23,8 +23,8 @@ admitted k = sym k.admit_packed-admission.ensures ∙ k.in_default.is
 
 returns : tie.Need-returns-in-Refused
 returns c =
-    let d = c.before in
-    let s = d.before.before in
+    let d = c in
+    let s = d in
     owner_refused (card s) s.args.coordinates.now s.args.table.now (sym d.admit_packed-admission.ensures ∙ c.in-Refused.is)
 
 spot_at_requires : tie.Need-spot_at-spot-requires
@@ -32,26 +32,26 @@ spot_at_requires c κs = let s = start c in ((checked (card s) (checks_passed (c
 
 owner_at_requires : tie.Need-owner_at-requires
 owner_at_requires c κs =
-    let p = c.before.before in
-    let k = p.before in
+    let p = c in
+    let k = p in
     let s = start k in
-    ((s.pre.0, admitted k), asked_below (card s) s.args.coordinates.now s.args.table.now (admitted k) (sym p.spot_at-spot.ensures ∙ c.in-Inside.is))
+    ((s.pre.0, admitted k.before.before.before), asked_below (card s) s.args.coordinates.now s.args.table.now (admitted k.before.before.before) (sym p.spot_at-spot.ensures ∙ c.in-Inside.is))
 
 returns_2 : tie.Need-returns-in-Inside
 returns_2 c =
-    let o = c.before.before in
-    let t = o.before.before.before in
-    let p = t.before.before in
-    let k = p.before in
+    let o = c in
+    let t = o in
+    let p = t in
+    let k = p in
     let s = start k in
-    owner_read (card s) s.args.coordinates.now s.args.table.now (admitted k) (sym p.spot-at.ensures ∙ t.spot.given.1) o.owner_at.ensures
+    owner_read (card s) s.args.coordinates.now s.args.table.now (admitted k.before.before.before.before.before.before) (sym p.spot_at-spot.ensures ∙ t.in-Inside.is) o.owner_at.ensures
 
 returns_3 : tie.Need-returns-in-Outside
 returns_3 c =
-    let p = c.before in
-    let k = p.before in
+    let p = c in
+    let k = p in
     let s = start k in
-    no_cell_promise (card s) s.args.coordinates.now s.args.table.now (admitted k) (sym p.spot_at-spot.ensures ∙ c.in-Outside.is)
+    no_cell_promise (card s) s.args.coordinates.now s.args.table.now (admitted k.before.before) (sym p.spot_at-spot.ensures ∙ c.in-Outside.is)
 
 pub owner_packed_spec : {M : Type 1} → statement M
 owner_packed_spec =

@@ -22,19 +22,19 @@ abbrev decreases_loop : tie.decreases-loop-k
 decreases_loop out count at k₀ written k = count - k
 
 loop_holds : tie.Need-loop-k-init invariant_loop decreases_loop
-loop_holds c = let s = c.before in (omega arith, s.requires.1, search (rules, length_of), wrote_none s.args.out, omega arith)
+loop_holds c = let s = c in (omega arith, s.requires.1, search (rules, length_of), wrote_none s.args.out, omega arith)
 
 put_joint_requires : tie.Need-put_joint-requires invariant_loop decreases_loop
-put_joint_requires c κs = let l = c.before.before in omega (arith, l.loop-k.invariant.4, l.loop-k.invariant.1, l.requires.0)
+put_joint_requires c κs = let l = c in omega (arith, l.loop-k.invariant.4, l.loop-k.invariant.1, l.requires.0)
 
 put_decimal_requires : tie.Need-put_decimal-written-requires invariant_loop decreases_loop
-put_decimal_requires c κs = let l = c.before.before.before in omega (arith, c.put_joint.ensures.1, l.loop-k.invariant.4, l.loop-k.invariant.1, l.requires.0)
+put_decimal_requires c κs = let l = c in omega (arith, c.put_joint.ensures.1, l.loop-k.invariant.4, l.loop-k.invariant.1, l.requires.0)
 
 loop_again : tie.Need-loop-k-preserved invariant_loop decreases_loop
 loop_again c =
-    let j = c.before in
-    let l = j.before.before.before in
-    let s = l.before.before in
+    let j = c in
+    let l = j in
+    let s = l in
     let k = l.loop-k.k in
     let at = s.args.iters.at in
     let so = joined (quoted_bytes ",") (map decimal (map extent_of (take k at))) in
@@ -49,8 +49,8 @@ loop_again c =
 
 returns : tie.Need-returns invariant_loop decreases_loop
 returns c =
-    let l = c.before in
-    let s = l.before.before in
+    let l = c in
+    let s = l in
     let all : l.loop-k.k ≡ s.args.iters.count = omega (arith, l.loop-k.invariant.0) in
     (rw (← all) l.loop-k.invariant.3, omega (arith, l.loop-k.invariant.4, l.loop-k.invariant.1))
 

@@ -7,12 +7,12 @@ use Rattle.writing.proofs.put_lists.Tie as tie
 
 returns : tie.Need-returns
 returns c =
-    let s = c.before in
-    let o = s.before in
-    let p = o.before in
-    let q = p.before in
-    let e = q.before in
-    let f = e.before in (
+    let s = c in
+    let o = s in
+    let p = o in
+    let q = p in
+    let e = q in
+    let f = e in (
       rw (c.put_if-3.ensures.0, s.put_strides.ensures.0, o.put_if-between.ensures.0, p.put.ensures.0, q.put_if-2.ensures.0, e.put_extents-extents.ensures.0, f.put_if.ensures.0) (wrote_lists _ _ _ _ _ _ _ _),
       omega (arith, c.put_if-3.ensures.1, s.put_strides.ensures.1, o.put_if-between.ensures.1, p.put.ensures.1, q.put_if-2.ensures.1, e.put_extents-extents.ensures.1, f.put_if.ensures.1),
     )

@@ -28,15 +28,15 @@ loop_holds : tie.Need-loop-axis-init invariant_loop decreases_loop
 loop_holds c = (omega arith, search rules, wrote_none c.args.out, omega arith)
 
 put_offset_requires : tie.Need-put_offset-written-requires invariant_loop decreases_loop
-put_offset_requires c κs = let l = c.before.before in omega (arith, l.loop-axis.invariant.3, l.requires)
+put_offset_requires c κs = let l = c in omega (arith, l.loop-axis.invariant.3, l.requires)
 
 loop_again : tie.Need-loop-axis-preserved invariant_loop decreases_loop
 loop_again c =
-    let a = c.before in
-    let l = a.before.before in
-    let s = l.before in
+    let a = c in
+    let l = a in
+    let s = l in
     let k = l.loop-axis.axis in
-    let zs = s.args.t2 in
+    let zs = s.args.offset in
     let back = to_z-of_z {w = w64} {z = get_or zs k (pos 0)} (record { sfits = a.put_offset-arg-1.given }) in (
       omega arith,
       l.loop-axis.invariant.1,
@@ -46,9 +46,9 @@ loop_again c =
 
 returns : tie.Need-returns invariant_loop decreases_loop
 returns c =
-    let l = c.before in
-    let s = l.before in
-    (l.loop-axis.invariant.2 ∙ ap (λ t. wrote s.args.out (spell_offsets (offsets_from 0 t))) (take_all l.loop-axis.axis s.args.t2 (omega (arith, l.loop-axis.invariant.1))), omega (arith, l.loop-axis.invariant.3, l.loop-axis.invariant.0))
+    let l = c in
+    let s = l in
+    (l.loop-axis.invariant.2 ∙ ap (λ t. wrote s.args.out (spell_offsets (offsets_from 0 t))) (take_all l.loop-axis.axis s.args.offset (omega (arith, l.loop-axis.invariant.1))), omega (arith, l.loop-axis.invariant.3, l.loop-axis.invariant.0))
 
 pub put_offsets_spec : {M : Type 1} → statement M
 put_offsets_spec = tie.close (tie.spec invariant_loop decreases_loop loop_holds (λ c. omega arith) (λ c. omega arith) put_offset_requires (λ c. omega arith) (λ c. omega arith) loop_again returns)

@@ -20,10 +20,10 @@ returns c = (rw c.if-replica-eq0.true (wrote_none c.args.out), omega arith)
 
 returns_2 : tie.Need-returns
 returns_2 c =
-    let l = c.before in
-    let o = l.before.before in
-    let i = o.before in
-    let s = i.before.before in
+    let l = c in
+    let o = l in
+    let i = o in
+    let s = i in
     let r = s.args.replica in
     let long : length (map extent_of (listed r)) ≡ r.count = length-map (listed r) extent_of ∙ length-take-le r.count r.at (omega (arith, s.requires.1, s.requires.2)) in
     let some = some_there (map extent_of (listed r)) (omega (arith, long, i.if-replica-eq0.false)) in (
@@ -34,5 +34,5 @@ returns_2 c =
 pub put_replica_spec : {M : Type 1} → statement M
 put_replica_spec =
     tie.close
-    (tie.spec returns (λ c κs. (omega (arith, c.requires.0), omega arith)) (λ c κs. let s = c.before.before.before.before in (omega (arith, c.put_word-opened.ensures.1, s.requires.0), s.requires.1))
+    (tie.spec returns (λ c κs. (omega (arith, c.requires.0), omega arith)) (λ c κs. let s = c in (omega (arith, c.put_word-opened.ensures.1, s.requires.0), s.requires.1))
     (λ c κs. omega (arith, c.put_lists.ensures.1, c.put_word-opened.ensures.1, c.requires.0)) returns_2)

@@ -7,8 +7,8 @@ use Rattle.writing.proofs.put_shard.Tie as tie
 
 returns : tie.Need-returns
 returns c =
-    let l = c.before in
-    let o = l.before in
+    let l = c in
+    let o = l in
     (rw (c.put.ensures.0, l.put_lists.ensures.0, o.put_word-opened.ensures.0) (wrote_3 _ _ _ _), omega (arith, c.put.ensures.1, l.put_lists.ensures.1, o.put_word-opened.ensures.1))
 
 pub put_shard_spec : {M : Type 1} → statement M

@@ -27,23 +27,23 @@ abbrev decreases_loop : tie.decreases-loop-k
 decreases_loop marks out count at k₀ written k = count - k
 
 loop_holds : tie.Need-loop-k-init invariant_loop decreases_loop
-loop_holds c = let s = c.before in (omega arith, s.requires.1, search (rules, length_of), search rules, wrote_none s.args.out, omega arith)
+loop_holds c = let s = c in (omega arith, s.requires.1, search (rules, length_of), search rules, wrote_none s.args.out, omega arith)
 
 put_joint_requires : tie.Need-put_joint-requires invariant_loop decreases_loop
-put_joint_requires c κs = let l = c.before.before in omega (arith, l.loop-k.invariant.5, l.loop-k.invariant.1, l.requires.0)
+put_joint_requires c κs = let l = c in omega (arith, l.loop-k.invariant.5, l.loop-k.invariant.1, l.requires.0)
 
 put_step_requires : tie.Need-put_step-written-requires invariant_loop decreases_loop
-put_step_requires c κs = let j = c.before in let l = j.before.before.before in omega (arith, j.put_joint.ensures.1, l.loop-k.invariant.5, l.loop-k.invariant.1, l.requires.0)
+put_step_requires c κs = let j = c in let l = j in omega (arith, j.put_joint.ensures.1, l.loop-k.invariant.5, l.loop-k.invariant.1, l.requires.0)
 
 loop_again : tie.Need-loop-k-preserved invariant_loop decreases_loop
 loop_again c =
-    let told = c.before in
-    let j = told.before in
-    let l = j.before.before.before in
-    let s = l.before.before in
+    let told = c in
+    let j = told in
+    let l = j in
+    let s = l in
     let k = l.loop-k.k in
     let at = s.args.iters.at in
-    let marks = s.args.t3 in
+    let marks = s.args.marks in
     let so = joined (quoted_bytes ",") (map spell_step (steps_for (take k marks) (take k at))) in
     let stride_back = to_z-of_z {w = w64} {z = (get_or at k none).stride} (record { sfits = told.struct_told-1.given.1.0.1 }) in
     let e = spell_step (step_for (get_or at k none).stride (get_or marks k false) (get_or at k none).axis) in (
@@ -58,8 +58,8 @@ loop_again c =
 
 returns : tie.Need-returns invariant_loop decreases_loop
 returns c =
-    let l = c.before in
-    let s = l.before.before in
+    let l = c in
+    let s = l in
     let all : l.loop-k.k ≡ s.args.iters.count = omega (arith, l.loop-k.invariant.0) in
     (rw (← all) l.loop-k.invariant.4, omega (arith, l.loop-k.invariant.5, l.loop-k.invariant.1))
 

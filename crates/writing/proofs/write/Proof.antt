@@ -34,22 +34,22 @@ needed c = ap (λ o. o.length) c.spelled-text.ensures.0 ∙ text_length (text_of
 
 returns_2 : tie.Need-returns-then-bytes-needed
 returns_2 c =
-    let p = c.before in
-    let short : length c.args.bytes.now < length (text_of c.args.card) = omega (arith, needed p, c.if-bytes-needed.true) in
-    (rw (passed p.before, lt-ltb _ _ short, needed p), refl)
+    let p = c in
+    let short : length c.args.bytes.now < length (text_of c.args.card) = omega (arith, needed p.before, c.if-bytes-needed.true) in
+    (rw (passed p.before.before, lt-ltb _ _ short, needed p.before), refl)
 
 copy_requires : tie.Need-copy-requires
-copy_requires c κs = let p = c.before.before in (omega (arith, c.if-bytes-needed.false), omega (arith, p.spelled-text.ensures.1))
+copy_requires c κs = let p = c in (omega (arith, c.if-bytes-needed.false), omega (arith, p.spelled-text.ensures.1))
 
 returns_3 : tie.Need-returns
 returns_3 c =
-    let p = c.before.before.before.before.before in
-    let s = c.before.before.before.before.before.before.before.before.before.before.before.before.before.before in
+    let p = c in
+    let s = c in
     let card = s.args.card in
     let t = text_of card in
-    let fits : length t ≤ length s.args.bytes.now = omega (arith, needed p, c.if-bytes-needed.false) in
-    let taken : take p.spelled-text.result.length p.spelled-text.result.bytes ≡ t = ap (λ o. take o.length o.bytes) p.spelled-text.ensures.0 ∙ text_taken t (omega (arith, needed p, p.spelled-text.ensures.1)) in
-    (rw (passed p.before, le-ltb _ _ fits, needed p), c.copy.ensures ∙ ap (λ (l : List ℕ). l ++ drop p.spelled-text.result.length s.args.bytes.now) taken)
+    let fits : length t ≤ length s.args.bytes.now = omega (arith, needed p.before.before.before.before.before, c.if-bytes-needed.false) in
+    let taken : take p.spelled-text.result.length p.spelled-text.result.bytes ≡ t = ap (λ o. take o.length o.bytes) p.spelled-text.ensures.0 ∙ text_taken t (omega (arith, needed p.before.before.before.before.before, p.spelled-text.ensures.1)) in
+    (rw (passed p.before.before.before.before.before.before, le-ltb _ _ fits, needed p.before.before.before.before.before), c.copy.ensures ∙ ap (λ (l : List ℕ). l ++ drop p.spelled-text.result.length s.args.bytes.now) taken)
 
 pub write_spec : {M : Type 1} → statement M
 write_spec = tie.close (tie.spec (λ c κs. search rules) (λ c κs. search rules) (λ c. search rules) returns (λ c. search rules) (λ c κs. passed c) returns_2 copy_requires (λ c. search rules) returns_3)

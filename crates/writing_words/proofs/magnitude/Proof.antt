@@ -33,7 +33,7 @@ from_zero (pos n) t = tt
 from_zero (negsuc n) t = absurd (apart (cc))
 
 is_below_lem : (c : tie.Then-z-lt0) → Below c.args.z
-is_below_lem c = let s = c.before in below s.args.z (rw (to_z-of_z s.ranges.z) at c.if-z-lt0.true) s.ranges.z
+is_below_lem c = let s = c in below s.args.z (rw (to_z-of_z s.ranges.z) at c.if-z-lt0.true) s.ranges.z
 
 sub_fits : (c : tie.Then-z-lt0) → SFits w64 (pos (nat_abs c.args.z - 1))
 sub_fits c = far_fits (omega (arith, (is_below_lem c).near, (is_below_lem c).some))
@@ -51,7 +51,7 @@ returns : tie.Need-returns-then-z-lt0
 returns c = rw (to_z-of_z c.ranges.z, (is_below_lem c).less, to_z-of_z (sub_fits c)) (omega (arith, (is_below_lem c).some))
 
 cast_result_2 : tie.Need-overflow_cast-result-2
-cast_result_2 c = let s = c.before in rw (to_z-of_z s.ranges.z) (from_zero s.args.z (rw (to_z-of_z s.ranges.z) at c.if-z-lt0.false), Fits-nat_abs {w = w64} tt s.ranges.z)
+cast_result_2 c = let s = c in rw (to_z-of_z s.ranges.z) (from_zero s.args.z (rw (to_z-of_z s.ranges.z) at c.if-z-lt0.false), Fits-nat_abs {w = w64} tt s.ranges.z)
 
 returns_2 : tie.Need-returns
 returns_2 c = rw (to_z-of_z c.ranges.z)

@@ -11,7 +11,7 @@ returns c = (rw (← below_ten 3 c.args.n c.if-n-lt10.true) c.put_digit.ensures.
 
 returns_2 : tie.Need-returns
 returns_2 c =
-    let p = c.before in
+    let p = c in
     (rw (c.put_digit-2.ensures.0, p.put_3.ensures.0, le-ltb _ _ p.if-n-lt10.false) (wrote_more _ _ _), omega (arith, c.put_digit-2.ensures.1, p.put_3.ensures.1))
 
 pub put_4_spec : {M : Type 1} → statement M

@@ -8,18 +8,18 @@ use Rattle.writing_words.proofs.put_step.Tie as tie
 
 returns : tie.Need-returns-then-mark
 returns c =
-    let n = c.before.before in
-    let p = n.before in
-    let s = p.before in (
+    let n = c in
+    let p = n in
+    let s = p in (
       rw (c.put-then-mark.ensures.0, n.put_name-named.ensures.0, p.put.ensures.0, s.put_signed.ensures.0, to_z-of_z s.ranges.z, c.if-mark.true) (wrote_4 _ _ _ _ _),
       omega (arith, c.put-then-mark.ensures.1, n.put_name-named.ensures.1, p.put.ensures.1, s.put_signed.ensures.1),
     )
 
 returns_2 : tie.Need-returns
 returns_2 c =
-    let n = c.before in
-    let p = n.before in
-    let s = p.before in (
+    let n = c in
+    let p = n in
+    let s = p in (
       rw (n.put_name-named.ensures.0, p.put.ensures.0, s.put_signed.ensures.0, to_z-of_z s.ranges.z, c.if-mark.false) (wrote_3 _ _ _ _),
       omega (arith, n.put_name-named.ensures.1, p.put.ensures.1, s.put_signed.ensures.1),
     )

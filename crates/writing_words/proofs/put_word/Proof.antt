@@ -21,12 +21,12 @@ loop_holds : tie.Need-loop-k-init invariant_loop decreases_loop
 loop_holds c = (omega arith, wrote_none c.args.out ∙ ap (λ (t : List ℕ). wrote c.args.out t) (word_none words c.args.from), omega arith)
 
 put_requires : tie.Need-put-written-requires invariant_loop decreases_loop
-put_requires c κs = let l = c.before in omega (arith, l.loop-k.invariant.2, l.requires.0)
+put_requires c κs = let l = c in omega (arith, l.loop-k.invariant.2, l.requires.0)
 
 loop_again : tie.Need-loop-k-preserved invariant_loop decreases_loop
 loop_again c =
-    let l = c.before.before in
-    let s = l.before in
+    let l = c in
+    let s = l in
     let k = l.loop-k.k in
     let from = s.args.from in (
       omega arith,
@@ -36,8 +36,8 @@ loop_again c =
 
 returns : tie.Need-returns invariant_loop decreases_loop
 returns c =
-    let l = c.before in
-    let s = l.before in
+    let l = c in
+    let s = l in
     let all : l.loop-k.k ≡ s.args.count = omega arith in
     (rw (← all) l.loop-k.invariant.1, omega (arith, l.loop-k.invariant.2))
 
