@@ -163,15 +163,84 @@ def arguments(text):
 PATH = re.compile(rf"(?<![\w'₀-₉.\-])([A-Za-z][\w'₀-₉]*)((?:\.{ID})*)(?![\w])")
 
 
+def segments(sig):
+    """The parts of a type between its arrows at the top."""
+    out, depth, b = [], 0, 0
+    for i, ch in enumerate(sig):
+        depth += ch in "({["
+        depth -= ch in ")}]"
+        if ch == "→" and depth == 0:
+            out.append(sig[b:i].strip())
+            b = i + 1
+    out.append(sig[b:].strip())
+    return out
+
+
+def taken(sig, f):
+    """The places of which a lemma's arguments are records, None for another argument, with the arguments' names; and that of its result."""
+    places, names = [], []
+    parts = segments(sig)
+    for part in parts[:-1]:
+        m = re.match(rf"tie\.({ID})", part)
+        if m:
+            places.append(f.by_norm.get(norm(m[1])))
+            names.append(None)
+            continue
+        binders = re.findall(r"[({]([^(){}:]+) : ((?:[^(){}]|\((?:[^()]|\([^()]*\))*\))*)[)}]", part) if part[:1] in "({" else []
+        if not binders:
+            places.append(None)
+            names.append(None)
+        for vs, ty in binders:
+            m = re.match(rf"tie\.({ID})", ty)
+            for v in vs.split():
+                places.append(f.by_norm.get(norm(m[1])) if m else None)
+                names.append(v)
+    m = re.match(rf"tie\.({ID})", parts[-1])
+    return places, names, (f.by_norm.get(norm(m[1])) if m else None)
+
+
+def head_of(before):
+    """The function that is called where the text ends, and which argument of it comes next."""
+    depth, i = 0, len(before) - 1
+    while i >= 0:
+        ch = before[i]
+        if ch in ")}]":
+            depth += 1
+        elif ch in "({[":
+            if depth == 0:
+                break
+            depth -= 1
+        elif depth == 0 and (ch in ",;\n" and before[i] != "\n" or before[i - 2 : i + 1] in (" = ", " ∙ ", " ↦ ", " ≡ ", " → ") or before[i - 3 : i + 1] in (" in ", ". λ ") or (ch == "." and before[i + 1 : i + 2] == " ")):
+            break
+        i -= 1
+    atoms, text, n = [], before[i + 1 :], 0
+    while n < len(text):
+        if text[n].isspace():
+            n += 1
+            continue
+        b, depth = n, 0
+        while n < len(text) and (depth or not text[n].isspace()):
+            depth += text[n] in "({["
+            depth -= text[n] in ")}]"
+            n += 1
+        atoms.append(text[b:n])
+    return (atoms[0], len(atoms) - 1) if atoms else (None, 0)
+
+
 WORDS = {"type-inv": "type_inv", "well-formed": "well_formed", "enum-told": "enum_told"}
 
 
-def paths(text, env, f, said, wanted={}):
+def paths(text, env, f, said, wanted={}, results={}, result=None):
     """The text with each path from a record of a place turned; wanted has the places of which a lemma's arguments are records."""
     env, steps = dict(env), {}
     out, i = [], 0
+    for lemma, place in results.items():
+        for m in re.finditer(rf"let ([A-Za-z][\w'₀-₉]*) = {re.escape(lemma)} [^\n=]*? in\b", text):
+            env[m[1]] = place
     for m in PATH.finditer(text):
         v, segs = m[1], [WORDS.get(s, s) for s in m[2].split(".")[1:]]
+        if v in env and segs and segs[0] == "pre":
+            segs[0] = "requires"
         if steps.get(v) is not None and segs:
             turned = f.parameter(["args"] + segs)[1:] if steps[v] == "args" else f.rest(steps[v], segs)
             out.append(text[i : m.start()] + ".".join([v] + turned))
@@ -186,8 +255,12 @@ def paths(text, env, f, said, wanted={}):
         new = None
         if not rest:
             before = text[: m.start()]
-            call = re.search(r"(?<![\w.'\-])([A-Za-z][\w'₀-₉\-]*) \(?$", before)
-            asked = wanted.get(call[1]) if call else None
+            head, n = head_of(before)
+            asked = wanted[head][n : n + 1] if head in wanted else None
+            if asked and asked[0] is None:
+                asked = None
+            if not asked and result is not None and re.fullmatch(rf"\s*{ID}(?: {ID})* =\s+", before):
+                asked = [result]
             if k == 0 and not asked:
                 continue
             lt = re.search(r"let ([A-Za-z][\w'₀-₉]*) = $", before)
@@ -251,7 +324,7 @@ def turn(text, f, said):
                 spans.append((use.end() + b, use.end() + e, k))
     # declarations
     pieces = re.split(r"(?m)^(?=\S)", text)
-    out, pos, env_of = [], 0, {}
+    out, pos, env_of, results = [], 0, {}, {}
     for piece in pieces:
         begin, pos = pos, pos + len(piece)
         env = {}
@@ -267,20 +340,20 @@ def turn(text, f, said):
                 else:
                     t = piece.replace("tie.Need-" + nd[1], "tie.Need-" + f.needs[k][1], 1)
                     env_of[name] = [f.asked[k]]
-            binders = []
-            for b in re.finditer(rf"\(([^():]+) : tie\.({ID})", t):
-                p = f.by_norm.get(norm(b[2]))
-                if p is None:
-                    if not b[2].startswith(("Need", "invariant", "decreases")):
-                        said.append(f"no place {b[2]}")
-                    continue
-                for v in b[1].split():
-                    env[v] = p
-                    binders.append(p)
-                t = t.replace(f"tie.{b[2]}", f"tie.{f.names[p]}")
-            if binders:
-                env_of[name] = binders
-            t, _ = paths(t, env, f, said, env_of)
+            if not nd:
+                places, vars_, res = taken(piece[sig.end() :].split("\nunfolding")[0], f)
+                for v, p in zip(vars_, places):
+                    if v and p is not None:
+                        env[v] = p
+                if any(p is not None for p in places):
+                    env_of[name] = places
+                if res is not None:
+                    results[name] = res
+                for b in re.finditer(rf"tie\.({ID})", t):
+                    p = f.by_norm.get(norm(b[1]))
+                    if p is not None:
+                        t = re.sub(rf"tie\.{re.escape(b[1])}(?![\w'\-])", f"tie.{f.names[p]}", t)
+            t, _ = paths(t, env, f, said, env_of, results)
             out.append(t)
             continue
         d = re.match(rf"({ID})((?:\s+[^\s=(){{}}]+)*)\s+=", piece)
@@ -288,7 +361,7 @@ def turn(text, f, said):
             for v, p in zip(d[2].split(), env_of[d[1]]):
                 if p is not None:
                     env[v] = p
-            piece, _ = paths(piece, env, f, said, env_of)
+            piece, _ = paths(piece, env, f, said, env_of, results, results.get(d[1]))
             out.append(piece)
             continue
         inside = [(b - begin, e - begin, k) for b, e, k in spans if begin <= b and e <= pos]
@@ -299,7 +372,7 @@ def turn(text, f, said):
                 a = piece[b:e]
                 lam = re.match(r"\(λ ([^\s.]+)[^.]*\. ", a)
                 if lam and f.asked[k] is not None:
-                    a, _ = paths(a, {lam[1]: f.asked[k]}, f, said, env_of)
+                    a, _ = paths(a, {lam[1]: f.asked[k]}, f, said, env_of, results)
                 t.append(a)
                 i = e
             t.append(piece[i:])
