@@ -227,7 +227,7 @@ def head_of(before):
     return (atoms[0], len(atoms) - 1) if atoms else (None, 0)
 
 
-WORDS = {"type-inv": "type_inv", "well-formed": "well_formed", "enum-told": "enum_told"}
+WORDS = {"Read-step": "read-step", "type-inv": "type_inv", "well-formed": "well_formed", "enum-told": "enum_told"}
 
 
 def paths(text, env, f, said, wanted={}, results={}, result=None):

@@ -12,7 +12,7 @@ use Rattle.admission.proofs.admit_packed.Statement.{statement}
 use Rattle.admission.proofs.admit_packed.Tie as tie
 
 abbrev start : tie.In_default → tie.Start
-start e = e.before.before.before
+start e = e.before.before
 
 abbrev asked : tie.Start → Card
 asked s = card_of s.args.numbers.now s.args.strides.now
@@ -22,15 +22,15 @@ fields : (e : tie.In_default) → field_checks (asked (start e)) Admitted ≡ Ad
 fields e = sym e.check_fields-fields.ensures ∙ e.in_default.is
 
 space : (c : tie.After-lengths_fit) → space_fits (asked (start c.before)).lengths ≡ c.lengths_fit.result
-space c = let s = start c.before in sym (c.lengths_fit.ensures s.args.strides.now s.pre)
+space c = let s = start c.before in sym (c.lengths_fit.ensures s.args.strides.now s.requires)
 
 few : (c : tie.After-few_enough) → few_enough (asked (start c.before.before.before)) ≡ c.few_enough.result
-few c = let s = start c.before.before.before in sym (c.few_enough.ensures s.args.strides.now s.pre)
+few c = let s = start c.before.before.before in sym (c.few_enough.ensures s.args.strides.now s.requires)
 
 returns : tie.Need-returns-in-Refused
 unfolding admission
 returns c =
-    let f = c in sym (fields_refused (asked f.before) _ (sym f.check_fields-fields.ensures ∙ c.in-Refused.is))
+    let f = c in sym (fields_refused (asked f.before.before) _ (sym f.check_fields-fields.ensures ∙ c.in-Refused.is))
 
 returns_2 : tie.Need-returns-then-not-lengths_fit
 unfolding admission

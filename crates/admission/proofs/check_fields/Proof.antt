@@ -29,10 +29,10 @@ walked c = (marked c).before.before
 
 numbers : (c : tie.After-offset_fits) → let w = walked c in
     numbers_fit (asked (passed w).before.before)
-    ≡ (w.before.list_fits.result.limits && (marked c).marks-fit.result && w.list-fits2.result.limits && c.offset_fits.result)
+    ≡ (w.list_fits-shard.result.limits && (marked c).marks-fit.result && w.list_fits-replica.result.limits && c.offset_fits.result)
 numbers c =
     let w = walked c in
-    sym (ap₂ ◌&&◌ (ap₂ ◌&&◌ (ap₂ ◌&&◌ w.before.list_fits.ensures.0 (marked c).marks-fit.ensures) w.list-fits2.ensures.0)
+    sym (ap₂ ◌&&◌ (ap₂ ◌&&◌ (ap₂ ◌&&◌ w.list_fits-shard.ensures.0 (marked c).marks-fit.ensures) w.list_fits-replica.ensures.0)
     (c.offset_fits.ensures (passed w).before.before.args.numbers.now))
 
 axes : (w : tie.After-list_fits-replica) → axes_fit (asked (passed w).before.before) ≡ (w.list_fits-shard.result.axes && w.list_fits-replica.result.axes)
@@ -50,24 +50,24 @@ list_fits_requires_2 c κs = let a = c.args in replica_list a.numbers.now a.stri
 marks_fit_requires : tie.Need-marks_fit-requires
 marks_fit_requires c κs =
     let e = passed c.before in
-    let a = e.before.before.args in
+    let a = e.args in
     (shard_list a.numbers.now a.strides.now (counts e), search rules)
 
 returns_2 : tie.Need-returns-then-not-shard-marks_fit
-returns_2 c = let o = c in rw (counts (passed (walked o)), numbers o.before ∙ c.if-not-shard-marks_fit.true)
+returns_2 c = let o = c in rw (counts (passed (walked o.before)), numbers o.before ∙ c.if-not-shard-marks_fit.true)
 
 returns_3 : tie.Need-returns-then-not-shard-replica
 returns_3 c =
     let e = c in
     let o = e in
-    let w = walked o in
+    let w = walked o.before.before.before.before in
     rw (counts (passed w), numbers o.before.before.before.before ∙ e.if-not-shard-marks_fit.false, axes w ∙ c.if-not-shard-replica.true)
 
 returns_4 : tie.Need-returns
 returns_4 c =
     let e = c in
     let o = e in
-    let w = walked o in
+    let w = walked o.before.before.before.before in
     rw (counts (passed w), numbers o.before.before.before.before ∙ e.if-not-shard-marks_fit.false, axes w ∙ c.if-not-shard-replica.false)
 
 pub check_fields_spec : {M : Type 1} → statement M

@@ -43,7 +43,7 @@ abbrev decreases_loop : tie.decreases-loop-k
 decreases_loop numbers strides list count extents₀ steps₀ axes₀ k₀ extents steps axes k = count - k
 
 abbrev start : tie.In-loop-k invariant_loop decreases_loop → tie.Start invariant_loop decreases_loop
-start t = t.before.before.before
+start t = t.before.before.before.before
 
 -- the list's iters, slot by slot
 abbrev at : tie.Start invariant_loop decreases_loop → ℕ → Iter
@@ -58,10 +58,10 @@ loop_holds c = (omega arith, refl, refl, refl)
 loop_again : tie.Need-loop-k-preserved invariant_loop decreases_loop
 loop_again c =
     let t = c in
-    let s = start t in
+    let s = start t.before.before.before.before in
     let l = t.loop-k in
     let h = t.loop-k-test.true in
-    let few = s.pre.few in
+    let few = s.requires.few in
     let back = to_z-of_z {w = w64} {z = (at s l.k).stride} (record { sfits = c.stride-1.given }) in (
       omega arith,
       upto_more (within 1 most_extent) (λ j. (at s j).extent) (counted s) l.k l.extents h few l.invariant.1,
@@ -80,10 +80,10 @@ returns : tie.Need-returns invariant_loop decreases_loop
 returns c =
     let s = c in
     let l = c.loop-k in
-    let end : l.k ≡ counted s = omega arith in (
-      ap₂ ◌&&◌ (all_tested (within 1 most_extent) extent_of (at s) (counted s) l.k l.extents end l.invariant.1)
-          (all_tested (within_z least_stride most_stride) stride_of (at s) (counted s) l.k l.steps end l.invariant.2),
-      all_tested (within 0 last_axis) axis_of (at s) (counted s) l.k l.axes end l.invariant.3,
+    let end : l.k ≡ counted s.before.before.before.before = omega arith in (
+      ap₂ ◌&&◌ (all_tested (within 1 most_extent) extent_of (at s.before.before.before.before) (counted s.before.before.before.before) l.k l.extents end l.invariant.1)
+          (all_tested (within_z least_stride most_stride) stride_of (at s.before.before.before.before) (counted s.before.before.before.before) l.k l.steps end l.invariant.2),
+      all_tested (within 0 last_axis) axis_of (at s.before.before.before.before) (counted s.before.before.before.before) l.k l.axes end l.invariant.3,
     )
 
 pub list_fits_spec : {M : Type 1} → statement M

@@ -20,7 +20,7 @@ fits k h = record { sfits = h }
 
 -- how far below -1
 abbrev far : tie.Else-n-lt-HALF → ℕ
-far c = 18446744073709551615 - c.before.args.n
+far c = 18446744073709551615 - c.args.n
 
 read : (c : tie.Else-n-lt-HALF) → negsuc 0 -ℤ to_z w64 (far c) ≡ negsuc (far c)
 read c = ap (λ (z : ℤ). negsuc 0 -ℤ z) (to_z_pos w64 {n = far c} (omega (arith, c.if-n-lt-HALF.false))) ∙ less (far c)

@@ -30,23 +30,23 @@ is_cleared k = k.clear.ensures ∙ ap (λ (n : ℕ). replicate n 0) (start k).re
 returns : tie.Need-returns-in-Outside
 returns c =
     let p = c in
-    let k = clearing p in
+    let k = clearing p.before in
     let s = start k in
     let first = rw c.in-Outside.is at p.find_outside-search.ensures in
-    outside_promise (card s) s.args.table.now s.pre.0.admitted s.pre.1 _ _ first (is_cleared k)
+    outside_promise (card s) s.args.table.now s.requires.0.admitted s.requires.1 _ _ first (is_cleared k)
 
 claim_all_requires : tie.Need-claim_all-requires
 claim_all_requires c κs =
     let p = c in
-    let k = clearing p in
+    let k = clearing p.before.before.before in
     ((start k).pre.0, (rw c.in_default.is at p.find_outside-search.ensures, is_cleared k))
 
 returns_2 : tie.Need-returns
 returns_2 c =
     let m = c in
-    let k = clearing m.before.before.before.before.before in
+    let k = clearing m.before.before.before.before.before.before.before.before in
     let s = start k in
-    cells_anew (card s) s.args.table.now k.clear.last.0 s.pre.0.admitted s.pre.1 (k.clear.kept.0 ∙ s.pre.1) m.claim_all.ensures
+    cells_anew (card s) s.args.table.now k.clear.last.0 s.requires.0.admitted s.requires.1 (k.clear.kept.0 ∙ s.requires.1) m.claim_all.ensures
 
 pub judge_passes_spec : {M : Type 1} → statement M
 judge_passes_spec =

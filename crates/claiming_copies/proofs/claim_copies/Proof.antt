@@ -107,7 +107,7 @@ loop_holds c =
     let s = start c in (
       omega arith,
       refl,
-      copies_none s.args.numbers.now s.args.strides.now s.args.start s.args.step s.args.run s.args.table.now s.pre.0.0 s.args.levels.now s.args.ms.now s.pre.1,
+      copies_none s.args.numbers.now s.args.strides.now s.args.start s.args.step s.args.run s.args.table.now s.requires.0.0 s.args.levels.now s.args.ms.now s.requires.1,
       omega arith,
       omega arith,
     )
@@ -173,9 +173,9 @@ returns_2 : tie.Need-returns invariant_loop decreases_loop
 returns_2 c some =
     let l = c.loop-copy in
     let q = start c.before.before in
-    let end : l.copy ≡ copies (card q) = omega (arith, l.invariant.0, q.pre.1.levels_size) in
-    copies_all q.args.numbers.now q.args.strides.now q.args.start q.args.step q.args.run q.args.table.now q.pre.0.0 q.args.levels.now q.args.ms.now
-    q.pre.1 l.table l.newly (l.invariant.1 ∙ q.pre.0.0.owned.size) (rw end at l.invariant.2) l.invariant.4
+    let end : l.copy ≡ copies (card q) = omega (arith, l.invariant.0, q.requires.1.levels_size) in
+    copies_all q.args.numbers.now q.args.strides.now q.args.start q.args.step q.args.run q.args.table.now q.requires.0.0 q.args.levels.now q.args.ms.now
+    q.requires.1 l.table l.newly (l.invariant.1 ∙ q.requires.0.0.owned.size) (rw end at l.invariant.2) l.invariant.4
 
 pub claim_copies_spec : {M : Type 1} → statement M
 claim_copies_spec =

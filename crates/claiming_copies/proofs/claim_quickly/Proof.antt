@@ -38,7 +38,7 @@ returns_4 c =
     let s = l in (
       λ some. absurd (omega arith),
       λ none. k.clear.ensures
-          ∙ ap (λ (n : ℕ). replicate n 0) (l.claim_lines-occupied.auto.table ∙ cleared_size (card s) s.requires.0.cleared),
+          ∙ ap (λ (n : ℕ). replicate n 0) (l.claim_lines-occupied.auto.table ∙ cleared_size (card s.before.before.before.before.before.before.before.before.before.before.before.before.before) s.requires.0.cleared),
     )
 
 pub claim_quickly_spec : {M : Type 1} → statement M

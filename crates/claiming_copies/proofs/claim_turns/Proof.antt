@@ -86,8 +86,8 @@ loop_holds c =
       0,
       sym (zero-mul s.args.length),
       omega arith,
-      rw s.pre.0.0.cleared (claims_none (card s)),
-      digits_none s.args.numbers.now s.args.strides.now s.pre.0.0.admits c.begin-start.ensures,
+      rw s.requires.0.0.cleared (claims_none (card s)),
+      digits_none s.args.numbers.now s.args.strides.now s.requires.0.0.admits c.begin-start.ensures,
       refl,
       λ some. zeros_index (iter_extents (shard_iters s.args.numbers.now s.args.strides.now)) 8,
     )
@@ -116,7 +116,7 @@ owned : (c : tie.Else-claimed-eq0 invariant_loop decreases_loop) → let t = tur
 owned c =
     let r = claimed c in
     let t = turn r in
-    owned_as (card (s t)) refl (omega (arith, t.before.loop.inv.3.counted)) (r.claim-copies.ensures (omega (arith, c.if-claimed-eq0.false)))
+    owned_as (card (s t)) refl (omega (arith, t.before.loop.inv.3.counted)) (r.claim_copies-claimed.ensures (omega (arith, c.if-claimed-eq0.false)))
 
 turn_requires : tie.Need-turn-start-requires invariant_loop decreases_loop
 turn_requires c κs =
@@ -129,7 +129,7 @@ turn_requires c κs =
 loop_again : tie.Need-loop-first-preserved invariant_loop decreases_loop
 loop_again c =
     let e = c in
-    let t = turn (claimed e) in
+    let t = turn (claimed e.before.before) in
     let l = t.before.loop in
     let its = shard_iters (s t).args.numbers.now (s t).args.strides.now in
     let run_is : size_from (s t).args.from its ≡ many t = (s t).pre.1.slower.a_run ∙ sym (s t).pre.1.long_is in

@@ -37,7 +37,7 @@ fill_requires c κs =
 
 -- the row as it is filled
 is_filled : (f : tie.After-fill) → let s = f in
-    f.fill.new.row ≡ copy_cells (card s) s.args.flat.0
+    f.fill.new.row ≡ copy_cells (card s.before.before.before.before.before.before.before) s.args.flat.0
 is_filled f =
     let d = f in
     let s = d in
@@ -51,7 +51,7 @@ claim_row_requires c κs =
     let f = c in
     let s = f in
     let b = s.requires.0.0 in
-    let r = row_ready (card s) s.args.flat.0 s.args.table.now b.admits.admitted b.claimable (is_filled f.before.before.before) in
+    let r = row_ready (card s.before.before.before.before.before.before.before.before.before.before) s.args.flat.0 s.args.table.now b.admits.admitted b.claimable (is_filled f.before.before.before) in
     (r.within, (r.some, r.small))
 
 returns_2 : tie.Need-returns

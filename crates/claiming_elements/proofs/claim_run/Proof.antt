@@ -111,7 +111,7 @@ loop_holds c =
     let bits : ℤ → ℤ = λ z. to_z w64 (of_z w64 z) in (
       omega arith,
       refl,
-      owned_as (card s) (omega arith) (omega arith) s.pre.0.owned,
+      owned_as (card s) (omega arith) (omega arith) s.requires.0.owned,
       no_step (bits (a c).level) (bits (b c).level),
       no_step (bits (a c).m) (bits (b c).m),
     )
@@ -174,9 +174,9 @@ loop_again c =
     let l = (turn d).before.loop in
     let q = k (turn d) in
     let bits : ℤ → ℤ = λ z. to_z w64 (of_z w64 z) in
-    let some : 0 < d.claim-element.result = omega (arith, c.if-newly-eq0.false) in (
+    let some : 0 < d.claim_element-newly.result = omega (arith, c.if-newly-eq0.false) in (
       omega (arith, below (turn d)),
-      d.claim-element.kept.1.1.1.1.1.1.1.0 ∙ l.inv.1,
+      d.claim_element-newly.kept.1.1.1.1.1.1.1.0 ∙ l.inv.1,
       owned_as (card (s (turn d))) (omega arith) (omega arith) (more d some),
       to_z-of_z (level_fits d) ∙ stepped (bits (a q).level) (bits (b q).level) (to_z w64 l.level) l.done l.inv.3,
       to_z-of_z (m_fits d) ∙ stepped (bits (a q).m) (bits (b q).m) (to_z w64 l.m) l.done l.inv.4,

@@ -46,7 +46,7 @@ cell_at_requires c κs =
     (single_there a.numbers.now a.strides.now b.admits b.claimable.inside a.flat.0 0 b.claimable.element (one s.before.before.before) refl b.begins.level_is b.begins.m_is))
 
 -- the cell that was found
-cell_found : (c : tie.After-cell_at-cell) → let s = c in c.Cell-at.result.0 ≡ cell_of (spot (card s) s.args.flat.0 0)
+cell_found : (c : tie.After-cell_at-cell) → let s = c in c.Cell-at.result.0 ≡ cell_of (spot (card s.before.before.before.before) s.args.flat.0 0)
 cell_found c =
     let d = c in
     let s = d in
@@ -68,10 +68,10 @@ cell_here c =
       cell_short a.numbers.now a.strides.now b.admits b.claimable.inside a.flat.0 0 b.claimable.element (one s.before.before.before.before),
     )
 
-row_is : (c : tie.After-cell_at-cell) → let s = c in copy_cells (card s) s.args.flat.0 ≡ c.Cell-at.result.0 ∷ []
+row_is : (c : tie.After-cell_at-cell) → let s = c in copy_cells (card s.before.before.before.before) s.args.flat.0 ≡ c.Cell-at.result.0 ∷ []
 row_is c =
     let s = c in
-    single_row (card s) s.args.flat.0 s.requires.1 ∙ ap (λ (n : ℕ). n ∷ []) (sym (cell_found c))
+    single_row (card s.before.before.before.before) s.args.flat.0 s.requires.1 ∙ ap (λ (n : ℕ). n ∷ []) (sym (cell_found c))
 
 slice_read_if1 : tie.Need-bounds-table-cell
 slice_read_if1 c = cell_here c.before
@@ -80,7 +80,7 @@ returns : tie.Need-returns-then-table-cell-ne0
 returns c =
     let d = c in
     let s = d in
-    single_met (copy_cells (card s) s.args.flat.0) s.args.table.now s.args.flat.0 d.Cell-at.result.0 (row_is d.before.before) c.if-table-cell-ne0.true
+    single_met (copy_cells (card s.before.before.before.before.before.before) s.args.flat.0) s.args.table.now s.args.flat.0 d.Cell-at.result.0 (row_is d.before.before) c.if-table-cell-ne0.true
 
 abbrev found : tie.After-struct_known-1 → tie.After-cell_at-cell
 found c = c.before.before.before
@@ -96,8 +96,8 @@ slice_write_table c = cell_here (found c)
 returns_2 : tie.Need-returns
 returns_2 c =
     let d = found c in
-    let s = d.before.before.before.before in
-    single_claimed (copy_cells (card s) s.args.flat.0) s.args.table.now s.args.flat.0 d.Cell-at.result.0 (row_is d) (cell_here d) c.if-table-cell-ne0.false
+    let s = d in
+    single_claimed (copy_cells (card s.before.before.before.before) s.args.flat.0) s.args.table.now s.args.flat.0 d.Cell-at.result.0 (row_is d) (cell_here d) c.if-table-cell-ne0.false
 
 pub claim_single_spec : {M : Type 1} → statement M
 claim_single_spec =

@@ -119,7 +119,7 @@ met_run c = c.before.before.before.before.before.before.before.before
 loop_holds : tie.Need-loop-flat-init invariant_loop decreases_loop
 loop_holds c =
     let s = before c in
-    (0, sym (zero-mul c.run_length-length.result), omega arith, refl, rw s.pre.1.1 (claims_none (card s)))
+    (0, sym (zero-mul c.run_length-length.result), omega arith, refl, rw s.requires.1.1 (claims_none (card s)))
 
 run_length_requires : tie.Need-run_length-length-requires invariant_loop decreases_loop
 run_length_requires c κs = let s = c in (admits s.requires.0.0, c.has_marks-marked.ensures s.args.strides.now)
@@ -140,27 +140,27 @@ claim_run_requires c κs =
 refuse_clash_requires : tie.Need-refuse_clash-requires invariant_loop decreases_loop
 refuse_clash_requires c κs =
     let m = c in
-    let r = met_run m in
+    let r = met_run m.before.before in
     let p = (s (turn r)).pre in
     record {
       admits = admits p.0.0;
       one_each = kept r ∙ p.0.0.one_each;
       claimable = claimable r m.if-claimed-length.true;
-      meets = r.claim-run.ensures.met m.if-claimed-length.true;
+      meets = r.claim_run-claimed.ensures.met m.if-claimed-length.true;
     }
 
 returns : tie.Need-returns-then-claimed-length invariant_loop decreases_loop
 returns c =
     let f = c in
     let m = f in
-    let r = met_run m in
+    let r = met_run m.before.before.before.before.before.before.before in
     let short = m.if-claimed-length.true in
     let q = s (turn r) in
     let flat = (turn r).before.loop.flat + claimed r in
     let k = claimable r short in
     clash_promise (card q) q.args.table.now q.pre.0.0.admitted (exact q) q.pre.1.0 (after r) (copy_cells (card q) flat) (record { 0 = flat })
-    (claims_clash (card q) flat (occupied (turn r).before.loop.table + r.claim-run.result.cells) r.claim-run.ensures.owned k.leads k.element
-    (r.claim-run.ensures.met short))
+    (claims_clash (card q) flat (occupied (turn r).before.loop.table + r.claim_run-claimed.result.cells) r.claim_run-claimed.ensures.owned k.leads k.element
+    (r.claim_run-claimed.ensures.met short))
     f.refuse_clash.ensures.0 (f.refuse_clash.ensures.1 ∙ ap (λ (n : ℕ). replicate n 0) (size r))
 
 loop_again : tie.Need-loop-flat-preserved-then-leads invariant_loop decreases_loop
@@ -168,12 +168,12 @@ loop_again c =
     let r = claimed_run c in
     let t = turn r in
     let l = t.before.loop in
-    let whole : claimed r ≡ many t = omega (arith, r.claim-run.ensures.most, c.if-claimed-length.false) in (
+    let whole : claimed r ≡ many t = omega (arith, r.claim_run-claimed.ensures.most, c.if-claimed-length.false) in (
       l.inv.0 + 1,
       next t,
       omega (arith, end t, (s t).pre.0.0.all_elements),
       kept r,
-      owned_as (card (s t)) (ap (λ (n : ℕ). l.flat + n) whole) (omega (arith, l.inv.4.counted)) r.claim-run.ensures.owned,
+      owned_as (card (s t)) (ap (λ (n : ℕ). l.flat + n) whole) (omega (arith, l.inv.4.counted)) r.claim_run-claimed.ensures.owned,
     )
 
 -- a run whose first element follows is of one element, which claims nothing
@@ -195,9 +195,9 @@ returns_2 : tie.Need-returns invariant_loop decreases_loop
 returns_2 c =
     let l = c.loop-flat in
     let q = before c.before.before in
-    let finish : l.flat ≡ elements (card q) = omega (arith, l.invariant.2, q.pre.0.0.all_elements) in
-    approved_promise (card q) q.args.table.now q.pre.0.0.admitted (exact q) q.pre.1.0
-    (rw finish at l.invariant.4) q.pre.0.0.all_elements l.invariant.4.size
+    let finish : l.flat ≡ elements (card q) = omega (arith, l.invariant.2, q.requires.0.0.all_elements) in
+    approved_promise (card q) q.args.table.now q.requires.0.0.admitted (exact q) q.requires.1.0
+    (rw finish at l.invariant.4) q.requires.0.0.all_elements l.invariant.4.size
 
 small : (t : tie.In-loop-flat invariant_loop decreases_loop) → elements (card (s t)) ≤ most_elements
 small t = (sized (card (s t)) (admits (s t).requires.0.0).admitted).most_elements_lem
@@ -208,8 +208,8 @@ claim_runs_spec =
     (tie.spec invariant_loop decreases_loop (λ c κs. listed c.requires.0.0) run_length_requires added_requires loop_holds (λ c. omega (arith, end c, small c)) leads_requires
     (λ c κs. admits (s c.before.before).pre.0.0) claim_run_requires
     (λ c. omega (arith, end (turn (met_run c)), small (turn (met_run c)), c.if-claimed-length.true)) refuse_clash_requires
-    (λ c. let f = c in f.refuse_clash.auto.row ∙ kept (met_run f.before.before.before))
-    (λ c. let f = c in let r = met_run f.before.before.before in f.refuse_clash.auto.table ∙ size r ∙ sym (exact (s (turn r))))
+    (λ c. let f = c in f.refuse_clash.auto.row ∙ kept (met_run f.before.before.before.before.before.before.before))
+    (λ c. let f = c in let r = met_run f.before.before.before.before.before.before.before in f.refuse_clash.auto.table ∙ size r ∙ sym (exact (s (turn r))))
     returns
     (λ c. omega (arith, counted (claimed_run c), (sized (card (s (turn (claimed_run c)))) (admits (s (turn (claimed_run c))).pre.0.0).admitted).most_cells_lem))
     (λ c. omega (arith, (by (turn (claimed_run c))).some, (turn (claimed_run c)).loop-test.taken)) loop_again

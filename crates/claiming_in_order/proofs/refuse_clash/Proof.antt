@@ -24,15 +24,15 @@ is_placed p = row_cells (card (start p)) (start p).args.flat.0 p.place_row.ensur
 find_clash_requires : tie.Need-find_clash-refusal-requires
 find_clash_requires c κs =
     let p = c in
-    let s = start p in
-    let ready = row_ready (card s) s.args.flat.0 s.args.table.now s.pre.admits.admitted s.pre.claimable (is_placed p.before.before) in
-    (ready.within, rw (is_placed p.before.before) s.pre.meets)
+    let s = start p.before.before in
+    let ready = row_ready (card s) s.args.flat.0 s.args.table.now s.requires.admits.admitted s.requires.claimable (is_placed p.before.before) in
+    (ready.within, rw (is_placed p.before.before) s.requires.meets)
 
 returns : tie.Need-returns
 returns c =
     let f = c in
     let p = f in
-    let s = start p in
+    let s = start p.before.before.before.before.before.before.before in
     (f.find_clash-refusal.ensures ∙ ap (λ (row : List ℕ). clash_of s.args.table.now row s.args.flat) (is_placed p.before.before.before.before.before.before.before), c.clear.ensures)
 
 pub refuse_clash_spec : {M : Type 1} → statement M

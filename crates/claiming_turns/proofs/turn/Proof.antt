@@ -122,7 +122,7 @@ module _ (t : tie.In-loop-k invariant_loop decreases_loop) where
 
 -- the digit goes on
 abbrev at : tie.Then-digit-numbers invariant_loop decreases_loop → tie.In-loop-k invariant_loop decreases_loop
-at c = c.before.before.before
+at c = c.before.before.before.before.before
 
 module _ (c : tie.After-level-1 invariant_loop decreases_loop) where
   abbrev t1 : tie.In-loop-k invariant_loop decreases_loop

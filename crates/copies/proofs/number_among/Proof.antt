@@ -39,7 +39,7 @@ loop_holds c =
 turn : (c : tie.In-loop-k invariant_loop decreases_loop) → let s = c in
     let a = s.args in
     let k = c.loop-k.k in
-    Numbering (sizes s) (coordinates s) (get_or a.sizes.now (a.from + k) 0 ∷ left s (a.from + (k + 1)))
+    Numbering (sizes s.before.before) (coordinates s.before.before) (get_or a.sizes.now (a.from + k) 0 ∷ left s (a.from + (k + 1)))
     (get_or a.coordinates.now k 0 ∷ slice (k + 1) a.count a.coordinates.now) k c.loop-k.number
 turn c =
     let s = c in
@@ -54,7 +54,7 @@ turn c =
     ) at c.loop-k.invariant.1
 
 abbrev met : tie.Else-size-coordinate invariant_loop decreases_loop → tie.In-loop-k invariant_loop decreases_loop
-met c = c.before.before.before
+met c = c.before.before.before.before
 
 shared_slice_read_size : tie.Need-bounds-sizes-from invariant_loop decreases_loop
 shared_slice_read_size c = let s = c in omega (arith, s.requires.0.there)

@@ -45,13 +45,13 @@ loop_again c =
     let t = n in
     let l = t.loop-combination in
     let s = t in
-    let here = at s l.combination in (
+    let here = at s.before.before.before.before.before.before.before l.combination in (
       omega arith,
       rw (
         c.smaller-outside.ensures ∙ ap (min l.outside) (p.axis_from.ensures ∙ axis_from_lem here (small s.before.before.before.before.before.before.before l.combination) t.copy_number-number.ensures),
         n.cell_from.ensures ∙ cell_from_lem here (small s.before.before.before.before.before.before.before l.combination) t.copy_number-number.ensures,
       )
-          (filling_more (λ r. spot_at (at s r)) s.args.row.now l.combination (omega arith) l.invariant.1),
+          (filling_more (λ r. spot_at (at s.before.before.before.before.before.before.before r)) s.args.row.now l.combination (omega arith) l.invariant.1),
     )
 
 returns : tie.Need-returns invariant_loop decreases_loop
@@ -59,7 +59,7 @@ returns c =
     let l = c.loop-combination in
     let s = c in
     let end : l.combination ≡ length s.args.row.now = omega arith in
-    filling_all (λ r. spot_at (at s r)) s.args.row.now (rw end at l.invariant.1)
+    filling_all (λ r. spot_at (at s.before.before.before r)) s.args.row.now (rw end at l.invariant.1)
 
 pub place_copies_spec : {M : Type 1} → statement M
 place_copies_spec =

@@ -60,25 +60,25 @@ module _ (c : tie.After-cell_at-arg-in-loop-combination-1 invariant_loop decreas
 add_cell_at : tie.Need-overflow_add-level invariant_loop decreases_loop
 add_cell_at c =
     let t = c in
-    let s = start t in
+    let s = start t.before in
     let k = t.loop-combination.combination in
     sum_fits s.args.level (get_or s.args.levels.now k (pos 0)) s.fits.level (record { sfits = c.cell_at-arg-1.given })
-    s.pre.near (s.pre.levels_near k (below t.before))
+    s.requires.near (s.requires.levels_near k (below t.before))
 
 add_cell_at_2 : tie.Need-overflow_add-m invariant_loop decreases_loop
 add_cell_at_2 c =
     let t = c in
-    let s = start t in
+    let s = start t.before.before in
     let k = t.loop-combination.combination in
     sum_fits s.args.m (get_or s.args.ms.now k (pos 0)) s.fits.m (record { sfits = c.cell_at-arg-in-loop-combination-1.given })
-    s.pre.m_near (s.pre.ms_near k (below t.before.before))
+    s.requires.m_near (s.requires.ms_near k (below t.before.before))
 
 cell_at_requires : tie.Need-cell_at-cell-requires invariant_loop decreases_loop
 cell_at_requires c κs =
     let t = c in
     rw (level_back c, m_back c)
     (subst (λ (w : Swizzle). CellThere w ((s c).args.level +ℤ get_or (s c).args.levels.now (k c) (pos 0)) ((s c).args.m +ℤ get_or (s c).args.ms.now (k c) (pos 0)))
-    (sym t.swizzle_of-by.ensures) ((start t).requires.cells (k c) (below t.before.before)))
+    (sym t.swizzle_of-by.ensures) ((start t.before.before).requires.cells (k c) (below t.before.before)))
 
 -- the cell that was found
 module _ (f : tie.After-cell_at-cell invariant_loop decreases_loop) where
@@ -105,7 +105,7 @@ loop_again c =
     let f = c in
     let d = f in
     let t = d in
-    let s = start t in
+    let s = start t.before.before.before.before in
     let l = t.loop-combination in
     let a = s.args in
     let level_is = to_z-of_z s.fits.level in

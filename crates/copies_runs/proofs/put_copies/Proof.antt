@@ -40,7 +40,7 @@ loop_again : tie.Need-loop-combination-preserved invariant_loop decreases_loop
 loop_again c =
     let t = turn c in
     let s = start t in
-    let l = t.before.loop in (
+    let l = t.loop-combination in (
       omega (arith, below t),
       copies_more (card s) (length s.args.levels.now) l.levels l.ms l.combination _ _ (below t) l.inv.1
           (to_z-of_z {w = w64} {z = c.added-copy.result.level} (record { sfits = c.struct_told-1.given.0.1 }) ∙ c.added-copy.ensures.level_is)

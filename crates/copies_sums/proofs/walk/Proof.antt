@@ -37,7 +37,7 @@ counted s = get_or s.args.numbers.now (40 + s.args.list) 0
 
 -- the iter that a turn meets
 abbrev met : tie.In-loop-k invariant_loop decreases_loop → Iter
-met c = let a = c.before.before.before.args in iter_at a.numbers.now a.strides.now a.list (c.before.loop.k - 1)
+met c = let a = c.args in iter_at a.numbers.now a.strides.now a.list (c.loop-k.k - 1)
 
 turn : (c : tie.In-loop-k invariant_loop decreases_loop) → Meets (met c)
 turn c =
@@ -54,14 +54,14 @@ sum_so_far c =
     rw (l.invariant.1.sums_so_far axis (omega (arith, (turn c).an_axis)))
     (omega (
       arith,
-      sum_far (get_or a.sums.now axis (pos 0)) (along (slice l.k (counted s) (slots_of s)) a.index axis),
+      sum_far (get_or a.sums.now axis (pos 0)) (along (slice l.k (counted s.before.before.before.before) (slots_of s.before.before.before.before)) a.index axis),
       along_room a.numbers.now a.strides.now a.list s.requires.0 l.k a.index axis,
       s.requires.1.small axis,
     ))
 
 -- what the machine reads of it and of the stride are these numbers
 abbrev called : tie.After-step-arg-in-loop-k-1 invariant_loop decreases_loop → tie.In-loop-k invariant_loop decreases_loop
-called c = c.before.before.before.before
+called c = c.before.before.before.before.before
 
 sum_back : (c : tie.After-step-arg-in-loop-k-1 invariant_loop decreases_loop)
     → let z = get_or (called c).before.loop.sums (met (called c)).axis (pos 0) in to_z w64 (of_z w64 z) ≡ z
@@ -74,7 +74,7 @@ loop_holds : tie.Need-loop-k-init invariant_loop decreases_loop
 loop_holds c =
     let s = c in
     let a = s.args in
-    (le_refl (counted s), walking_none (slots_of s) (counted s) a.index a.sums.now s.requires.1.eight)
+    (le_refl (counted s.before.before), walking_none (slots_of s.before.before) (counted s.before.before) a.index a.sums.now s.requires.1.eight)
 
 mul_step : tie.Need-offset_bounds-sums-axis invariant_loop decreases_loop
 mul_step c = let t = turn c.before.before.before in omega (arith, t.an_axis)
@@ -88,7 +88,7 @@ rem_step c = (turn c.before.before.before.before).some_extent
 step_requires : tie.Need-step-sum-requires invariant_loop decreases_loop
 step_requires c κs =
     let d = called c in
-    let small = component_small d.before.loop.rest (met d) (turn d) in
+    let small = component_small d.loop-k.rest (met d) (turn d) in
     rw (sum_back c, stride_back c)
     (record {
       small_component = omega (arith, small);
@@ -107,17 +107,17 @@ div_rest c = (turn c.before.before.before.before.before.before).some_extent
 loop_again : tie.Need-loop-k-preserved invariant_loop decreases_loop
 loop_again c =
     let d = called c.before in
-    let s = d.before.before.before in
+    let s = d in
     let a = s.args in
-    let l = d.before.loop in
+    let l = d.loop-k in
     let j = l.k - 1 in
     let back : l.k ≡ j + 1 = omega arith in
-    let walking = subst (λ (k : ℕ). Walking (slots_of s) (counted s) a.index a.sums.now k l.rest l.sums) back l.inv.1 in
+    let walking = subst (λ (k : ℕ). Walking (slots_of s.before.before.before.before) (counted s.before.before.before.before) a.index a.sums.now k l.rest l.sums) back l.inv.1 in
     let new = to_z-of_z {w = w64} {z = c.step-sum.result} (record { sfits = c.step-sum.type_inv }) ∙ rw (sum_back c.before, stride_back c.before) at c.step-sum.ensures in (
       omega arith,
       rw new
-          (walking_more (slots_of s) (counted s) a.index a.sums.now j l.rest (met d)
-          (iters_next a.numbers.now a.strides.now a.list s.pre.0 j (omega arith)) (omega (arith, (turn d).an_axis)) walking),
+          (walking_more (slots_of s.before.before.before.before) (counted s.before.before.before.before) a.index a.sums.now j l.rest (met d)
+          (iters_next a.numbers.now a.strides.now a.list s.requires.0 j (omega arith)) (omega (arith, (turn d).an_axis)) walking),
     )
 
 returns : tie.Need-returns invariant_loop decreases_loop
@@ -126,7 +126,7 @@ returns c =
     let s = c in
     let l = c.loop-k in
     let end : l.k ≡ 0 = omega arith in
-    walked_all (slots_of s) (counted s) s.args.index s.args.sums.now (rw end at l.invariant.1)
+    walked_all (slots_of s.before.before.before.before) (counted s.before.before.before.before) s.args.index s.args.sums.now (rw end at l.invariant.1)
 
 pub walk_spec : {M : Type 1} → statement M
 walk_spec =

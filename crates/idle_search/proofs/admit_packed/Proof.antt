@@ -13,7 +13,7 @@ use Rattle.idle_search.proofs.admit_packed.Statement.{statement}
 use Rattle.idle_search.proofs.admit_packed.Tie as tie
 
 abbrev start : tie.In_default → tie.Start
-start k = k.before.before.before
+start k = k.before.before
 
 abbrev asked : tie.Start → Card
 asked s = card_of s.args.numbers.now s.args.strides.now
@@ -30,7 +30,7 @@ judged f i e =
 returns : tie.Need-returns-in-Refused
 returns c =
     let d = c in
-    sym (refused_before (asked d.before) (sym d.admit_packed-admission.ensures ∙ c.in-Refused.is))
+    sym (refused_before (asked d.before.before) (sym d.admit_packed-admission.ensures ∙ c.in-Refused.is))
 
 find_pair_requires : tie.Need-find_pair-requires
 find_pair_requires c κs = record { whole = (start c).requires; admitted = admitted c }

@@ -25,7 +25,7 @@ abbrev decreases_loop : tie.decreases-loop-b
 decreases_loop numbers strides copies keys₀ b₀ keys b = copies - b
 
 abbrev start : tie.After-put_first_key invariant_loop decreases_loop → tie.Start invariant_loop decreases_loop
-start c = c.before.before.before.before
+start c = c.before.before.before.before.before
 
 abbrev replica : tie.Start invariant_loop decreases_loop → Iters
 replica s = iters_of s.args.numbers.now s.args.strides.now 1
@@ -69,14 +69,14 @@ returns_2 : tie.Need-returns-then-a-b invariant_loop decreases_loop
 returns_2 c =
     let t = c in
     let l = t.loop-b in
-    let s = start t.before.before.before.before.before.before in
+    let s = start t.before.before.before.before.before.before.before in
     pair_found (replica s) l.b t.find_twin-a.result (omega (arith, (counted s).0)) c.if-a-b.true t.find_twin-a.ensures l.invariant.2
 
 loop_again : tie.Need-loop-b-preserved invariant_loop decreases_loop
 loop_again c =
     let t = c in
     let l = t.loop-b in
-    let s = start t.before.before.before.before.before.before in
+    let s = start t.before.before.before.before.before.before.before in
     (omega arith, t.put_key.ensures, none_before_more (replica s) l.b t.find_twin-a.result (omega arith) t.find_twin-a.ensures l.invariant.2)
 
 returns_3 : tie.Need-returns invariant_loop decreases_loop

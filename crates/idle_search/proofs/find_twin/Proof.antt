@@ -29,7 +29,7 @@ find_key_requires c κs = (c.requires.1.places, omega arith, c.requires.2)
 loop_holds : tie.Need-loop-a-init invariant_loop decreases_loop
 loop_holds c =
     let s = c in
-    (c.find_key-a.ensures.at_most, passed s.before 0 c.find_key-a.result c.find_key-a.ensures (none_below_zero (replica s) s.args.b))
+    (c.find_key-a.ensures.at_most, passed s.before 0 c.find_key-a.result c.find_key-a.ensures (none_below_zero (replica s.before) s.args.b))
 
 same_sums_requires : tie.Need-same_sums-requires invariant_loop decreases_loop
 same_sums_requires c κs = c.requires.0
@@ -38,7 +38,7 @@ returns : tie.Need-returns-then-same_sums invariant_loop decreases_loop
 returns c =
     let l = c.loop-a in
     let s = c in
-    twin_found (replica s) s.args.b l.a (omega arith) (c.same_sums.ensures.yes_holds c.if-same_sums.true) l.invariant.1
+    twin_found (replica s.before.before.before.before.before) s.args.b l.a (omega arith) (c.same_sums.ensures.yes_holds c.if-same_sums.true) l.invariant.1
 
 find_key_requires_2 : tie.Need-find_key-a-requires-in-loop-a invariant_loop decreases_loop
 find_key_requires_2 c κs =
@@ -55,14 +55,14 @@ loop_again c =
     let s = t in (
       c.find_key-a-in-loop-a.ensures.at_most,
       passed s.before.before.before.before.before.before (l.a + 1) c.find_key-a-in-loop-a.result c.find_key-a-in-loop-a.ensures
-          (none_below_more (replica s) s.args.b l.a (t.same_sums.ensures.no_fails c.if-same_sums.false) l.invariant.1),
+          (none_below_more (replica s.before.before.before.before.before.before) s.args.b l.a (t.same_sums.ensures.no_fails c.if-same_sums.false) l.invariant.1),
     )
 
 returns_2 : tie.Need-returns invariant_loop decreases_loop
 returns_2 c =
     let l = c.loop-a in
     let s = c in
-    twin_none (replica s) s.args.b l.a (omega arith) l.invariant.1
+    twin_none (replica s.before.before.before) s.args.b l.a (omega arith) l.invariant.1
 
 pub find_twin_spec : {M : Type 1} → statement M
 find_twin_spec =

@@ -33,39 +33,39 @@ loop_holds c =
     let s = c in (
       s.requires.1,
       rw (measured s.args.numbers.now s.args.strides.now s.requires.0.admits).elements_are
-          (no_word (card s) s.args.first (none_leaves s.requires.0 s.args.first s.requires.1 s.requires.2)),
+          (no_word (card s.before.before) s.args.first (none_leaves s.requires.0 s.args.first s.requires.1 s.requires.2)),
     )
 
 abbrev turn : tie.After-first_on_axis-arg-in-loop-axis-1 invariant_loop decreases_loop → tie.In-loop-axis invariant_loop decreases_loop
 turn c = c.before.before
 
 abbrev start : tie.In-loop-axis invariant_loop decreases_loop → tie.Start invariant_loop decreases_loop
-start t = t.before.before.before
+start t = t.before.before.before.before
 
 first_on_axis_requires : tie.Need-first_on_axis-flat-requires invariant_loop decreases_loop
 first_on_axis_requires c κs =
     let t = turn c in
     let s = start t in
     let a = s.args in
-    let axis = t.before.loop.axis in
+    let axis = t.loop-axis.axis in
     rw (
       to_z-of_z {w = w64} {z = get_or a.low.now axis (pos 0)} (record { sfits = c.first_on_axis-arg-1.given }),
       to_z-of_z {w = w64} {z = get_or a.high.now axis (pos 0)} (record { sfits = c.first_on_axis-arg-in-loop-axis-1.given }),
     )
-    (ended_on s.pre.0 axis (get_or a.numbers.now (32 + axis) 0) (omega (arith, t.loop-test.taken)) (short_length s.pre.0 axis (omega (arith, t.loop-test.taken))), t.loop-test.taken)
+    (ended_on s.requires.0 axis (get_or a.numbers.now (32 + axis) 0) (omega (arith, t.loop-axis-test.taken)) (short_length s.requires.0 axis (omega (arith, t.loop-axis-test.taken))), t.loop-axis-test.taken)
 
 small : (c : tie.After-first_on_axis-flat invariant_loop decreases_loop) → c.first_on_axis-flat.result.0 ≤ 65536
-small c = let s = start (turn c.before) in omega (arith, c.first_on_axis-flat.ensures.most, (sizes s.pre.0).most_elements_lem)
+small c = let s = start (turn c.before) in omega (arith, c.first_on_axis-flat.ensures.most, (sizes s.requires.0).most_elements_lem)
 
 loop_again : tie.Need-loop-axis-preserved invariant_loop decreases_loop
 loop_again c =
     let f = c in
-    let t = turn f.before in
+    let t = turn f.before.before.before in
     let s = start t in
-    let l = t.before.loop in (
-      omega (arith, t.loop-test.taken),
+    let l = t.loop-axis in (
+      omega (arith, t.loop-axis-test.taken),
       rw c.smaller-word.ensures
-          (word_more (card s) l.word f.first_on_axis-flat.result.0 l.axis (omega (arith, t.loop-test.taken)) l.inv.1 f.first_on_axis-flat.ensures),
+          (word_more (card s) l.word f.first_on_axis-flat.result.0 l.axis (omega (arith, t.loop-axis-test.taken)) l.inv.1 f.first_on_axis-flat.ensures),
     )
 
 returns : tie.Need-returns invariant_loop decreases_loop

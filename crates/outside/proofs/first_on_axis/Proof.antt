@@ -25,11 +25,11 @@ returns c =
     let i = c in
     let s = i in
     let a = s.args in
-    let length_back : to_z w64 (bound s) ≡ pos (bound s) = to_z_pos w64 (omega (arith, s.requires.0.short)) in
-    let both = (and-eq-true_iff (le_z (pos 0) a.low) (lt_z a.high (pos (bound s)))).0 (rw (to_z-of_z s.ranges.low, to_z-of_z s.ranges.high, length_back) at i.if-low-high.true) in
+    let length_back : to_z w64 (bound s.before.before.before.before) ≡ pos (bound s.before.before.before.before) = to_z_pos w64 (omega (arith, s.requires.0.short)) in
+    let both = (and-eq-true_iff (le_z (pos 0) a.low) (lt_z a.high (pos (bound s.before.before.before.before)))).0 (rw (to_z-of_z s.ranges.low, to_z-of_z s.ranges.high, length_back) at i.if-low-high.true) in
     rw (measured a.numbers.now a.strides.now s.requires.0.admits).elements_are
     (leaves_there a.numbers.now a.strides.now s.requires.0.admits a.axis _ s.requires.1
-    (none_astray s.requires.0 (le_z_true (pos 0) a.low both.0) (lt_z_true a.high (pos (bound s)) both.1)))
+    (none_astray s.requires.0 (le_z_true (pos 0) a.low both.0) (lt_z_true a.high (pos (bound s.before.before.before.before)) both.1)))
 
 returns_2 : tie.Need-returns
 returns_2 c =

@@ -66,7 +66,7 @@ returns c =
     let s = c in
     let a = s.args in
     rw c.smaller.ensures
-    (first_astray (card s) s.requires.admits.admitted a.axis a.bound c.first_over-above.result.0 c.first_over-below.result.0
+    (first_astray (card s.before.before.before) s.requires.admits.admitted a.axis a.bound c.first_over-above.result.0 c.first_over-below.result.0
     c.first_over-above.ensures c.first_over-below.ensures)
 
 pub first_astray_spec : {M : Type 1} → statement M

@@ -31,7 +31,7 @@ returns c =
     let a = s.args in
     let below = lt_z_true a.over (pos 0) (rw (back s.before.before.before) at c.if-over-lt0.true) in
     rw (measured a.numbers.now a.strides.now s.requires.admits).elements_are
-    (none_over (card s) s.requires.admits.admitted a.axis a.bound a.upwards (subst (λ (z : ℤ). z <ℤ pos 0) s.requires.there below))
+    (none_over (card s.before.before.before) s.requires.admits.admitted a.axis a.bound a.upwards (subst (λ (z : ℤ). z <ℤ pos 0) s.requires.there below))
 
 natural : (c : tie.Else-over-lt0) → T (non_neg c.args.over)
 natural c = let s = c in from_zero s.args.over (rw (back s.before) at c.if-over-lt0.false)
@@ -41,7 +41,7 @@ returns_2 c =
     let s = c in
     let a = s.args in
     rw (c.first_within.ensures, back s.before.before)
-    (first_over (card s) s.requires.admits.admitted a.axis a.bound a.upwards (nat_abs a.over) (sym s.requires.there ∙ natural_is a.over (natural c.before)))
+    (first_over (card s.before.before) s.requires.admits.admitted a.axis a.bound a.upwards (nat_abs a.over) (sym s.requires.there ∙ natural_is a.over (natural c.before)))
 
 pub first_over_spec : {M : Type 1} → statement M
 first_over_spec =

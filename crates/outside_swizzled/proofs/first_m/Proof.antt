@@ -54,13 +54,13 @@ counted c =
     c.smaller-count.ensures ∙ ap (λ (n : ℕ). min (n - flat % n) (s.args.limit.0 - flat)) (c.run_length-run.ensures s.args.strides.now)
 
 several : (c : tie.After-smaller-count invariant_loop decreases_loop) → 1 ≤ c.smaller-count.result
-several c = let t = c in omega (arith, counted c, t.loop-flat-test.true, mod-lt t.loop-flat.flat (some (start t)))
+several c = let t = c in omega (arith, counted c, t.loop-flat-test.true, mod-lt t.loop-flat.flat (some (start t.before)))
 
 few : (c : tie.After-smaller-count invariant_loop decreases_loop) → c.loop-flat.flat + c.smaller-count.result ≤ (start c.before).args.limit.0
 few c = omega (arith, counted c, c.loop-flat-test.true)
 
 -- m where it starts, and its step
-base_is : (c : tie.After-m_sum-base invariant_loop decreases_loop) → let t = c in to_z w64 (of_z w64 c.m_sum-base.result) ≡ part (card (start t)).shard t.loop-flat.flat last_axis
+base_is : (c : tie.After-m_sum-base invariant_loop decreases_loop) → let t = c in to_z w64 (of_z w64 c.m_sum-base.result) ≡ part (card (start t.before.before)).shard t.loop-flat.flat last_axis
 base_is c = to_z-of_z {w = w64} {z = c.m_sum-base.result} (record { sfits = c.m_sum-base.type_inv }) ∙ c.m_sum-base.ensures
 
 step_is : (c : tie.After-m_sum-step invariant_loop decreases_loop) → to_z w64 (of_z w64 c.m_sum-step.result) ≡ part (card c.before.before).shard 1 last_axis
@@ -69,26 +69,26 @@ step_is c = to_z-of_z {w = w64} {z = c.m_sum-step.result} (record { sfits = c.m_
 first_of_run_requires : tie.Need-first_of_run-found-requires invariant_loop decreases_loop
 first_of_run_requires c κs =
     let t = c in
-    let s = start t in
+    let s = start t.before.before in
     let n = s.args.numbers.now in
     let m = s.args.strides.now in
-    let a = s.pre.0.admits in
+    let a = s.requires.0.admits in
     rw (base_is c, step_is t.before.before.before.before) (record {
       permits = (checked (card s) a.admitted).swizzle;
-      near_adds = adds_all_near n m a s.args.adds.now s.pre.0.adds_there;
+      near_adds = adds_all_near n m a s.args.adds.now s.requires.0.adds_there;
       near_base = element_near n m a t.loop-flat.flat;
       near_step = element_near n m a 1;
-      few = omega (arith, few c.before, s.pre.1.most, (sized (card s) a.admitted).most_elements_lem);
+      few = omega (arith, few c.before, s.requires.1.most, (sized (card s) a.admitted).most_elements_lem);
     })
 
 -- what a turn finds, among the elements of the card
 found : (c : tie.After-first_of_run-found invariant_loop decreases_loop)
     → let t = c in
-    Sought (λ x. Leaves (card (start t)) (t.loop-flat.flat + x) last_axis) c.smaller-count.result c.first_of_run-found.result
+    Sought (λ x. Leaves (card (start t.before.before.before)) (t.loop-flat.flat + x) last_axis) c.smaller-count.result c.first_of_run-found.result
 found c =
     let t = c in
-    let s = start t in
-    run_leaves s.args.numbers.now s.args.strides.now s.pre.0.admits s.args.adds.now s.pre.0.adds_there t.loop-flat.flat
+    let s = start t.before.before.before in
+    run_leaves s.args.numbers.now s.args.strides.now s.requires.0.admits s.args.adds.now s.requires.0.adds_there t.loop-flat.flat
     c.smaller-count.result c.first_of_run-found.result (some s) (omega (arith, counted c.before.before))
     (rw (base_is c.before, step_is t.before.before.before.before.before) at c.first_of_run-found.ensures)
 
@@ -96,7 +96,7 @@ returns : tie.Need-returns-then-found-count invariant_loop decreases_loop
 returns c =
     let f = c in
     let t = f in
-    part_found t.loop-flat.flat f.smaller-count.result f.first_of_run-found.result t.loop-flat.invariant.1 (found f.before) (start t).args.limit.0
+    part_found t.loop-flat.flat f.smaller-count.result f.first_of_run-found.result t.loop-flat.invariant.1 (found f.before) (start t.before.before.before.before).args.limit.0
     (few f.before.before.before) c.if-found-count.true
 
 loop_again : tie.Need-loop-flat-preserved invariant_loop decreases_loop
@@ -119,6 +119,6 @@ first_m_spec =
     (λ c. omega (arith, some (start c), c.run_length-run.ensures (start c).args.strides.now))
     (λ c. let e = c.run_length-run.ensures (start c).args.strides.now in omega (arith, mod-lt c.loop-flat.flat {m = c.run_length-run.result} (omega (arith, some (start c), e))))
     (λ c. omega arith) (λ c κs. search rules)
-    (λ c κs. let s = start c.before in walkable_shard s.args.numbers.now s.args.strides.now s.pre.0.admits)
-    first_of_run_requires (λ f. let s = start f.before.before.before in omega (arith, few f.before.before, (found f).most, s.pre.1.most, (sized (card s) s.pre.0.admits.admitted).most_elements_lem)) returns
+    (λ c κs. let s = start c.before in walkable_shard s.args.numbers.now s.args.strides.now s.requires.0.admits)
+    first_of_run_requires (λ f. let s = start f.before.before.before in omega (arith, few f.before.before, (found f).most, s.requires.1.most, (sized (card s) s.requires.0.admits.admitted).most_elements_lem)) returns
     (λ c. let f = c in omega (arith, several f.before.before.before, few f.before.before.before, c.if-found-count.false)) loop_again returns_2)

@@ -47,8 +47,8 @@ next_fits t =
     far_fits (omega (
       arith,
       sum_far (a.base +ℤ pos c *ℤ a.step) a.step,
-      s.pre.near_step,
-      run_near a.base a.step c s.pre.near_base s.pre.near_step (omega (arith, s.pre.few, t.loop-c-test.true)),
+      s.requires.near_step,
+      run_near a.base a.step c s.requires.near_base s.requires.near_step (omega (arith, s.requires.few, t.loop-c-test.true)),
     ))
 
 loop_holds : tie.Need-loop-c-init invariant_loop decreases_loop
@@ -58,9 +58,9 @@ m_leaves_requires : tie.Need-m_leaves-requires invariant_loop decreases_loop
 m_leaves_requires t κs =
     let s = start t in
     rw (m_is t) (record {
-      permits = s.pre.permits;
-      near_adds = s.pre.near_adds;
-      near = run_near s.args.base s.args.step t.loop-c.c s.pre.near_base s.pre.near_step (omega (arith, s.pre.few, t.loop-c-test.true));
+      permits = s.requires.permits;
+      near_adds = s.requires.near_adds;
+      near = run_near s.args.base s.args.step t.loop-c.c s.requires.near_base s.requires.near_step (omega (arith, s.requires.few, t.loop-c-test.true));
     })
 
 told : (c : tie.After-m_leaves invariant_loop decreases_loop)
@@ -79,7 +79,7 @@ next_is t =
 loop_again : tie.Need-loop-c-preserved invariant_loop decreases_loop
 loop_again c =
     let t = c in
-    let s = start t in
+    let s = start t.before.before in
     let a = s.args in
     rw (next_is t.before.before, base_back s, step_back s) (
       omega (arith, t.loop-c-test.true),
@@ -95,4 +95,4 @@ returns_2 c =
 
 pub first_of_run_spec : {M : Type 1} → statement M
 first_of_run_spec =
-    tie.close (tie.spec invariant_loop decreases_loop loop_holds m_leaves_requires returns (λ c. let t = c in rw (m_is t.before.before, step_back (start t)) (next_fits t.before.before)) (λ c. omega arith) (λ c. omega arith) loop_again returns_2)
+    tie.close (tie.spec invariant_loop decreases_loop loop_holds m_leaves_requires returns (λ c. let t = c in rw (m_is t.before.before, step_back (start t.before.before)) (next_fits t.before.before)) (λ c. omega arith) (λ c. omega arith) loop_again returns_2)

@@ -30,7 +30,7 @@ start c = c.before.before.before
 
 -- m of the copy that a turn asks
 abbrev added : tie.After-m_lies-arg-1 invariant_loop decreases_loop → ℤ
-added c = get_or (start c).args.adds.now c.before.before.loop.r (pos 0)
+added c = get_or (start c).args.adds.now c.loop-r.r (pos 0)
 
 m_back : (s : tie.Start invariant_loop decreases_loop) → to_z w64 (of_z w64 s.args.m) ≡ s.args.m
 m_back s = to_z-of_z s.ranges.m
@@ -41,10 +41,10 @@ added_back c = to_z-of_z (far_fits (omega (arith, (start c).requires.near_adds c
 fits : (c : tie.After-m_lies-arg-1 invariant_loop decreases_loop) → SFits w64 ((start c).args.m +ℤ added c)
 fits c =
     let s = start c in
-    far_fits (omega (arith, sum_far s.args.m (added c), s.pre.near, s.pre.near_adds c.loop-r.r))
+    far_fits (omega (arith, sum_far s.args.m (added c), s.requires.near, s.requires.near_adds c.loop-r.r))
 
-told : (c : tie.After-m_lies invariant_loop decreases_loop) → let p = c in Says (MLies (start p).args.numbers.now ((start p).args.m +ℤ added p)) c.m_lies.result
-told c = let p = c in rw (m_back (start p), added_back p.before, to_z-of_z (fits p.before)) at c.m_lies.ensures
+told : (c : tie.After-m_lies invariant_loop decreases_loop) → let p = c in Says (MLies (start p.before).args.numbers.now ((start p.before).args.m +ℤ added p)) c.m_lies.result
+told c = let p = c in rw (m_back (start p.before), added_back p.before, to_z-of_z (fits p.before)) at c.m_lies.ensures
 
 returns : tie.Need-returns-then-not-m_lies invariant_loop decreases_loop
 returns c =
@@ -59,7 +59,7 @@ loop_again : tie.Need-loop-r-preserved invariant_loop decreases_loop
 loop_again c =
     let p = c in
     let l = p.loop-r in
-    let s = start p in (
+    let s = start p.before.before in (
       omega (arith, p.loop-r-test.true),
       rw (m_back s)
           (below_more (λ j. MLies s.args.numbers.now (s.args.m +ℤ get_or s.args.adds.now j (pos 0))) l.r (rw (m_back s) at l.invariant.1) ((told c.before).yes_holds (c.if-not-m_lies.false))),

@@ -37,7 +37,7 @@ abbrev offset : tie.After-m_sum-sum invariant_loop decreases_loop → ℤ
 offset c = get_or (start c).args.strides.now 23 (pos 0)
 
 offset_back : (c : tie.After-m_sum-sum invariant_loop decreases_loop) → to_z w64 (of_z w64 (offset c)) ≡ offset c
-offset_back c = let s = start c in to_z-of_z (far_fits (omega (arith, offset_near s.args.numbers.now s.args.strides.now s.pre.0)))
+offset_back c = let s = start c in to_z-of_z (far_fits (omega (arith, offset_near s.args.numbers.now s.args.strides.now s.requires.0)))
 
 result_back : (c : tie.After-m_sum-sum invariant_loop decreases_loop) → to_z w64 (of_z w64 c.m_sum-sum.result) ≡ c.m_sum-sum.result
 result_back c = to_z-of_z {w = w64} {z = c.m_sum-sum.result} (record { sfits = c.m_sum-sum.type_inv })
@@ -50,8 +50,8 @@ fits c =
       arith,
       sum_far (offset c) c.m_sum-sum.result,
       ap nat_abs c.m_sum-sum.ensures,
-      offset_near a.numbers.now a.strides.now s.pre.0,
-      copy_near a.numbers.now a.strides.now s.pre.0 c.loop-r.r,
+      offset_near a.numbers.now a.strides.now s.requires.0,
+      copy_near a.numbers.now a.strides.now s.requires.0 c.loop-r.r,
     ))
 
 written : (c : tie.After-m_sum-sum invariant_loop decreases_loop)
@@ -61,7 +61,7 @@ written c =
     let s = start c in
     let a = s.args in
     rw (offset_back c, result_back c) (to_z-of_z (fits c))
-    ∙ ap₂ ◌+ℤ◌ (sym (offset_at a.numbers.now a.strides.now s.pre.0)) c.m_sum-sum.ensures
+    ∙ ap₂ ◌+ℤ◌ (sym (offset_at a.numbers.now a.strides.now s.requires.0)) c.m_sum-sum.ensures
 
 loop_again : tie.Need-loop-r-preserved invariant_loop decreases_loop
 loop_again c =

@@ -38,11 +38,11 @@ axis_is : (p : tie.After-place_row-outside) → p.place_row-outside.result ≡ o
 unfolding outside_axis
 axis_is p =
     let s = start p in
-    p.place_row-outside.ensures.smallest_axis ∙ ap (outside_of (spot (asked s) s.args.flat.0)) (long s ∙ s.pre.1)
+    p.place_row-outside.ensures.smallest_axis ∙ ap (outside_of (spot (asked s) s.args.flat.0)) (long s ∙ s.requires.1)
 
 cells_are : (p : tie.After-place_row-outside) → cells p ≡ copy_cells (asked (start p)) (start p).args.flat.0
 unfolding copy_cells
-cells_are p = let s = start p in ap (cells_of (spot (asked s) s.args.flat.0)) (long s ∙ s.pre.1)
+cells_are p = let s = start p in ap (cells_of (spot (asked s) s.args.flat.0)) (long s ∙ s.requires.1)
 
 array_borrow_prefix_row : tie.Need-slice_bounds-row-end
 array_borrow_prefix_row c = fits c.before
@@ -59,22 +59,22 @@ returns c = record { smallest_axis = axis_is c.before.before; refused = λ h. re
 write_requires : tie.Need-write-requires
 write_requires c κs =
     let p = c in
-    let n = length (start p).args.memory.now in
-    (rw p.place_row-outside.ensures.cells (length_front (replicate 64 0) (cells p) n (cells_long p.before.before.before.before ∙ sym (long (start p)))), fits (start p))
+    let n = length (start p.before.before.before.before).args.memory.now in
+    (rw p.place_row-outside.ensures.cells (length_front (replicate 64 0) (cells p.before.before.before.before) n (cells_long p.before.before.before.before ∙ sym (long (start p.before.before.before.before)))), fits (start p.before.before.before.before))
 
 returns_2 : tie.Need-returns
 returns_2 c =
     let w = c in
     let two = w in
     let p = two in
-    let n = length (start p).args.memory.now in
+    let n = length (start p.before.before.before.before.before.before.before).args.memory.now in
     record {
       smallest_axis = axis_is p.before.before.before.before.before.before.before;
       refused = λ h. absurd (omega (arith, two.if-outside-lt-AXES.false));
       placed = λ h.
           w.write.ensures
           ∙ ap (λ (l : List ℕ). take n (l ++ drop n (replicate 64 0))) p.place_row-outside.ensures.cells
-          ∙ take_at (cells p) (drop n (replicate 64 0)) n (cells_long p.before.before.before.before.before.before.before)
+          ∙ take_at (cells p.before.before.before.before.before.before.before) (drop n (replicate 64 0)) n (cells_long p.before.before.before.before.before.before.before)
           ∙ cells_are p.before.before.before.before.before.before.before;
     }
 

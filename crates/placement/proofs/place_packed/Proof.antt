@@ -30,17 +30,17 @@ returns : tie.Need-returns-in-Refused
 returns c =
     let d = c in
     let s = d in
-    not_admitted (asked s) s.args.shape s.args.coordinates s.args.memory.now _ (sym d.admit_packed-admission.ensures ∙ c.in-Refused.is)
+    not_admitted (asked s.before.before.before) s.args.shape s.args.coordinates s.args.memory.now _ (sym d.admit_packed-admission.ensures ∙ c.in-Refused.is)
 
 -- what each check that was passed says
 abbrev start : tie.In_default → tie.Start
-start e = e.before.before.before.before
+start e = e.before.before.before
 
 admitted : (e : tie.In_default) → full_admission (asked (start e)) ≡ Admitted
 admitted e = sym e.admit_packed-admission.ensures ∙ e.in_default.is
 
 admits : (e : tie.In_default) → Admits (start e).args.numbers.now (start e).args.strides.now
-admits e = let s = start e in record { whole = s.pre; admitted = checks_passed (asked s) (admitted e) }
+admits e = let s = start e in record { whole = s.requires; admitted = checks_passed (asked s) (admitted e) }
 
 is_copies : (e : tie.In_default) → get_or (start e).args.numbers.now 46 0 ≡ copies (asked (start e))
 is_copies e = (measured (start e).args.numbers.now (start e).args.strides.now (admits e)).copies_are
@@ -48,30 +48,30 @@ is_copies e = (measured (start e).args.numbers.now (start e).args.strides.now (a
 is_elements : (e : tie.In_default) → get_or (start e).args.numbers.now 45 0 ≡ elements (asked (start e))
 is_elements e = (measured (start e).args.numbers.now (start e).args.strides.now (admits e)).elements_are
 
-is_shape : (i : tie.After-is_admitted) → let s = start i.before.before in shape_admitted s.args.shape (elements (asked s)) ≡ i.is_admitted.result
+is_shape : (i : tie.After-is_admitted) → let s = start i.before.before.before in shape_admitted s.args.shape (elements (asked s)) ≡ i.is_admitted.result
 is_shape i =
     let e = i in
-    sym (i.is_admitted.ensures ∙ ap (shape_admitted (start e).args.shape) (is_elements e.before.before.before))
+    sym (i.is_admitted.ensures ∙ ap (shape_admitted (start e.before.before.before).args.shape) (is_elements e.before.before.before))
 
-shape_fits : (c : tie.Else-not-is_admitted) → let s = start c.before.before.before in shape_admitted s.args.shape (elements (asked s)) ≡ true
+shape_fits : (c : tie.Else-not-is_admitted) → let s = start c.before.before.before.before in shape_admitted s.args.shape (elements (asked s)) ≡ true
 shape_fits c = is_shape c.before ∙ c.if-not-is_admitted.false
 
 is_admitted_requires : tie.Need-is_admitted-requires
 is_admitted_requires c κs =
     let e = c in
-    let n = sized (asked (start e)) (admits e.before.before).admitted in
+    let n = sized (asked (start e.before.before)) (admits e.before.before).admitted in
     omega (arith, is_elements e.before.before, n.most_elements_lem)
 
 returns_2 : tie.Need-returns-then-not-is_admitted
 returns_2 c =
     let e = c in
-    let s = start e in
+    let s = start e.before.before.before.before in
     not_shaped (asked s) s.args.shape s.args.coordinates s.args.memory.now (admitted e.before.before.before.before) (is_shape c.before ∙ c.if-not-is_admitted.true)
 
 flatten_requires : tie.Need-flatten-found-requires
 flatten_requires c κs =
     let e = c in
-    let s = start e in
+    let s = start e.before.before.before.before in
     let n = sized (asked s) (admits e.before.before.before.before).admitted in
     shaped s.args.shape (elements (asked s)) n.some_elements n.most_elements_lem (shape_fits c)
 
@@ -79,19 +79,19 @@ returns_3 : tie.Need-returns-in_default-found
 returns_3 c =
     let f = c in
     let e = f in
-    let s = start e in
+    let s = start e.before.before.before.before.before.before in
     not_fitting (asked s) s.args.shape s.args.coordinates s.args.memory.now (admitted e.before.before.before.before.before.before) (shape_fits f.before.before)
     (unnamed s.args.shape s.args.coordinates (sym f.flatten-found.ensures ∙ c.in_default-found.is))
 
 -- the element that the coordinates name
 abbrev shape_of : tie.In-Element → tie.Else-not-is_admitted
-shape_of k = k.before.before.before.before
+shape_of k = k.before.before
 
 abbrev told : tie.In-Element → tie.In_default
 told k = (shape_of k).before.before.before
 
 abbrev flat_of : tie.In-Element → Flat
-flat_of k = k.before.found.given.0.0
+flat_of k = k.in-Element.flat
 
 name_it : (k : tie.In-Element)
     → (coordinates_fit (start (told k)).args.shape (start (told k)).args.coordinates ≡ true)
@@ -104,20 +104,20 @@ name_it k =
 returns_4 : tie.Need-returns-then-memory-copies
 returns_4 c =
     let k = c in
-    let e = told k in
+    let e = told k.before.before in
     let s = start e in
-    too_short (asked s) s.args.shape s.args.coordinates s.args.memory.now (admitted e) (shape_fits (shape_of k)) (flat_of k) (name_it k.before.before)
+    too_short (asked s) s.args.shape s.args.coordinates s.args.memory.now (admitted e) (shape_fits (shape_of k.before.before)) (flat_of k.before.before) (name_it k.before.before)
     _ (is_copies e) c.if-memory-copies.true
 
 slice_aggregate_place_cells : tie.Need-slice_bounds-place_cells-end-2
 slice_aggregate_place_cells c =
     let two = c in
-    sym (length-take-le _ (start (told two.before.before)).args.memory.now two.if-memory-copies.false)
+    sym (length-take-le _ (start (told two.before.before.before)).args.memory.now two.if-memory-copies.false)
 
 place_cells_requires : tie.Need-place_cells-axis-requires
 place_cells_requires c κs =
     let two = c in
-    let e = told two.before.before in
+    let e = told two.before.before.before in
     (admits e, length-take-le _ (start e).args.memory.now two.if-memory-copies.false ∙ is_copies e)
 
 returns_5 : tie.Need-returns-then-axis-lt-AXES
@@ -125,12 +125,12 @@ returns_5 c =
     let p = c in
     let two = p in
     let k = two in
-    let e = told k in
+    let e = told k.before.before.before.before.before.before.before in
     let s = start e in
     let n = get_or s.args.numbers.now 46 0 in
     let memory = s.args.memory.now in
     rw (ap (λ (l : List ℕ). l ++ drop n memory) (p.place_cells-axis.ensures.refused c.if-axis-lt-AXES.true) ∙ take-append-drop n memory)
-    (lies_outside (asked s) s.args.shape s.args.coordinates memory (admitted e) (shape_fits (shape_of k)) (flat_of k) (name_it k.before.before.before.before.before.before.before)
+    (lies_outside (asked s) s.args.shape s.args.coordinates memory (admitted e) (shape_fits (shape_of k.before.before.before.before.before.before.before)) (flat_of k.before.before.before.before.before.before.before) (name_it k.before.before.before.before.before.before.before)
     n p.place_cells-axis.result (is_copies e) two.if-memory-copies.false p.place_cells-axis.ensures.smallest_axis c.if-axis-lt-AXES.true)
 
 returns_6 : tie.Need-returns
@@ -138,10 +138,10 @@ returns_6 c =
     let p = c in
     let two = p in
     let k = two in
-    let e = told k in
+    let e = told k.before.before.before.before.before.before.before in
     let s = start e in
     let n = get_or s.args.numbers.now 46 0 in
-    copied (asked s) s.args.shape s.args.coordinates s.args.memory.now (admitted e) (shape_fits (shape_of k)) (flat_of k) (name_it k.before.before.before.before.before.before.before)
+    copied (asked s) s.args.shape s.args.coordinates s.args.memory.now (admitted e) (shape_fits (shape_of k.before.before.before.before.before.before.before)) (flat_of k.before.before.before.before.before.before.before) (name_it k.before.before.before.before.before.before.before)
     n p.place_cells-axis.result (is_copies e) two.if-memory-copies.false p.place_cells-axis.ensures.smallest_axis c.if-axis-lt-AXES.false
     (ap (λ (l : List ℕ). l ++ drop n s.args.memory.now) (p.place_cells-axis.ensures.placed c.if-axis-lt-AXES.false))
 

@@ -44,12 +44,12 @@ returns c = record { smallest_axis = axis_is c.before.before; refused = λ h. re
 returns_2 : tie.Need-returns
 returns_2 c =
     let p = c in
-    let goes = spot (asked p) (start p).args.flat.0 in
+    let goes = spot (asked p.before.before) (start p.before.before).args.flat.0 in
     let made = p.place_row-smallest.ensures.cells in
     record {
       smallest_axis = axis_is p.before.before;
       refused = λ h. absurd (omega (arith, c.if-smallest-lt-AXES.false));
-      placed = λ h. one_entry (start p).args.memory.now _ (start p).requires.2 (ap length made ∙ cells_length goes 1) ∙ made ∙ cells_are p.before.before;
+      placed = λ h. one_entry (start p.before.before).args.memory.now _ (start p.before.before).requires.2 (ap length made ∙ cells_length goes 1) ∙ made ∙ cells_are p.before.before;
     }
 
 pub place_single_spec : {M : Type 1} → statement M

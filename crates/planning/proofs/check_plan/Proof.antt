@@ -14,14 +14,14 @@ use Rattle.planning.proofs.check_plan.Statement.{statement}
 use Rattle.planning.proofs.check_plan.Tie as tie
 
 abbrev judged : tie.In-Matching → tie.After-open_pair-opened
-judged c = c.before.before.before.before.before.before.before
+judged c = c.before.before.before.before.before
 
 abbrev start : tie.After-open_pair-opened → tie.Start
 start k = k.before.before.before.before.before.before
 
 -- both cards are ready, in so many cells
 abbrev size : tie.In-Matching → ℕ
-size c = c.before.opened.given.0.0
+size c = c.in-Matching.cells
 
 ready : (c : tie.In-Matching) → Begun (judged c).open-pair.ensures (size c) c.in-Matching.occupied
 ready c = begun (judged c).open-pair.ensures c.in-Matching.is
@@ -36,16 +36,16 @@ returns : tie.Need-returns-in-Matching
 returns c =
     let call = c in
     let p = call in
-    let s = start (judged p) in
+    let s = start (judged p.before.before.before.before.before.before.before) in
     let plan : List ℕ = s.args.plan.now in
     (check_exactly s.args.one s.args.two s.args.first.now s.args.second.now plan _ _ _).1
-    (out (judged p).open-pair.ensures (ready p.before.before.before.before.before.before.before) Refused (plan_checked (cells s.args.one) plan) (λ (n : ℕ) (l r : List ℕ). plan_checked n plan l r)
+    (out (judged p.before.before.before.before.before.before.before).open-pair.ensures (ready p.before.before.before.before.before.before.before) Refused (plan_checked (cells s.args.one) plan) (λ (n : ℕ) (l r : List ℕ). plan_checked n plan l r)
     (λ l r. refl) call.check_cells.ensures)
 
 returns_2 : tie.Need-returns-in-Refused
 returns_2 c =
     let k = c in
-    let s = start k in
+    let s = start k.before.before.before.before.before in
     (check_exactly s.args.one s.args.two s.args.first.now s.args.second.now s.args.plan.now _ _ _).1
     (refused_before k.open_pair-opened.ensures Refused (plan_checked (cells s.args.one) s.args.plan.now) c.in-Refused.is)
 

@@ -12,14 +12,14 @@ use Rattle.planning.proofs.write_plan.Statement.{statement}
 use Rattle.planning.proofs.write_plan.Tie as tie
 
 abbrev judged : tie.In-Matching → tie.After-open_pair-opened
-judged c = c.before.before.before.before.before.before.before
+judged c = c.before.before.before.before.before
 
 abbrev start : tie.After-open_pair-opened → tie.Start
 start k = k.before.before.before.before.before.before
 
 -- both cards are ready, in so many cells, of which the second occupies so many
 abbrev size : tie.In-Matching → ℕ
-size c = c.before.opened.given.0.0
+size c = c.in-Matching.cells
 
 ready : (c : tie.In-Matching) → Begun (judged c).open-pair.ensures (size c) c.in-Matching.occupied
 ready c = begun (judged c).open-pair.ensures c.in-Matching.is
@@ -39,21 +39,21 @@ matching c =
 write_cells_requires : tie.Need-write_cells-requires
 write_cells_requires c κs =
     let p = c in
-    (matching p.before.before.before, (parted p.before.before.before ∙ sym (parted_other p.before.before.before), (ready p.before.before.before).counted ∙ ap occupied (sym (take_second (judged p).open-pair.ensures (ready p.before.before.before)))))
+    (matching p.before.before.before, (parted p.before.before.before ∙ sym (parted_other p.before.before.before), (ready p.before.before.before).counted ∙ ap occupied (sym (take_second (judged p.before.before.before).open-pair.ensures (ready p.before.before.before)))))
 
 returns : tie.Need-returns-in-Matching
 returns c =
     let call = c in
     let p = call in
     let done = call.write_cells.ensures in
-    let a = (start (judged p)).args in
+    let a = (start (judged p.before.before.before.before.before.before.before.before.before.before)).args in
     (plan_exactly a.one a.two a.first.now a.second.now a.plan.now _ _ _ _).1
-    (written_out (judged p).open-pair.ensures (ready p.before.before.before.before.before.before.before.before.before.before) a.plan.now done.0 done.1)
+    (written_out (judged p.before.before.before.before.before.before.before.before.before.before).open-pair.ensures (ready p.before.before.before.before.before.before.before.before.before.before) a.plan.now done.0 done.1)
 
 returns_2 : tie.Need-returns-in-Refused
 returns_2 c =
     let k = c in
-    let a = (start k).args in
+    let a = (start k.before.before.before.before.before).args in
     (plan_exactly a.one a.two a.first.now a.second.now a.plan.now _ _ _ _).1
     (not_planned k.open_pair-opened.ensures a.plan.now c.in-Refused.is)
 

@@ -47,7 +47,7 @@ abbrev called : tie.After-put-plan-arg3 → tie.Else-plan-numbers
 called c = c.before.before.before
 
 abbrev start : tie.Else-plan-numbers → tie.Start
-start c = c.before.before.before.before.before.before.before.before
+start c = c.before.before.before.before.before.before
 
 room : (c : tie.Else-plan-numbers) → 2 * (start c).args.targets ≤ length (start c).args.plan.now
 room c = omega (arith, c.if-plan-numbers.false)
@@ -56,14 +56,14 @@ put_plan_requires : tie.Need-put_plan-requires
 put_plan_requires c κs =
     let k = called c in
     let s = start k in
-    (s.pre.0, length-take-le (2 * s.args.targets) s.args.plan.now (room k) ∙ ap (λ (n : ℕ). 2 * n) s.pre.1.1)
+    (s.requires.0, length-take-le (2 * s.args.targets) s.args.plan.now (room k) ∙ ap (λ (n : ℕ). 2 * n) s.requires.1.1)
 
 returns_3 : tie.Need-returns
 returns_3 c =
     let call = c in
     let k = called call.before in
     let s = start k in
-    filled s.args.plan.now s.args.first.now s.args.second.now s.pre.1.0 (none k.before) (ap (λ (n : ℕ). 2 * n) s.pre.1.1) (room k)
+    filled s.args.plan.now s.args.first.now s.args.second.now s.requires.1.0 (none k.before) (ap (λ (n : ℕ). 2 * n) s.requires.1.1) (room k)
     (ap (λ (l : List ℕ). l ++ drop (2 * s.args.targets) s.args.plan.now) call.put_plan.ensures)
 
 pub write_cells_spec : {M : Type 1} → statement M

@@ -44,7 +44,7 @@ returns c =
 returns_2 : tie.Need-returns-then-is_one_short
 returns_2 c =
     let p = c in
-    let s = start p.before in
+    let s = start p.before.before.before in
     no_room s.args.one s.args.two s.args.first.now s.args.second.now (space p.before.before.before) (cells_are p.before.before)
     (sym c.is_one_short.ensures ∙ c.if-is_one_short.true)
 
@@ -52,7 +52,7 @@ settle_both_requires : tie.Need-settle_both-requires
 settle_both_requires c κs =
     let k = c in
     let p = k in
-    let s = start p.before in
+    let s = start p.before.before.before.before.before in
     let enough =
     neither (ltb (length s.args.first.now) p.product-cells.result) (ltb (length s.args.second.now) p.product-cells.result)
     (sym k.is_one_short.ensures ∙ k.if-is_one_short.false) in

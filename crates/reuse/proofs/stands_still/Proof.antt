@@ -25,10 +25,10 @@ loop_holds c = let a = c.args in (le_refl (get_or a.numbers.now 40 0), λ e. wal
 
 -- the iter that a turn passes
 abbrev passed : tie.In-loop-k invariant_loop decreases_loop → ℕ
-passed t = t.before.loop.k - 1
+passed t = t.loop-k.k - 1
 
 abbrev start : tie.In-loop-k invariant_loop decreases_loop → tie.Start invariant_loop decreases_loop
-start t = t.before.before.before
+start t = t.before.before.before.before
 
 listed : (t : tie.In-loop-k invariant_loop decreases_loop) → passed t < get_or (start t).args.numbers.now 40 0
 listed t = omega (arith, t.loop-k-test.true, t.loop-k.invariant.0)
@@ -41,7 +41,7 @@ so_far t e =
     subst (λ (k : ℕ). Walked a.numbers.now a.flat.0 e k l.rest) (omega (arith, t.loop-k-test.true)) (l.invariant.1 e)
 
 extent : (t : tie.In-loop-k invariant_loop decreases_loop) → 0 < get_or (start t).args.numbers.now (passed t) 0
-extent t = let s = start t in some_extent s.args.numbers.now s.args.flat.0 s.pre (passed t) (listed t)
+extent t = let s = start t in some_extent s.args.numbers.now s.args.flat.0 s.requires (passed t) (listed t)
 
 both_or : (a : Bool) (n : ℕ) → (a && not (eqb n 0)) ≡ false → a ≡ true → n ≡ 0
 both_or true n e h = eqb-true n 0 (not-false (eqb n 0) e)
@@ -50,26 +50,26 @@ both_or false n e h = absurd (true≢false (sym h))
 returns : tie.Need-returns-then-numbers-k invariant_loop decreases_loop
 returns c = λ strides.
     let t = c in
-    let s = start t in
+    let s = start t.before.before.before.before in
     let a = s.args in
     let l = t.loop-k in
-    let here = get_or a.numbers.now (passed t) 0 in
-    let both = (and-eq-true_iff (mark_at a.numbers.now (passed t)) (not (eqb (l.rest % here) 0))).0 c.if-numbers-k.true in
-    let next = next_is a.numbers.now a.flat.0 s.pre (passed t) l.rest (so_far t.before.before.before.before s.pre) in
+    let here = get_or a.numbers.now (passed t.before.before.before.before) 0 in
+    let both = (and-eq-true_iff (mark_at a.numbers.now (passed t.before.before.before.before)) (not (eqb (l.rest % here) 0))).0 c.if-numbers-k.true in
+    let next = next_is a.numbers.now a.flat.0 s.requires (passed t.before.before.before.before) l.rest (so_far t.before.before.before.before s.requires) in
     sym (ne_eqb _ a.flat.0
-    (moved_follows a.numbers.now a.flat.0 s.pre strides (passed t) (listed t.before.before.before.before) both.0
+    (moved_follows a.numbers.now a.flat.0 s.requires strides (passed t.before.before.before.before) (listed t.before.before.before.before) both.0
     (λ z. true≢false (sym both.1 ∙ ap not (eq-eqb (l.rest % here) 0 (next ∙ z))))))
 
 loop_again : tie.Need-loop-k-preserved invariant_loop decreases_loop
 loop_again c =
     let t = c in
-    let a = (start t).args in
+    let a = (start t.before.before.before.before).args in
     let l = t.loop-k in
-    let here = get_or a.numbers.now (passed t) 0 in (
+    let here = get_or a.numbers.now (passed t.before.before.before.before) 0 in (
       omega (arith, l.invariant.0),
       λ e.
-          walked_more a.numbers.now a.flat.0 e (passed t) l.rest (listed t.before.before.before.before) (so_far t.before.before.before.before e)
-          (λ m. sym (next_is a.numbers.now a.flat.0 e (passed t) l.rest (so_far t.before.before.before.before e)) ∙ both_or (mark_at a.numbers.now (passed t)) (l.rest % here) c.if-numbers-k.false m),
+          walked_more a.numbers.now a.flat.0 e (passed t.before.before.before.before) l.rest (listed t.before.before.before.before) (so_far t.before.before.before.before e)
+          (λ m. sym (next_is a.numbers.now a.flat.0 e (passed t.before.before.before.before) l.rest (so_far t.before.before.before.before e)) ∙ both_or (mark_at a.numbers.now (passed t.before.before.before.before)) (l.rest % here) c.if-numbers-k.false m),
     )
 
 returns_2 : tie.Need-returns invariant_loop decreases_loop

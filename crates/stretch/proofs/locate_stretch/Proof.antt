@@ -31,7 +31,7 @@ abbrev fitting : tie.After-locate → tie.Else-not-space_fits
 fitting c = c.before.before.before
 
 abbrev located : tie.In-At → tie.After-locate
-located c = c.before.before.before
+located c = c.before
 
 abbrev told : tie.After-product → tie.In-At
 told c = c.before.before.before
@@ -50,7 +50,7 @@ parts c = parted (start c).args.t2 ((start c).args.axis + 1) (fits c)
 locate_requires : tie.Need-locate-requires
 locate_requires c κs =
     let two = c in
-    let a = (start two).args in
+    let a = (start two.before.before).args in
     let p = parts two.before.before in
     let eight : length a.t2 ≡ 8 = search rules in
     (prefix_numerable a.t2 (a.axis + 1) (omega arith) (omega arith) (omega arith) (omega arith), search rules)
@@ -58,7 +58,7 @@ locate_requires c κs =
 returns_3 : tie.Need-returns-in-Past
 returns_3 c =
     let at = c in
-    let two = fitting at in
+    let two = fitting at.before in
     let a = (start two).args in
     let past = position_past (asked a.axis a.t2) (asked a.axis a.t4) _ (sym at.locate.ensures ∙ c.in-Past.is) in
     rw (an_axis two.before.before, fits two, past.0, past.1)

@@ -20,7 +20,7 @@ is_cells s =
     (measured s.args.numbers.now s.args.strides.now (record { whole = s.requires.0; admitted = checks_passed (card s) s.requires.1 })).cells_are
 
 returns : tie.Need-returns-then-table-cells
-returns c = let s = c in too_short (card s) s.args.table.now s.requires.1 (is_cells s.before.before.before.before) c.if-table-cells.true
+returns c = let s = c in too_short (card s.before.before.before.before) s.args.table.now s.requires.1 (is_cells s.before.before.before.before) c.if-table-cells.true
 
 slice_aggregate_judge_cells : tie.Need-slice_bounds-judge_cells-end-2
 slice_aggregate_judge_cells c =
@@ -36,7 +36,7 @@ returns_2 c =
     let k = c in
     let i = k in
     let s = i in
-    whole_table (card s) s.args.table.now (is_cells s.before.before.before.before.before.before.before.before) i.if-table-cells.false k.judge_cells.ensures
+    whole_table (card s.before.before.before.before.before.before.before.before) s.args.table.now (is_cells s.before.before.before.before.before.before.before.before) i.if-table-cells.false k.judge_cells.ensures
 
 pub judge_admitted_spec : {M : Type 1} → statement M
 judge_admitted_spec =

@@ -9,7 +9,7 @@ use Rattle.verdict.proofs.owner_at.Tie as tie
 
 -- an approved verdict: the cell is one of the table's
 abbrev judged : tie.In-Approved → tie.After-judge_admitted-verdict
-judged k = k.before.before.before.before
+judged k = k.before.before.before
 
 abbrev start : tie.After-judge_admitted-verdict → tie.Start
 start j = j.before.before.before
@@ -17,8 +17,8 @@ start j = j.before.before.before
 below : (k : tie.In-Approved) → (start (judged k)).args.cell.0 < length (judged k).judge-admitted.new.1.1.0
 below k =
     let j = judged k in
-    let room = approved_room j.judge-admitted.ensures k.in-Approved.is in
-    omega (arith, (start j).pre.1, j.judge-admitted.kept.1.1.0)
+    let room = approved_room j.judge_admitted-verdict.ensures k.in-Approved.is in
+    omega (arith, (start j).pre.1, j.judge_admitted-verdict.kept.1.1.0)
 
 mul_t11 : tie.Need-offset_bounds-table-cell
 mul_t11 c = omega (arith, below c)
@@ -32,12 +32,12 @@ cast_t14 c = omega (arith, c.slice_known-in-Approved-1.given c.args.cell.0)
 returns : tie.Need-returns-in-Approved
 returns c =
     let j = judged c.before in
-    entry_read (start j).args.cell.0 j.judge-admitted.ensures c.in-Approved.is
+    entry_read (start j).args.cell.0 j.judge_admitted-verdict.ensures c.in-Approved.is
 
 returns_2 : tie.Need-returns-in-Refused
 returns_2 c =
     let j = c in
-    entry_read (start j).args.cell.0 j.judge_admitted-verdict.ensures c.in-Refused.is
+    entry_read (start j.before.before.before).args.cell.0 j.judge_admitted-verdict.ensures c.in-Refused.is
 
 pub owner_at_spec : {M : Type 1} → statement M
 owner_at_spec =

@@ -16,7 +16,7 @@ card s = card_of s.args.numbers.now s.args.strides.now
 
 -- the card is admitted, and the spot is that of the coordinates
 abbrev start : tie.In_default → tie.Start
-start k = k.before.before.before.before
+start k = k.before.before.before
 
 admitted : (k : tie.In_default) → full_admission (card (start k)) ≡ Admitted
 admitted k = sym k.admit_packed-admission.ensures ∙ k.in_default.is
@@ -25,17 +25,17 @@ returns : tie.Need-returns-in-Refused
 returns c =
     let d = c in
     let s = d in
-    owner_refused (card s) s.args.coordinates.now s.args.table.now (sym d.admit_packed-admission.ensures ∙ c.in-Refused.is)
+    owner_refused (card s.before.before.before) s.args.coordinates.now s.args.table.now (sym d.admit_packed-admission.ensures ∙ c.in-Refused.is)
 
 spot_at_requires : tie.Need-spot_at-spot-requires
-spot_at_requires c κs = let s = start c in ((checked (card s) (checks_passed (card s) (admitted c))).space, s.pre.1)
+spot_at_requires c κs = let s = start c in ((checked (card s) (checks_passed (card s) (admitted c))).space, s.requires.1)
 
 owner_at_requires : tie.Need-owner_at-requires
 owner_at_requires c κs =
     let p = c in
     let k = p in
-    let s = start k in
-    ((s.pre.0, admitted k.before.before.before), asked_below (card s) s.args.coordinates.now s.args.table.now (admitted k.before.before.before) (sym p.spot_at-spot.ensures ∙ c.in-Inside.is))
+    let s = start k.before.before.before in
+    ((s.requires.0, admitted k.before.before.before), asked_below (card s) s.args.coordinates.now s.args.table.now (admitted k.before.before.before) (sym p.spot_at-spot.ensures ∙ c.in-Inside.is))
 
 returns_2 : tie.Need-returns-in-Inside
 returns_2 c =
@@ -43,14 +43,14 @@ returns_2 c =
     let t = o in
     let p = t in
     let k = p in
-    let s = start k in
+    let s = start k.before.before.before.before.before.before in
     owner_read (card s) s.args.coordinates.now s.args.table.now (admitted k.before.before.before.before.before.before) (sym p.spot_at-spot.ensures ∙ t.in-Inside.is) o.owner_at.ensures
 
 returns_3 : tie.Need-returns-in-Outside
 returns_3 c =
     let p = c in
     let k = p in
-    let s = start k in
+    let s = start k.before.before in
     no_cell_promise (card s) s.args.coordinates.now s.args.table.now (admitted k.before.before) (sym p.spot_at-spot.ensures ∙ c.in-Outside.is)
 
 pub owner_packed_spec : {M : Type 1} → statement M
