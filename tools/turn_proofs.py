@@ -60,6 +60,15 @@ class Function:
             self.need_norm.setdefault(norm(n[0]), k)
             self.need_norm.setdefault(norm(n[1]), k)
 
+    def place(self, name):
+        """The place of that name; of a call's arguments, which are fewer places today, the last."""
+        p = self.by_norm.get(norm(name))
+        m = re.match(r"(.*-arg)\d*$", norm(name))
+        if p is None and m:
+            found = [i for i, x in enumerate(self.places) if norm(x[0]).startswith(m[1])]
+            p = found[-1] if found else None
+        return p
+
     def up(self, p, k):
         """The place k steps before, or the start where an older chain was longer."""
         while k and self.parent[p] is not None:
@@ -160,7 +169,7 @@ def arguments(text):
     return out
 
 
-PATH = re.compile(rf"(?<![\w'₀-₉.\-])([A-Za-z][\w'₀-₉]*)((?:\.{ID})*)(?![\w])")
+PATH = re.compile(rf"(?<![\w'₀-₉.\-])([A-Za-z][\w'₀-₉]*|\([A-Za-z][\w'₀-₉]* [^()]*\)(?=\.))((?:\.{ID})*)(?![\w])")
 
 
 def segments(sig):
@@ -183,7 +192,7 @@ def taken(sig, f):
     for part in parts[:-1]:
         m = re.match(rf"tie\.({ID})", part)
         if m:
-            places.append(f.by_norm.get(norm(m[1])))
+            places.append(f.place(m[1]))
             names.append(None)
             continue
         binders = re.findall(r"[({]([^(){}:]+) : ((?:[^(){}]|\((?:[^()]|\([^()]*\))*\))*)[)}]", part) if part[:1] in "({" else []
@@ -193,10 +202,10 @@ def taken(sig, f):
         for vs, ty in binders:
             m = re.match(rf"tie\.({ID})", ty)
             for v in vs.split():
-                places.append(f.by_norm.get(norm(m[1])) if m else None)
+                places.append(f.place(m[1]) if m else None)
                 names.append(v)
     m = re.match(rf"tie\.({ID})", parts[-1])
-    return places, names, (f.by_norm.get(norm(m[1])) if m else None)
+    return places, names, (f.place(m[1]) if m else None)
 
 
 def head_of(before):
@@ -239,6 +248,14 @@ def paths(text, env, f, said, wanted={}, results={}, result=None):
             env[m[1]] = place
     for m in PATH.finditer(text):
         v, segs = m[1], [WORDS.get(s, s) for s in m[2].split(".")[1:]]
+        if v[0] == "(":
+            # what a lemma gives of a record: its argument is turned first
+            lemma = v[1:].split()[0]
+            if lemma not in results:
+                continue
+            inner, _ = paths(v[1:-1], env, f, said, wanted, results)
+            v = f"({inner})"
+            env[v] = results[lemma]
         if v in env and segs and segs[0] == "pre":
             segs[0] = "requires"
         if steps.get(v) is not None and segs:
@@ -350,7 +367,7 @@ def turn(text, f, said):
                 if res is not None:
                     results[name] = res
                 for b in re.finditer(rf"tie\.({ID})", t):
-                    p = f.by_norm.get(norm(b[1]))
+                    p = f.place(b[1])
                     if p is not None:
                         t = re.sub(rf"tie\.{re.escape(b[1])}(?![\w'\-])", f"tie.{f.names[p]}", t)
             t, _ = paths(t, env, f, said, env_of, results)
@@ -382,7 +399,7 @@ def turn(text, f, said):
     text = "".join(out)
 
     def place(m):
-        p = f.by_norm.get(norm(m[1]))
+        p = f.place(m[1])
         return f"tie.{f.names[p]}" if p is not None else m[0]
 
     def need(m):
@@ -391,6 +408,7 @@ def turn(text, f, said):
 
     text = re.sub(rf"tie\.((?:In|At|After|Then|Else|Start)(?:[\w'\-]*))", lambda m: m[0] if m[1] in f.names else place(m), text)
     text = re.sub(rf"tie\.Need-({ID})", need, text)
+    text = re.sub(r"\.inv\b", ".invariant", text)
     # a test of `!x` now says what x is
     text = re.sub(r"not-(?:true|false) (?:_|[^\s()]+|\([^()]*\)) ((?:\w+\.)+if-not-[\w.\-']+)", r"\1", text)
     return re.sub(r"\.(most-(?:elements|copies|stride|cells|extent))\b", lambda m: "." + m[1].replace("-", "_") + "_lem", text)

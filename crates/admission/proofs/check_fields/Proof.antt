@@ -29,11 +29,11 @@ walked c = (marked c).before.before
 
 numbers : (c : tie.After-offset_fits) → let w = walked c in
     numbers_fit (asked (passed w).before.before)
-    ≡ (w.list_fits-shard.result.limits && (marked c).marks-fit.result && w.list_fits-replica.result.limits && c.offset_fits.result)
+    ≡ (w.list_fits-shard.result.limits && (marked c).marks_fit.result && w.list_fits-replica.result.limits && c.offset_fits.result)
 numbers c =
     let w = walked c in
-    sym (ap₂ ◌&&◌ (ap₂ ◌&&◌ (ap₂ ◌&&◌ w.list_fits-shard.ensures.0 (marked c).marks-fit.ensures) w.list_fits-replica.ensures.0)
-    (c.offset_fits.ensures (passed w).before.before.args.numbers.now))
+    sym (ap₂ ◌&&◌ (ap₂ ◌&&◌ (ap₂ ◌&&◌ w.list_fits-shard.ensures.0 (marked c).marks_fit.ensures) w.list_fits-replica.ensures.0)
+    (c.offset_fits.ensures (passed w).args.numbers.now))
 
 axes : (w : tie.After-list_fits-replica) → axes_fit (asked (passed w).before.before) ≡ (w.list_fits-shard.result.axes && w.list_fits-replica.result.axes)
 axes w = sym (ap₂ ◌&&◌ w.list_fits-shard.ensures.1 w.list_fits-replica.ensures.1)

@@ -39,7 +39,7 @@ claim_all_requires : tie.Need-claim_all-requires
 claim_all_requires c κs =
     let p = c in
     let k = clearing p.before.before.before in
-    ((start k).pre.0, (rw c.in_default.is at p.find_outside-search.ensures, is_cleared k))
+    ((start k).requires.0, (rw c.in_default.is at p.find_outside-search.ensures, is_cleared k))
 
 returns_2 : tie.Need-returns
 returns_2 c =

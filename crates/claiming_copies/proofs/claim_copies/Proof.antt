@@ -59,7 +59,7 @@ module _ (t : tie.In-loop-copy invariant_loop decreases_loop) where
   few = omega (arith, t.loop-test.taken, s.pre.1.levels_size)
 
   size : length t.before.loop.table ≡ cells (card s)
-  size = t.before.loop.inv.1 ∙ s.pre.0.0.owned.size
+  size = t.before.loop.invariant.1 ∙ s.pre.0.0.owned.size
 
   abbrev here : LevelAndM
   here =
@@ -134,7 +134,7 @@ module _ (r : tie.After-claim_line invariant_loop decreases_loop) where
   after = r.claim-line.last.1.1.1.1.1.0
 
   kept : length after ≡ length (s turn).args.table.now
-  kept = r.claim-line.kept.1.1.1.1.1.0 ∙ turn.before.loop.inv.1
+  kept = r.claim-line.kept.1.1.1.1.1.0 ∙ turn.before.loop.invariant.1
 
   lined : r.claim-line.result ≡ true
       → Lined (line_cell (swizzle_of (s turn).args.numbers.now) (here turn) (s turn).args.step) (λ j. (s turn).args.run.first.0 + j) (s turn).args.run.length turn.before.loop.table after
@@ -146,11 +146,11 @@ module _ (r : tie.After-claim_line invariant_loop decreases_loop) where
 abbrev claimed : tie.Else-not-claim_line invariant_loop decreases_loop → tie.After-claim_line invariant_loop decreases_loop
 claimed c = c.before.before.before
 
-is_claimed : (c : tie.Else-not-claim_line invariant_loop decreases_loop) → (claimed c).claim-line.result ≡ true
+is_claimed : (c : tie.Else-not-claim_line invariant_loop decreases_loop) → (claimed c).claim_line.result ≡ true
 is_claimed c = c.if-not-claim_line.false
 
 more : (c : tie.Else-not-claim_line invariant_loop decreases_loop) → occupied (after (claimed c)) ≡ occupied (s (turn (claimed c))).args.table.now + ((turn (claimed c)).before.loop.newly + (s (turn (claimed c))).args.run.length)
-more c = omega (arith, (lined (claimed c) (is_claimed c)).counted, (turn (claimed c)).before.loop.inv.4)
+more c = omega (arith, (lined (claimed c) (is_claimed c)).counted, (turn (claimed c)).before.loop.invariant.4)
 
 counted : (c : tie.Else-not-claim_line invariant_loop decreases_loop) → (turn (claimed c)).before.loop.newly + (s (turn (claimed c))).args.run.length ≤ cells (card (s (turn (claimed c))))
 counted c = omega (arith, more c, occupied_most (after (claimed c)), kept (claimed c), (s (turn (claimed c))).pre.0.0.owned.size)
@@ -164,8 +164,8 @@ loop_again c =
       omega (arith, t.loop-test.taken),
       kept r,
       copies_more q.args.numbers.now q.args.strides.now q.args.start q.args.step q.args.run q.args.table.now q.pre.0.0 q.args.levels.now q.args.ms.now
-          q.pre.1 (copy t) (few t) l.table (after r) l.inv.2 (lined r (is_claimed c)),
-      omega (arith, l.inv.3, add-mul l.copy 1 q.args.run.length),
+          q.pre.1 (copy t) (few t) l.table (after r) l.invariant.2 (lined r (is_claimed c)),
+      omega (arith, l.invariant.3, add-mul l.copy 1 q.args.run.length),
       more c,
     )
 

@@ -63,22 +63,22 @@ module _ (t : tie.In-loop-first invariant_loop decreases_loop) where
   an_element = omega (arith, t.loop-test.taken, s.pre.0.0.all_elements)
 
   end : t.before.loop.first + many ≤ elements (card s)
-  end = run_end s.args.numbers.now s.args.strides.now many t.before.loop.inv.0 by t.before.loop.inv.1 an_element
+  end = run_end s.args.numbers.now s.args.strides.now many t.before.loop.invariant.0 by t.before.loop.invariant.1 an_element
 
-  next : t.before.loop.first + many ≡ (t.before.loop.inv.0 + 1) * many
-  next = run_next s.args.numbers.now s.args.strides.now many t.before.loop.inv.0 by t.before.loop.inv.1
+  next : t.before.loop.first + many ≡ (t.before.loop.invariant.0 + 1) * many
+  next = run_next s.args.numbers.now s.args.strides.now many t.before.loop.invariant.0 by t.before.loop.invariant.1
 
   begins : Adds (slice 32 40 s.args.numbers.now) (base (card s) t.before.loop.first) t.before.loop.start
   begins =
       let l = t.before.loop in
-      subst (λ (f : ℕ). Adds (slice 32 40 s.args.numbers.now) (base (card s) f) l.start) (l.inv.6 t.loop-test.taken)
-      (place_of s.args.numbers.now s.args.strides.now s.pre.0.0.admits l.digits l.start l.inv.4)
+      subst (λ (f : ℕ). Adds (slice 32 40 s.args.numbers.now) (base (card s) f) l.start) (l.invariant.6 t.loop-test.taken)
+      (place_of s.args.numbers.now s.args.strides.now s.pre.0.0.admits l.digits l.start l.invariant.4)
 
   runs : Running s.args.numbers.now s.args.strides.now t.before.loop.start s.args.step (record { first = record { 0 = t.before.loop.first }; length = many }) t.before.loop.table
   runs =
       let l = t.before.loop in
-      running s.args.numbers.now s.args.strides.now s.pre.0.0.admits s.pre.0.0.inside many l.inv.0 by s.pre.1.steps
-      l.first l.inv.1 an_element (leads_itself (card s) s.pre.0.2 l.first an_element) begins (owned_as (card s) refl l.inv.3.counted l.inv.3)
+      running s.args.numbers.now s.args.strides.now s.pre.0.0.admits s.pre.0.0.inside many l.invariant.0 by s.pre.1.steps
+      l.first l.invariant.1 an_element (leads_itself (card s) s.pre.0.2 l.first an_element) begins (owned_as (card s) refl l.invariant.3.counted l.invariant.3)
 
 loop_holds : tie.Need-loop-first-init invariant_loop decreases_loop
 loop_holds c =
@@ -106,17 +106,17 @@ module _ (r : tie.After-claim_copies-claimed invariant_loop decreases_loop) wher
   after = r.claim-copies.last.1.1.1.1.1.1.1.1.0
 
   kept : length after ≡ cells (card (s turn))
-  kept = r.claim-copies.kept.1.1.1.1.1.1.1.1.0 ∙ turn.before.loop.inv.3.size
+  kept = r.claim-copies.kept.1.1.1.1.1.1.1.1.0 ∙ turn.before.loop.invariant.3.size
 
 abbrev claimed : tie.Else-claimed-eq0 invariant_loop decreases_loop → tie.After-claim_copies-claimed invariant_loop decreases_loop
 claimed c = c.before.before.before
 
 owned : (c : tie.Else-claimed-eq0 invariant_loop decreases_loop) → let t = turn (claimed c) in
-    OwnedTable (placed (card (s t))) (t.before.loop.first + many t) (cells (card (s t))) (after (claimed c)) (t.before.loop.occupied + (claimed c).claim-copies.result)
+    OwnedTable (placed (card (s t))) (t.before.loop.first + many t) (cells (card (s t))) (after (claimed c)) (t.before.loop.occupied + (claimed c).claim_copies-claimed.result)
 owned c =
     let r = claimed c in
     let t = turn r in
-    owned_as (card (s t)) refl (omega (arith, t.before.loop.inv.3.counted)) (r.claim_copies-claimed.ensures (omega (arith, c.if-claimed-eq0.false)))
+    owned_as (card (s t)) refl (omega (arith, t.before.loop.invariant.3.counted)) (r.claim_copies-claimed.ensures (omega (arith, c.if-claimed-eq0.false)))
 
 turn_requires : tie.Need-turn-start-requires invariant_loop decreases_loop
 turn_requires c κs =
@@ -124,7 +124,7 @@ turn_requires c κs =
     let a = (s t).args in
     let l = t.before.loop in
     turnable a.numbers.now a.strides.now (s t).pre.0.0.admits a.from a.lifts.now a.moves.now l.digits l.start
-    (s t).pre.1.slower.most l.inv.5 (s t).pre.1.ways l.inv.4
+    (s t).pre.1.slower.most l.invariant.5 (s t).pre.1.ways l.invariant.4
 
 loop_again : tie.Need-loop-first-preserved invariant_loop decreases_loop
 loop_again c =
@@ -133,13 +133,13 @@ loop_again c =
     let l = t.before.loop in
     let its = shard_iters (s t).args.numbers.now (s t).args.strides.now in
     let run_is : size_from (s t).args.from its ≡ many t = (s t).pre.1.slower.a_run ∙ sym (s t).pre.1.long_is in
-    let here = l.inv.6 t.loop-test.taken in (
-      l.inv.0 + 1,
+    let here = l.invariant.6 t.loop-test.taken in (
+      l.invariant.0 + 1,
       next t,
       omega (arith, end t, (s t).pre.0.0.all_elements),
       owned e.before.before,
       c.turn-start.ensures.there,
-      c.turn-start.ensures.size ∙ l.inv.5,
+      c.turn-start.ensures.size ∙ l.invariant.5,
       λ some. c.turn-start.ensures.next (omega (arith, here, run_is, some, (s t).pre.0.0.all_elements)) ∙ omega (arith, here, run_is),
     )
 

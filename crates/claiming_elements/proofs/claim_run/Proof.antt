@@ -91,8 +91,8 @@ module _ (t : tie.In-loop-done invariant_loop decreases_loop) where
       let l = t.before.loop in
       let given = s.pre.0.begins l.done below in
       record {
-        level_is = l.inv.3 ∙ rw (level_back k, level_step_back k) given.level_is;
-        m_is = l.inv.4 ∙ rw (m_back k, m_step_back k) given.m_is;
+        level_is = l.invariant.3 ∙ rw (level_back k, level_step_back k) given.level_is;
+        m_is = l.invariant.4 ∙ rw (m_back k, m_step_back k) given.m_is;
       }
 
   claimable : Claimable (card s) flat t.before.loop.table
@@ -102,7 +102,7 @@ module _ (t : tie.In-loop-done invariant_loop decreases_loop) where
         inside = p.inside;
         element = p.element t.before.loop.done below;
         leads = p.leads t.before.loop.done below;
-        size = t.before.loop.inv.2.size;
+        size = t.before.loop.invariant.2.size;
       }
 
 loop_holds : tie.Need-loop-done-init invariant_loop decreases_loop
@@ -134,18 +134,18 @@ module _ (m : tie.After-claim_element-newly invariant_loop decreases_loop) where
   count = occupied (s turn).args.table.now + turn.before.loop.cells
 
   size : length after ≡ cells (card (s turn))
-  size = m.claim-element.kept.1.1.1.1.1.1.1.1.0 ∙ turn.before.loop.inv.2.size
+  size = m.claim-element.kept.1.1.1.1.1.1.1.1.0 ∙ turn.before.loop.invariant.2.size
 
   more : 0 < m.claim-element.result → OwnedTable (placed (card (s turn))) (flat turn + 1) (cells (card (s turn))) after (count + m.claim-element.result)
   more h =
-      claims_more (card (s turn)) (flat turn) m.claim-element.result count turn.before.loop.inv.2 (claimable turn).leads m.claim-element.ensures
+      claims_more (card (s turn)) (flat turn) m.claim-element.result count turn.before.loop.invariant.2 (claimable turn).leads m.claim-element.ensures
       (row_ready (card (s turn)) (flat turn) turn.before.loop.table (s turn).pre.0.admits.admitted (claimable turn) refl).within size h
 
   met : m.claim-element.result ≡ 0 → (0 < entry_met after (copy_cells (card (s turn)) (flat turn))) × (after ≡ turn.before.loop.table)
-  met = claims_met (card (s turn)) (flat turn) m.claim-element.result count turn.before.loop.inv.2 (claimable turn).leads m.claim-element.ensures
+  met = claims_met (card (s turn)) (flat turn) m.claim-element.result count turn.before.loop.invariant.2 (claimable turn).leads m.claim-element.ensures
 
   counted : count + m.claim-element.result ≤ cells (card (s turn))
-  counted = claims_count (card (s turn)) (flat turn) m.claim-element.result count turn.before.loop.inv.2 (claimable turn).leads m.claim-element.ensures size
+  counted = claims_count (card (s turn)) (flat turn) m.claim-element.result count turn.before.loop.invariant.2 (claimable turn).leads m.claim-element.ensures size
 
   level_fits : SFits w64 (to_z w64 turn.before.loop.level +ℤ to_z w64 (of_z w64 (s turn).args.step.level))
   level_fits =
@@ -176,10 +176,10 @@ loop_again c =
     let bits : ℤ → ℤ = λ z. to_z w64 (of_z w64 z) in
     let some : 0 < d.claim_element-newly.result = omega (arith, c.if-newly-eq0.false) in (
       omega (arith, below (turn d)),
-      d.claim_element-newly.kept.1.1.1.1.1.1.1.0 ∙ l.inv.1,
+      d.claim_element-newly.kept.1.1.1.1.1.1.1.0 ∙ l.invariant.1,
       owned_as (card (s (turn d))) (omega arith) (omega arith) (more d some),
-      to_z-of_z (level_fits d) ∙ stepped (bits (a q).level) (bits (b q).level) (to_z w64 l.level) l.done l.inv.3,
-      to_z-of_z (m_fits d) ∙ stepped (bits (a q).m) (bits (b q).m) (to_z w64 l.m) l.done l.inv.4,
+      to_z-of_z (level_fits d) ∙ stepped (bits (a q).level) (bits (b q).level) (to_z w64 l.level) l.done l.invariant.3,
+      to_z-of_z (m_fits d) ∙ stepped (bits (a q).m) (bits (b q).m) (to_z w64 l.m) l.done l.invariant.4,
     )
 
 returns_2 : tie.Need-returns invariant_loop decreases_loop
@@ -199,4 +199,4 @@ claim_run_spec =
     returns (λ c. omega (arith, counted (claimed c), (sized (card (s (turn (claimed c)))) (s (turn (claimed c))).pre.0.admits.admitted).most_cells_lem))
     (λ c. level_fits (claimed c)) (λ c. m_fits (claimed c))
     (λ c. omega (arith, (claimable (turn (claimed c))).element, (sized (card (s (turn (claimed c)))) (s (turn (claimed c))).pre.0.admits.admitted).most_elements_lem)) (λ c. omega (arith, below (turn (claimed c))))
-    loop_again (λ c. c.loop-done.invariant.1) (λ c. c.loop-done.invariant.2.size ∙ sym (start c.before.before).pre.0.owned.size) returns_2)
+    loop_again (λ c. c.loop-done.invariant.1) (λ c. c.loop-done.invariant.2.size ∙ sym (start c.before.before).requires.0.owned.size) returns_2)

@@ -85,10 +85,10 @@ returns c =
 abbrev found : tie.After-struct_known-1 → tie.After-cell_at-cell
 found c = c.before.before.before
 
-small : (c : tie.After-struct_known-1) → let s = (found c).before.before.before.before in s.args.flat.0 + 1 < 2 ^ 32
+small : (c : tie.After-struct_known-1) → let s = (found c) in s.args.flat.0 + 1 < 2 ^ 32
 small c =
-    let s = (found c).before.before.before.before in
-    omega (arith, s.pre.0.claimable.element, (sized (card s) s.pre.0.admits.admitted).most_elements_lem)
+    let s = (found c) in
+    omega (arith, s.requires.0.claimable.element, (sized (card s.before.before.before.before) s.requires.0.admits.admitted).most_elements_lem)
 
 slice_write_table : tie.Need-bounds-table-cell-2
 slice_write_table c = cell_here (found c)

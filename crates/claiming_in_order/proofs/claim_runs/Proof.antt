@@ -58,10 +58,10 @@ module _ (t : tie.In-loop-flat invariant_loop decreases_loop) where
   an_element = omega (arith, t.loop-test.taken, s.pre.0.0.all_elements)
 
   end : t.before.loop.flat + many ≤ elements (card s)
-  end = run_end s.args.numbers.now s.args.strides.now many t.before.loop.inv.0 by t.before.loop.inv.1 an_element
+  end = run_end s.args.numbers.now s.args.strides.now many t.before.loop.invariant.0 by t.before.loop.invariant.1 an_element
 
-  next : t.before.loop.flat + many ≡ (t.before.loop.inv.0 + 1) * many
-  next = run_next s.args.numbers.now s.args.strides.now many t.before.loop.inv.0 by t.before.loop.inv.1
+  next : t.before.loop.flat + many ≡ (t.before.loop.invariant.0 + 1) * many
+  next = run_next s.args.numbers.now s.args.strides.now many t.before.loop.invariant.0 by t.before.loop.invariant.1
 
 -- a run whose first element leads
 led : (i : tie.Then-leads invariant_loop decreases_loop) → let t = i in leader (card (s t)) t.loop-flat.flat ≡ t.loop-flat.flat
@@ -105,10 +105,10 @@ module _ (r : tie.After-claim_run-claimed invariant_loop decreases_loop) where
   }
 
   kept : length r.claim-run.last.1.1.1.1.1.1.1.0 ≡ length (s turn).args.row.now
-  kept = r.claim-run.kept.1.1.1.1.1.1.1.0 ∙ turn.before.loop.inv.3
+  kept = r.claim-run.kept.1.1.1.1.1.1.1.0 ∙ turn.before.loop.invariant.3
 
   counted : turn.before.loop.occupied + r.claim-run.result.cells ≤ cells (card (s turn))
-  counted = omega (arith, turn.before.loop.inv.4.counted, r.claim-run.ensures.owned.counted, occupied_most after, size)
+  counted = omega (arith, turn.before.loop.invariant.4.counted, r.claim-run.ensures.owned.counted, occupied_most after, size)
 
 abbrev claimed_run : tie.After-struct_known-then-leads-1 invariant_loop decreases_loop → tie.After-claim_run-claimed invariant_loop decreases_loop
 claimed_run c = c.before.before.before.before.before.before.before
@@ -169,11 +169,11 @@ loop_again c =
     let t = turn r in
     let l = t.before.loop in
     let whole : claimed r ≡ many t = omega (arith, r.claim_run-claimed.ensures.most, c.if-claimed-length.false) in (
-      l.inv.0 + 1,
+      l.invariant.0 + 1,
       next t,
       omega (arith, end t, (s t).pre.0.0.all_elements),
       kept r,
-      owned_as (card (s t)) (ap (λ (n : ℕ). l.flat + n) whole) (omega (arith, l.inv.4.counted)) r.claim_run-claimed.ensures.owned,
+      owned_as (card (s t)) (ap (λ (n : ℕ). l.flat + n) whole) (omega (arith, l.invariant.4.counted)) r.claim_run-claimed.ensures.owned,
     )
 
 -- a run whose first element follows is of one element, which claims nothing

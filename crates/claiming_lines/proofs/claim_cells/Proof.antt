@@ -71,10 +71,10 @@ module _ (t : tie.In-loop-done invariant_loop decreases_loop) where
   done = t.before.loop.done
 
   level_fits : SFits w64 (to_z w64 t.before.loop.level +ℤ (step k).level)
-  level_fits = step_fits (to_z w64 t.before.loop.level) (step k).level (rw t.before.loop.inv.2 ((there k).near done t.loop-test.taken).0) (there k).step_near.0
+  level_fits = step_fits (to_z w64 t.before.loop.level) (step k).level (rw t.before.loop.invariant.2 ((there k).near done t.loop-test.taken).0) (there k).step_near.0
 
   m_fits : SFits w64 (to_z w64 t.before.loop.m +ℤ (step k).m)
-  m_fits = step_fits (to_z w64 t.before.loop.m) (step k).m (rw t.before.loop.inv.3 ((there k).near done t.loop-test.taken).1) (there k).step_near.1
+  m_fits = step_fits (to_z w64 t.before.loop.m) (step k).m (rw t.before.loop.invariant.3 ((there k).near done t.loop-test.taken).1) (there k).step_near.1
 
 loop_holds : tie.Need-loop-done-init invariant_loop decreases_loop
 loop_holds c = (
@@ -98,10 +98,10 @@ module _ (f : tie.After-cell_at-cell invariant_loop decreases_loop) where
   found : f.Cell-at.result.0 ≡ line_cell (s q).args.by (start q) (step q) (done turn)
   found =
       let l = turn.before.loop in
-      cell_found (s q).args.by (start q) (step q) (s q).args.first (done turn) (s q).args.table.now l.table l.inv.1 l.inv.2 l.inv.3 f.Cell-at.ensures
+      cell_found (s q).args.by (start q) (step q) (s q).args.first (done turn) (s q).args.table.now l.table l.invariant.1 l.invariant.2 l.invariant.3 f.Cell-at.ensures
 
   here : f.Cell-at.result.0 < length turn.before.loop.table
-  here = omega (arith, found, turn.before.loop.inv.1.size, (there q).inside (done turn) turn.loop-test.taken)
+  here = omega (arith, found, turn.before.loop.invariant.1.size, (there q).inside (done turn) turn.loop-test.taken)
 
   few : (s q).args.first + done turn + 2 < 2 ^ 32 + 1
   few = omega (arith, (there q).small, turn.loop-test.taken)
@@ -116,9 +116,9 @@ loop_again c =
     let l = t.before.loop in
     let d = q f in (
       omega (arith, t.loop-test.taken),
-      line_more (s d).args.by (start d) (step d) (s d).args.first (done t) (s d).args.table.now l.table l.inv.1 (found f) (omega arith) (here f) c.if-table-cell-ne0.false,
-      to_z-of_z (level_fits t) ∙ stepped (start d).level (step d).level (to_z w64 l.level) l.done l.inv.2,
-      to_z-of_z (m_fits t) ∙ stepped (start d).m (step d).m (to_z w64 l.m) l.done l.inv.3,
+      line_more (s d).args.by (start d) (step d) (s d).args.first (done t) (s d).args.table.now l.table l.invariant.1 (found f) (omega arith) (here f) c.if-table-cell-ne0.false,
+      to_z-of_z (level_fits t) ∙ stepped (start d).level (step d).level (to_z w64 l.level) l.done l.invariant.2,
+      to_z-of_z (m_fits t) ∙ stepped (start d).m (step d).m (to_z w64 l.m) l.done l.invariant.3,
     )
 
 returns_2 : tie.Need-returns invariant_loop decreases_loop
@@ -136,7 +136,7 @@ claim_cells_spec =
     tie.close
     (tie.spec invariant_loop decreases_loop loop_holds cell_at_requires
     (λ c. omega (arith, here c)) (λ c. here c.before)
-    (λ c. (turn c.before.before).before.loop.inv.1.size) (λ c e. absurd (true≢false (sym e)))
+    (λ c. (turn c.before.before).before.loop.invariant.1.size) (λ c e. absurd (true≢false (sym e)))
     (λ c. omega (arith, few (at c))) (λ c. omega (arith, few (at c))) (λ c. omega (arith, few (at c)))
     (λ c. omega (arith, here (at c))) (λ c. here (at c))
     (λ c. level_fits (turn (at c))) (λ c. m_fits (turn (at c))) (λ c. omega (arith, (turn (at c)).loop-test.taken)) (λ c. omega (arith, (turn (at c)).loop-test.taken))

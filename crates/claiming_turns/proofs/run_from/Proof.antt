@@ -30,15 +30,15 @@ module _ (t : tie.In-loop-k invariant_loop decreases_loop) (strides : List ℤ) 
   few = t.before.before.before.pre.few
 
   below : j < length (shard_iters numbers strides)
-  below = omega (arith, iters_count numbers strides few, t.before.loop.inv.0, t.loop-test.taken)
+  below = omega (arith, iters_count numbers strides few, t.before.loop.invariant.0, t.loop-test.taken)
 
   before_it : (run_length (drop (suc j) (shard_iters numbers strides)) ≡ 1) × (size_from (suc j) (shard_iters numbers strides) ≡ 1)
   before_it =
       let same : t.before.loop.k ≡ suc j = omega (arith, t.loop-test.taken) in
-      subst (λ (n : ℕ). (run_length (drop n (shard_iters numbers strides)) ≡ 1) × (size_from n (shard_iters numbers strides) ≡ 1)) same (t.before.loop.inv.1 strides)
+      subst (λ (n : ℕ). (run_length (drop n (shard_iters numbers strides)) ≡ 1) × (size_from n (shard_iters numbers strides) ≡ 1)) same (t.before.loop.invariant.1 strides)
 
   extent_is : get_or (iter_extents (shard_iters numbers strides)) j 0 ≡ get_or numbers j 0
-  extent_is = extent_at numbers strides j few (omega (arith, t.before.loop.inv.0, t.loop-test.taken))
+  extent_is = extent_at numbers strides j few (omega (arith, t.before.loop.invariant.0, t.loop-test.taken))
 
 loop_holds : tie.Need-loop-k-init invariant_loop decreases_loop
 loop_holds c = (omega arith, λ strides. let numbers = c.args.numbers.now in all_ones (shard_iters numbers strides) (get_or numbers 40 0) (omega (arith, iters_count numbers strides c.requires.few)))

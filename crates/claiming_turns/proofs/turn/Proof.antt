@@ -83,7 +83,7 @@ module _ (t : tie.In-loop-k invariant_loop decreases_loop) where
   few = s.pre.whole.2
 
   slower : j < s.args.from
-  slower = omega (arith, t.before.loop.inv.0, t.loop-test.taken)
+  slower = omega (arith, t.before.loop.invariant.0, t.loop-test.taken)
 
   below : j < length l
   below = omega (arith, slower, s.pre.slower)
@@ -101,24 +101,24 @@ module _ (t : tie.In-loop-k invariant_loop decreases_loop) where
   after_is = let same : suc j ≡ t.before.loop.k = omega (arith, t.loop-test.taken) in ap (λ (n : ℕ). size_from n l) same
 
   small : digit ≤ 2 ^ 32
-  small = digit_small numbers strides digits here j below t.before.loop.inv.1 adds (s.pre.small j below)
+  small = digit_small numbers strides digits here j below t.before.loop.invariant.1 adds (s.pre.small j below)
 
   -- forth
   module _ (more : digit + 1 < get_or numbers j 0) where
     forth : DigitsAt numbers strides (set digits j (digit + 1)) (record { level = here.level +ℤ way.level; m = here.m +ℤ way.m })
-    forth = turn_forth numbers strides digits here j below t.before.loop.inv.1 adds (omega (arith, extent_is, more))
+    forth = turn_forth numbers strides digits here j below t.before.loop.invariant.1 adds (omega (arith, extent_is, more))
 
     near : (nat_abs (here.level +ℤ way.level) ≤ roomy_level) × (nat_abs (here.m +ℤ way.m) ≤ roomy_level)
     near = s.pre.near (set digits j (digit + 1)) _ forth
 
     index_next : index_of l (set digits j (digit + 1)) ≡ index_of l s.args.digits.now + size_from s.args.from l
-    index_next = omega (arith, index_forth numbers strides digits here j below t.before.loop.inv.1 adds, after_is, t.before.loop.inv.3)
+    index_next = omega (arith, index_forth numbers strides digits here j below t.before.loop.invariant.1 adds, after_is, t.before.loop.invariant.3)
 
   back_level : Steps here.level digit way.level
-  back_level = level_steps numbers strides digits here j below t.before.loop.inv.1 adds s.pre.near small
+  back_level = level_steps numbers strides digits here j below t.before.loop.invariant.1 adds s.pre.near small
 
   back_m : Steps here.m digit way.m
-  back_m = m_steps numbers strides digits here j below t.before.loop.inv.1 adds s.pre.near small
+  back_m = m_steps numbers strides digits here j below t.before.loop.invariant.1 adds s.pre.near small
 
 -- the digit goes on
 abbrev at : tie.Then-digit-numbers invariant_loop decreases_loop → tie.In-loop-k invariant_loop decreases_loop
@@ -149,7 +149,7 @@ returns c =
     let t = t2 c in
     let more = c.if-digit-numbers.true in
     record {
-      size = length-set (digits t) (j t) (digit t + 1) ∙ t.before.loop.inv.2 ∙ sym (s t).pre.whole.1;
+      size = length-set (digits t) (j t) (digit t + 1) ∙ t.before.loop.invariant.2 ∙ sym (s t).pre.whole.1;
       there =
           subst (DigitsAt (numbers t) (strides t) (set (digits t) (j t) (digit t + 1)))
           (sym (alike (to_z-of_z (level_fits c.before) ∙ ap (λ (z : ℤ). (here t).level +ℤ z) (level_read c.before)) (to_z-of_z (m_fits c) ∙ ap (λ (z : ℤ). (here t).m +ℤ z) (m_read c))))
@@ -185,13 +185,13 @@ loop_again c =
     let f = b in
     let t = t3 f in
     let full : get_or (iter_extents (l t)) (j t) 0 ≤ digit t + 1 = omega (arith, extent_is t, f.if-digit-numbers.false) in
-    let index = index_back (numbers t) (strides t) (digits t) (here t) (j t) (below t) t.before.loop.inv.1 (adds t) full in (
-      omega (arith, t.before.loop.inv.0),
-      turn_back (numbers t) (strides t) (digits t) (here t) (j t) (below t) t.before.loop.inv.1 (adds t)
+    let index = index_back (numbers t) (strides t) (digits t) (here t) (j t) (below t) t.before.loop.invariant.1 (adds t) full in (
+      omega (arith, t.before.loop.invariant.0),
+      turn_back (numbers t) (strides t) (digits t) (here t) (j t) (below t) t.before.loop.invariant.1 (adds t)
           (ap (λ (z : ℤ). z +ℤ pos (digit t) *ℤ (way t).level) (to_z-of_z {w = w64} {z = b.back-level.result} (record { sfits = b.back-level.type_inv })) ∙ rw (step_read f) at b.back-level.ensures)
           (ap (λ (z : ℤ). z +ℤ pos (digit t) *ℤ (way t).m) (to_z-of_z {w = w64} {z = c.back-m.result} (record { sfits = c.back-m.type_inv })) ∙ rw (m_step_read e) at c.back-m.ensures),
-      length-set (digits t) (j t) 0 ∙ t.before.loop.inv.2,
-      omega (arith, index, after_is t, t.before.loop.inv.3),
+      length-set (digits t) (j t) 0 ∙ t.before.loop.invariant.2,
+      omega (arith, index, after_is t, t.before.loop.invariant.3),
     )
 
 returns_2 : tie.Need-returns invariant_loop decreases_loop
@@ -206,7 +206,7 @@ turn_spec =
     tie.close
     (tie.spec invariant_loop decreases_loop loop_holds (λ c. omega (arith, c.loop-k-test.true)) (λ c. omega (arith, short c)) (λ c. omega (arith, short c, c.loop-k.invariant.2))
     (λ c. omega (arith, small c.before)) (λ c. omega (arith, short c.before)) (λ c. omega (arith, short c.before, (s c.before).pre.whole.0))
-    (λ c. omega (arith, small (at c))) (λ c. omega (arith, short (at c))) (λ c. omega (arith, short (at c), (at c).before.loop.invariant.2))
+    (λ c. omega (arith, small (at c))) (λ c. omega (arith, short (at c))) (λ c. omega (arith, short (at c), (at c).loop-k.invariant.2))
     (λ c. omega (arith, short (at c))) (λ c. omega (arith, short (at c), (s (at c)).pre.ways.level_size)) level_fits
     (λ c. omega (arith, short (t1 c))) (λ c. omega (arith, short (t1 c), (s (t1 c)).pre.ways.m_size)) m_fits returns
     (λ c. omega (arith, short c.before.before.before)) (λ c. omega (arith, short c.before.before.before, c.loop-k.invariant.2))

@@ -63,10 +63,10 @@ returns : tie.Need-returns-then-size-coordinate invariant_loop decreases_loop
 returns c = sym (ap number_of (numbering_past _ _ _ _ _ _ (turn c.before.before.before.before) c.if-size-coordinate.true))
 
 mul_number : tie.Need-overflow_mul-number invariant_loop decreases_loop
-mul_number c = omega (arith, numbering_room _ _ _ _ _ _ (turn (met c)) c.if-size-coordinate.false, (met c).before.before.requires.0.small)
+mul_number c = omega (arith, numbering_room _ _ _ _ _ _ (turn (met c)) c.if-size-coordinate.false, (met c).requires.0.small)
 
 add_number : tie.Need-overflow_add-number invariant_loop decreases_loop
-add_number c = omega (arith, numbering_room _ _ _ _ _ _ (turn (met c)) c.if-size-coordinate.false, (met c).before.before.requires.0.small)
+add_number c = omega (arith, numbering_room _ _ _ _ _ _ (turn (met c)) c.if-size-coordinate.false, (met c).requires.0.small)
 
 loop_again : tie.Need-loop-k-preserved invariant_loop decreases_loop
 loop_again c = (omega arith, numbering_more _ _ _ _ _ _ (turn (met c)) c.if-size-coordinate.false)

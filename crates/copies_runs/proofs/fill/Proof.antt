@@ -126,5 +126,5 @@ pub fill_spec : {M : Type 1} → statement M
 fill_spec =
     tie.close
     (tie.spec invariant_loop decreases_loop (λ c κs. c.requires.whole) loop_holds (λ c. omega arith) (λ c. omega (arith, below c, (start c).requires.levels_size)) add_cell_at
-    (λ c. omega arith) (λ c. omega (arith, below c.before, (start c.before).pre.ms_size)) add_cell_at_2 cell_at_requires (λ c. omega (arith, small c.before)) (λ c. omega arith)
+    (λ c. omega arith) (λ c. omega (arith, below c.before, (start c.before).requires.ms_size)) add_cell_at_2 cell_at_requires (λ c. omega (arith, small c.before)) (λ c. omega arith)
     (λ c. omega arith) (λ c. omega arith) (λ c. omega arith) loop_again (λ c. c.loop-combination.invariant.1.size) returns)

@@ -42,7 +42,7 @@ loop_again c =
     let s = start t in
     let l = t.loop-combination in (
       omega (arith, below t),
-      copies_more (card s) (length s.args.levels.now) l.levels l.ms l.combination _ _ (below t) l.inv.1
+      copies_more (card s) (length s.args.levels.now) l.levels l.ms l.combination _ _ (below t) l.invariant.1
           (to_z-of_z {w = w64} {z = c.added-copy.result.level} (record { sfits = c.struct_told-1.given.0.1 }) ∙ c.added-copy.ensures.level_is)
           (to_z-of_z {w = w64} {z = c.added-copy.result.m} (record { sfits = c.struct_told-1.given.1.0.1 }) ∙ c.added-copy.ensures.m_is),
     )
@@ -58,6 +58,6 @@ pub put_copies_spec : {M : Type 1} → statement M
 put_copies_spec =
     tie.close
     (tie.spec invariant_loop decreases_loop loop_holds (λ c κs. ((start c).requires.0, omega arith)) (λ c. omega (arith, below (turn c))) (λ c. omega (arith, below (turn c)))
-    (λ c. omega (arith, below (turn c))) (λ c. omega (arith, below (turn c), (turn c).before.loop.invariant.1.ms_size)) (λ c. omega (arith, below (turn c)))
+    (λ c. omega (arith, below (turn c))) (λ c. omega (arith, below (turn c), (turn c).loop-combination.invariant.1.ms_size)) (λ c. omega (arith, below (turn c)))
     (λ c. omega (arith, below (turn c))) loop_again (λ c. c.loop-combination.invariant.1.levels_size) (λ c. c.loop-combination.invariant.1.ms_size ∙ sym c.requires.1)
     returns)

@@ -64,7 +64,7 @@ abbrev called : tie.After-step-arg-in-loop-k-1 invariant_loop decreases_loop →
 called c = c.before.before.before.before.before
 
 sum_back : (c : tie.After-step-arg-in-loop-k-1 invariant_loop decreases_loop)
-    → let z = get_or (called c).before.loop.sums (met (called c)).axis (pos 0) in to_z w64 (of_z w64 z) ≡ z
+    → let z = get_or (called c).loop-k.sums (met (called c)).axis (pos 0) in to_z w64 (of_z w64 z) ≡ z
 sum_back c = to_z-of_z (record { sfits = c.step-arg-1.given })
 
 stride_back : (c : tie.After-step-arg-in-loop-k-1 invariant_loop decreases_loop) → to_z w64 (of_z w64 (met (called c)).stride) ≡ (met (called c)).stride
@@ -83,7 +83,7 @@ element_copy_out_step : tie.Need-bounds-sums-axis invariant_loop decreases_loop
 element_copy_out_step c = let t = turn c.before.before.before in omega (arith, t.an_axis)
 
 rem_step : tie.Need-nonzero_rem-rest invariant_loop decreases_loop
-rem_step c = (turn c.before.before.before.before).some_extent
+rem_step c = (turn c.before.before.before).some_extent
 
 step_requires : tie.Need-step-sum-requires invariant_loop decreases_loop
 step_requires c κs =
@@ -102,7 +102,7 @@ element_set_from_sum : tie.Need-bounds-sums-axis-in-loop-k invariant_loop decrea
 element_set_from_sum c = let t = turn c.before.before.before.before.before.before in omega (arith, t.an_axis)
 
 div_rest : tie.Need-nonzero_div-rest invariant_loop decreases_loop
-div_rest c = (turn c.before.before.before.before.before.before).some_extent
+div_rest c = (turn c.before.before.before.before.before).some_extent
 
 loop_again : tie.Need-loop-k-preserved invariant_loop decreases_loop
 loop_again c =
@@ -112,7 +112,7 @@ loop_again c =
     let l = d.loop-k in
     let j = l.k - 1 in
     let back : l.k ≡ j + 1 = omega arith in
-    let walking = subst (λ (k : ℕ). Walking (slots_of s.before.before.before.before) (counted s.before.before.before.before) a.index a.sums.now k l.rest l.sums) back l.inv.1 in
+    let walking = subst (λ (k : ℕ). Walking (slots_of s.before.before.before.before) (counted s.before.before.before.before) a.index a.sums.now k l.rest l.sums) back l.invariant.1 in
     let new = to_z-of_z {w = w64} {z = c.step-sum.result} (record { sfits = c.step-sum.type_inv }) ∙ rw (sum_back c.before, stride_back c.before) at c.step-sum.ensures in (
       omega arith,
       rw new

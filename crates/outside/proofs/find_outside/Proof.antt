@@ -78,7 +78,7 @@ first_of_all_requires : tie.Need-first_of_all-word-requires
 first_of_all_requires c κs =
     let f = c in
     let e = looked f.before.before.before.before.before.before in
-    (record { admits = (start e).pre; low_there = e.ends.ensures.0; high_there = e.ends.ensures.1 }, f.first_axis-first.ensures.0, f.first_axis-first.ensures.1)
+    (record { admits = (start e).requires; low_there = e.ends.ensures.0; high_there = e.ends.ensures.1 }, f.first_axis-first.ensures.0, f.first_axis-first.ensures.1)
 
 all : (s : tie.Start) → get_or s.args.numbers.now 45 0 ≡ elements (card s)
 all s = (measured s.args.numbers.now s.args.strides.now s.requires).elements_are

@@ -71,7 +71,7 @@ first_leaving_requires c κs =
 small : (c : tie.After-first_leaving-flat) → c.first_leaving-flat.result.0 ≤ 65536
 small c =
     let w = strayed c.before.before.before.before in
-    omega (arith, c.first_leaving-flat.ensures.most, few w, (sizes (start w).pre.0).most_elements_lem)
+    omega (arith, c.first_leaving-flat.ensures.most, few w, (sizes (start w).requires.0).most_elements_lem)
 
 returns_2 : tie.Need-returns
 returns_2 c =

@@ -85,7 +85,7 @@ stayed c = let t = turned c.before in c.steps_back-back.ensures ∙ ap (λ (w : 
 product : (c : tie.After-steps_back-back invariant_loop decreases_loop) → c.steps_back-back.result * c.step_ahead-weight.result ≡ back (turned c.before) * weight (turned c.before)
 product c = ap₂ ◌*◌ (stayed c) (weighed c.before)
 
-spared : (c : tie.After-steps_back-back invariant_loop decreases_loop) → c.steps_back-back.result * c.step_ahead-weight.result ≤ (turned c.before).before.loop.left
+spared : (c : tie.After-steps_back-back invariant_loop decreases_loop) → c.steps_back-back.result * c.step_ahead-weight.result ≤ (turned c.before).loop-k.left
 spared c = let t = turned c.before in omega (arith, product c, back_spare (met t).extent (weight t) t.loop-k.left)
 
 most : (c : tie.After-steps_back-back invariant_loop decreases_loop) → c.steps_back-back.result ≤ (met (turned c.before)).extent - 1
@@ -117,7 +117,7 @@ loop_again c =
     let s = start t in
     let l = t.loop-k in (
       omega (arith, t.loop-k-test.taken),
-      omega (arith, l.inv.1),
+      omega (arith, l.invariant.1),
       rw (product c, stayed c)
           (numbering_more (met t).extent (map extent_of (later s (l.k + 1))) ((met t).extent - 1 - back t) (first s (l.left - back t * weight t) (later s (l.k + 1))) l.k l.index
           (numbering t) (omega (arith, (turn t).some_extent))),
@@ -139,10 +139,10 @@ first_within_spec =
     (tie.spec invariant_loop decreases_loop (λ c. omega (arith, c.requires.walkable.of.one_of_two)) (λ c. omega (arith, c.requires.walkable.of.one_of_two))
     (λ c. omega (arith, c.requires.walkable.of.one_of_two)) loop_holds (λ c. omega (arith, (start c).requires.walkable.of.one_of_two))
     (λ c. omega (arith, (start c).requires.walkable.of)) (λ c. omega (arith, (start c).requires.walkable.of))
-    (λ c. omega (arith, (start c.before).requires.walkable.of)) (λ c. omega (arith, (start c.before.before).pre.walkable.of))
-    (λ c. omega (arith, (start c.before.before).pre.walkable.of)) (λ c. omega (arith, (start c.before.before).pre.walkable.of)) (λ c. omega (arith, (start c.before.before).pre.walkable.of))
-    (λ c. omega (arith, (start c.before.before).pre.walkable.of)) (λ c. omega (arith, (start c.before.before.before).pre.walkable.of)) (λ c. omega (arith, (start c.before.before.before).pre.walkable.of))
-    (λ c. omega (arith, (start c.before.before.before).pre.walkable.of)) (λ c. omega (arith, (start c.before.before.before).pre.walkable.of))
-    (λ c κs. rw (to_z-of_z {w = w64} {z = (met c.before.before.before.before).stride} (record { sfits = c.step_ahead-arg-in-loop-k-1.given })) (turn c.before.before.before.before).most_stride_lem)
+    (λ c. omega (arith, (start c.before).requires.walkable.of)) (λ c. omega (arith, (start c.before.before).requires.walkable.of))
+    (λ c. omega (arith, (start c.before.before).requires.walkable.of)) (λ c. omega (arith, (start c.before.before).requires.walkable.of)) (λ c. omega (arith, (start c.before.before).requires.walkable.of))
+    (λ c. omega (arith, (start c.before.before).requires.walkable.of)) (λ c. omega (arith, (start c.before.before.before).requires.walkable.of)) (λ c. omega (arith, (start c.before.before.before).requires.walkable.of))
+    (λ c. omega (arith, (start c.before.before.before).requires.walkable.of)) (λ c. omega (arith, (start c.before.before.before).requires.walkable.of))
+    (λ c κs. rw (to_z-of_z {w = w64} {z = (met c.before.before.before).stride} (record { sfits = c.step_ahead-arg-in-loop-k-1.given })) (turn c.before.before.before).most_stride_lem)
     (λ c κs. (turn (turned c)).some_extent) (λ c. omega (arith, room c)) (λ c. omega (arith, (turn (turned c.before)).some_extent)) (λ c. omega (arith, most c)) (λ c. omega (arith, room c))
-    (λ c. let t = turned c.before in omega (arith, spared c, t.loop-k.inv.1, (start t).fits.spare)) (λ c. omega (arith, spared c)) (λ c. omega arith) (λ c. omega arith) loop_again returns)
+    (λ c. let t = turned c.before in omega (arith, spared c, t.loop-k.invariant.1, (start t).fits.spare)) (λ c. omega (arith, spared c)) (λ c. omega arith) (λ c. omega arith) loop_again returns)

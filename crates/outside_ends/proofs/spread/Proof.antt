@@ -129,7 +129,7 @@ step_requires c κs =
     let t = at_axis a in
     rw (low_back c, stride_back a)
     (subst (λ (n : ℕ). Steps (get_or t.loop-k.low (met t).axis (pos 0)) n (met t).stride) (sym (ended a false c.far_end.ensures))
-    (steps t false (start t).args.low.now t.loop-k.low (start t).pre.1 t.loop-k.inv.1))
+    (steps t false (start t).args.low.now t.loop-k.low (start t).requires.1 t.loop-k.invariant.1))
 
 step_requires_2 : tie.Need-step-up-requires invariant_loop decreases_loop
 step_requires_2 c κs =
@@ -137,7 +137,7 @@ step_requires_2 c κs =
     let t = at_axis a in
     rw (high_back c, stride_back a)
     (subst (λ (n : ℕ). Steps (get_or t.loop-k.high (met t).axis (pos 0)) n (met t).stride) (sym (ended a true c.far_end-in-loop-k.ensures))
-    (steps t true (start t).args.high.now t.loop-k.high (start t).pre.2 t.loop-k.inv.2))
+    (steps t true (start t).args.high.now t.loop-k.high (start t).requires.2 t.loop-k.invariant.2))
 
 loop_again : tie.Need-loop-k-preserved invariant_loop decreases_loop
 loop_again c =
@@ -152,8 +152,8 @@ loop_again c =
     let down = to_z-of_z {w = w64} {z = p.step-down.result} (record { sfits = p.step-down.type_inv }) ∙ rw (low_back e.before.before.before.before, stride_back a) at p.step-down.ensures ∙ ap (moved l.low) (ended a false e.far_end.ensures) in
     let up = to_z-of_z {w = w64} {z = c.step-up.result} (record { sfits = c.step-up.type_inv }) ∙ rw (high_back h.before, stride_back a) at c.step-up.ensures ∙ ap (moved l.high) (ended a true h.far_end-in-loop-k.ensures) in (
       omega arith,
-      rw down (more t false s.args.low.now l.low s.requires.1 l.inv.1),
-      rw up (more t true s.args.high.now l.high s.requires.2 l.inv.2),
+      rw down (more t false s.args.low.now l.low s.requires.1 l.invariant.1),
+      rw up (more t true s.args.high.now l.high s.requires.2 l.invariant.2),
     )
 
 returns : tie.Need-returns invariant_loop decreases_loop

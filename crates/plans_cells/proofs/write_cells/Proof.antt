@@ -43,8 +43,8 @@ returns_2 c =
     (omega (arith, call.if-plan-numbers.true)) call.clear-then-plan-numbers.ensures other.clear-then-plan-numbers-2.ensures
 
 -- there is room
-abbrev called : tie.After-put-plan-arg3 → tie.Else-plan-numbers
-called c = c.before.before.before
+abbrev called : tie.After-put_plan-arg-1 → tie.Else-plan-numbers
+called c = c.before
 
 abbrev start : tie.Else-plan-numbers → tie.Start
 start c = c.before.before.before.before.before.before
@@ -61,7 +61,7 @@ put_plan_requires c κs =
 returns_3 : tie.Need-returns
 returns_3 c =
     let call = c in
-    let k = called call.before in
+    let k = called call.before.before.before in
     let s = start k in
     filled s.args.plan.now s.args.first.now s.args.second.now s.requires.1.0 (none k.before) (ap (λ (n : ℕ). 2 * n) s.requires.1.1) (room k)
     (ap (λ (l : List ℕ). l ++ drop (2 * s.args.targets) s.args.plan.now) call.put_plan.ensures)

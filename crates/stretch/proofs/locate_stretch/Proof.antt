@@ -41,26 +41,26 @@ an_axis : (c : tie.Else-axis-gt-LAST_AXIS) → ltb last_axis c.args.axis ≡ fal
 an_axis c = le-ltb last_axis c.args.axis c.if-axis-gt-LAST_AXIS.false
 
 -- the space fits
-fits : (c : tie.Else-not-space_fits) → space_fits (start c).args.t2 ≡ true
+fits : (c : tie.Else-not-space_fits) → space_fits (start c).args.lengths ≡ true
 fits c = sym c.space_fits.ensures ∙ c.if-not-space_fits.false
 
-parts : (c : tie.Else-not-space_fits) → Parted (start c).args.t2 ((start c).args.axis + 1)
-parts c = parted (start c).args.t2 ((start c).args.axis + 1) (fits c)
+parts : (c : tie.Else-not-space_fits) → Parted (start c).args.lengths ((start c).args.axis + 1)
+parts c = parted (start c).args.lengths ((start c).args.axis + 1) (fits c)
 
 locate_requires : tie.Need-locate-requires
 locate_requires c κs =
     let two = c in
     let a = (start two.before.before).args in
     let p = parts two.before.before in
-    let eight : length a.t2 ≡ 8 = search rules in
-    (prefix_numerable a.t2 (a.axis + 1) (omega arith) (omega arith) (omega arith) (omega arith), search rules)
+    let eight : length a.lengths ≡ 8 = search rules in
+    (prefix_numerable a.lengths (a.axis + 1) (omega arith) (omega arith) (omega arith) (omega arith), search rules)
 
 returns_3 : tie.Need-returns-in-Past
 returns_3 c =
     let at = c in
     let two = fitting at.before in
     let a = (start two).args in
-    let past = position_past (asked a.axis a.t2) (asked a.axis a.t4) _ (sym at.locate.ensures ∙ c.in-Past.is) in
+    let past = position_past (asked a.axis a.lengths) (asked a.axis a.coordinates) _ (sym at.locate.ensures ∙ c.in-Past.is) in
     rw (an_axis two.before.before, fits two, past.0, past.1)
 
 -- the asked coordinates are inside, and this is their number
@@ -77,7 +77,7 @@ cells_are c =
     let two = fitting (located c.before) in
     let p = parts two in
     c.product-cells.ensures
-    ∙ ap (λ (l : List ℕ). min (product l) beyond) (take_whole 8 (start two).args.t2 (search rules))
+    ∙ ap (λ (l : List ℕ). min (product l) beyond) (take_whole 8 (start two).args.lengths (search rules))
     ∙ min-eq_left (omega arith)
 
 returns_4 : tie.Need-returns-then-table-cells
@@ -99,7 +99,7 @@ after_cells c = ap₂ ◌/◌ (cells_are c.before.before) (first_cells c) ∙ (p
 -- the first cell
 first : (c : tie.After-product) →
     let a = (start (fitting (located (told c)))).args in
-    (told c).before.number.given.0.0 * (c.product-cells.result / c.product.result)
+    (told c).in-At.number * (c.product-cells.result / c.product.result)
     ≡ row_major a.t2 (asked a.axis a.t4)
 first c =
     let a = (start (fitting (located (told c)))).args in
@@ -113,7 +113,7 @@ mul_t20 c =
     let two = fitting (located (told c)) in
     let a = (start two).args in
     let p = parts two in
-    omega (arith, first c, prefix_within (a.axis + 1) a.t2 a.t4 (numbered (told c)).within)
+    omega (arith, first c, prefix_within (a.axis + 1) a.lengths a.coordinates (numbered (told c)).within)
 
 returns_5 : tie.Need-returns
 returns_5 c =

@@ -14,11 +14,11 @@ judged k = k.before.before.before
 abbrev start : tie.After-judge_admitted-verdict → tie.Start
 start j = j.before.before.before
 
-below : (k : tie.In-Approved) → (start (judged k)).args.cell.0 < length (judged k).judge-admitted.new.1.1.0
+below : (k : tie.In-Approved) → (start (judged k)).args.cell.0 < length (judged k).judge_admitted-verdict.new.table
 below k =
     let j = judged k in
     let room = approved_room j.judge_admitted-verdict.ensures k.in-Approved.is in
-    omega (arith, (start j).pre.1, j.judge_admitted-verdict.kept.1.1.0)
+    omega (arith, (start j).requires.1, j.judge_admitted-verdict.kept.1.1.0)
 
 mul_t11 : tie.Need-offset_bounds-table-cell
 mul_t11 c = omega (arith, below c)
