@@ -251,10 +251,12 @@ def paths(text, env, f, said, wanted={}, results={}, result=None):
         if v[0] == "(":
             # what a lemma gives of a record: its argument is turned first
             lemma = v[1:].split()[0]
-            if lemma not in results:
-                continue
             inner, _ = paths(v[1:-1], env, f, said, wanted, results)
             v = f"({inner})"
+            if lemma not in results:
+                out.append(text[i : m.start()] + v + m[2])
+                i = m.end()
+                continue
             env[v] = results[lemma]
         if v in env and segs and segs[0] == "pre":
             segs[0] = "requires"
@@ -387,7 +389,7 @@ def turn(text, f, said):
             for b, e, k in inside:
                 t.append(piece[i:b])
                 a = piece[b:e]
-                lam = re.match(r"\(λ ([^\s.]+)[^.]*\. ", a)
+                lam = re.match(r"\(λ ([^\s.]+)[^.]*\.\s", a)
                 if lam and f.asked[k] is not None:
                     a, _ = paths(a, {lam[1]: f.asked[k]}, f, said, env_of, results)
                 t.append(a)

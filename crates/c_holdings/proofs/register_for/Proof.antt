@@ -13,15 +13,15 @@ register_for_spec =
     (λ c. rw (ne_eqb _ _ c.if-kind-eq6.false, ne_eqb _ _ c.if-kind-eq7.false, eq-eqb _ _ c.if-k-eq2.true))
     (λ c.
     rw (
-      ne_eqb _ _ c.before.before.before.if1.false,
-      ne_eqb _ _ c.before.before.if3.false,
-      ne_eqb _ _ c.before.if5.false,
-      eq-eqb _ _ c.if6.true,
+      ne_eqb _ _ c.if-kind-eq6.false,
+      ne_eqb _ _ c.if-kind-eq7.false,
+      ne_eqb _ _ c.if-k-eq2.false,
+      eq-eqb _ _ c.if-k-eq3.true,
     ))
     (λ c.
     rw (
-      ne_eqb _ _ c.before.before.before.if1.false,
-      ne_eqb _ _ c.before.before.if3.false,
-      ne_eqb _ _ c.before.if5.false,
-      ne_eqb _ _ c.if6.false,
+      ne_eqb _ _ c.if-kind-eq6.false,
+      ne_eqb _ _ c.if-kind-eq7.false,
+      ne_eqb _ _ c.if-k-eq2.false,
+      ne_eqb _ _ c.if-k-eq3.false,
     )))

@@ -21,5 +21,5 @@ register_held_spec =
     (λ c. search rules) (λ c. search rules) (λ c. search rules) (λ c. search rules)
     (λ c. rw (ne_eqb _ _ c.if-kind-eq6.false, ne_eqb _ _ c.if-kind-eq7.false, c.if-i-eq1.true))
     (λ c.
-    rw (ne_eqb _ _ c.before.before.before.if1.false, ne_eqb _ _ c.before.before.if3.false)
-    (sym (others_empty _ _ c.before.before.before.before.args.i (omega (arith, c.before.if5.false, c.if6.false))))))
+    rw (ne_eqb _ _ c.if-kind-eq6.false, ne_eqb _ _ c.if-kind-eq7.false)
+    (sym (others_empty _ _ c.args.i (omega (arith, c.if-i-eq0-3.false, c.if-i-eq1.false))))))

@@ -47,7 +47,7 @@ returns c =
     let s = i in
     let exact = cleared_size (card s.before.before.before.before.before.before.before) s.requires.1.1 in
     approved_promise (card s.before.before.before.before.before.before.before) s.args.table.now s.requires.0.admitted exact s.requires.1.0
-    (subst (λ (n : ℕ). OwnedTable (placed (card s.before.before.before.before.before.before.before)) n (cells (card s.before.before.before.before.before.before.before)) k.claim_alone-occupied.new.table k.claim_alone-occupied.result) (sym (alone i).one_element) k.claim_alone-occupied.ensures)
+    (subst (λ (n : ℕ). OwnedTable (placed (card s.before.before.before.before.before.before.before)) n (cells (card s.before.before.before.before.before.before.before)) k.claim_alone-occupied.new.table k.claim_alone-occupied.result) (sym (alone i.before.before.before.before).one_element) k.claim_alone-occupied.ensures)
     s.requires.0.all_elements (k.claim_alone-occupied.auto.table ∙ exact)
 
 -- the row is as long as there are copies

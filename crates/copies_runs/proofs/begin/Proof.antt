@@ -28,11 +28,11 @@ walk_requires c κs =
     (walkable_shard a.numbers.now a.strides.now s.requires, subst Sums (sym o.offset-sums.ensures) (offset_sums a.numbers.now a.strides.now s.requires))
 
 -- what the walk leaves
-based : (k : tie.After-walk) → let s = k in k.walk.new.sums ≡ walked (card s).shard s.args.flat.0 (card s).offset
+based : (k : tie.After-walk) → let s = k in k.walk.new.sums ≡ walked (card s.before.before.before).shard s.args.flat.0 (card s.before.before.before).offset
 based k =
     let o = k in
     let s = o in
-    k.walk.ensures ∙ ap (walked (card s).shard s.args.flat.0) o.offset-sums.ensures
+    k.walk.ensures ∙ ap (walked (card s.before.before.before).shard s.args.flat.0) o.offset-sums.ensures
 
 weigh_requires : tie.Need-weigh-level-requires
 weigh_requires c κs =
@@ -46,7 +46,7 @@ returns c =
     let w = c in
     let k = w in
     let s = k in
-    adds (card s).lengths (base (card s.before.before.before.before.before.before) s.args.flat.0) (based k.before.before.before ∙ walked_base (card s.before.before.before.before.before.before) s.args.flat.0)
+    adds (card s.before.before.before.before.before.before).lengths (base (card s.before.before.before.before.before.before) s.args.flat.0) (based k.before.before.before ∙ walked_base (card s.before.before.before.before.before.before) s.args.flat.0)
     (to_z-of_z {w = w64} {z = w.weigh-level.result} (record { sfits = w.weigh-level.type_inv }) ∙ w.weigh-level.ensures)
     (to_z-of_z {w = w64} {z = get_or k.walk.new.sums 7 (pos 0)} (record { sfits = c.result-1.given }))
 

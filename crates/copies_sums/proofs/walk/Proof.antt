@@ -65,10 +65,10 @@ called c = c.before.before.before.before.before
 
 sum_back : (c : tie.After-step-arg-in-loop-k-1 invariant_loop decreases_loop)
     → let z = get_or (called c).loop-k.sums (met (called c)).axis (pos 0) in to_z w64 (of_z w64 z) ≡ z
-sum_back c = to_z-of_z (record { sfits = c.step-arg-1.given })
+sum_back c = to_z-of_z {w = w64} (record { sfits = c.step-arg-1.given })
 
 stride_back : (c : tie.After-step-arg-in-loop-k-1 invariant_loop decreases_loop) → to_z w64 (of_z w64 (met (called c)).stride) ≡ (met (called c)).stride
-stride_back c = to_z-of_z (record { sfits = c.step-arg-in-loop-k-1.given })
+stride_back c = to_z-of_z {w = w64} (record { sfits = c.step-arg-in-loop-k-1.given })
 
 loop_holds : tie.Need-loop-k-init invariant_loop decreases_loop
 loop_holds c =
@@ -83,7 +83,7 @@ element_copy_out_step : tie.Need-bounds-sums-axis invariant_loop decreases_loop
 element_copy_out_step c = let t = turn c.before.before.before in omega (arith, t.an_axis)
 
 rem_step : tie.Need-nonzero_rem-rest invariant_loop decreases_loop
-rem_step c = (turn c.before.before.before).some_extent
+rem_step c = (turn c.before.before.before.before).some_extent
 
 step_requires : tie.Need-step-sum-requires invariant_loop decreases_loop
 step_requires c κs =
@@ -102,7 +102,7 @@ element_set_from_sum : tie.Need-bounds-sums-axis-in-loop-k invariant_loop decrea
 element_set_from_sum c = let t = turn c.before.before.before.before.before.before in omega (arith, t.an_axis)
 
 div_rest : tie.Need-nonzero_div-rest invariant_loop decreases_loop
-div_rest c = (turn c.before.before.before.before.before).some_extent
+div_rest c = (turn c.before.before.before.before.before.before).some_extent
 
 loop_again : tie.Need-loop-k-preserved invariant_loop decreases_loop
 loop_again c =

@@ -12,7 +12,7 @@ admit_packed_requires c κs = c.pack-packed.ensures.whole
 returns : tie.Need-returns
 returns c =
     let k = c in
-    (admission_exactly k.before.args.card c.admit-packed.result).1 (c.admit_packed.ensures ∙ ap full_admission k.pack-packed.ensures.same_card)
+    (admission_exactly k.args.card c.admit_packed.result).1 (c.admit_packed.ensures ∙ ap full_admission k.pack-packed.ensures.same_card)
 
 pub admit_spec : {M : Type 1} → statement M
 admit_spec = tie.close (tie.spec (λ c κs. search rules) admit_packed_requires returns)

@@ -43,7 +43,7 @@ walkable : (s : tie.Start invariant_loop decreases_loop) → Walkable s.args.num
 walkable s = walkable_replica s.args.numbers.now s.args.strides.now s.requires
 
 returns : tie.Need-returns-then-copies-lt2 invariant_loop decreases_loop
-returns c = λ x y less below. absurd (omega (arith, (counted c.before.before).0, c.if-copies-lt2.true))
+returns c = λ x y less below. absurd (omega (arith, (counted c.before.before.before).0, c.if-copies-lt2.true))
 
 put_first_key_requires : tie.Need-put_first_key-requires invariant_loop decreases_loop
 put_first_key_requires c κs = refl

@@ -55,7 +55,7 @@ first_on_axis_requires c κs =
     (ended_on s.requires.0 axis (get_or a.numbers.now (32 + axis) 0) (omega (arith, t.loop-axis-test.taken)) (short_length s.requires.0 axis (omega (arith, t.loop-axis-test.taken))), t.loop-axis-test.taken)
 
 small : (c : tie.After-first_on_axis-flat invariant_loop decreases_loop) → c.first_on_axis-flat.result.0 ≤ 65536
-small c = let s = start (turn c.before) in omega (arith, c.first_on_axis-flat.ensures.most, (sizes s.pre.0).most_elements_lem)
+small c = let s = start (turn c.before) in omega (arith, c.first_on_axis-flat.ensures.most, (sizes s.requires.0).most_elements_lem)
 
 loop_again : tie.Need-loop-axis-preserved invariant_loop decreases_loop
 loop_again c =

@@ -48,9 +48,9 @@ first_over_spec =
     tie.close
     (tie.spec (λ c. search rules) returns (λ c. let s = c in rw (back s.before) (natural c, Fits-nat_abs {w = w64} tt s.ranges.over))
     (λ c κs.
-    let s = c.before in
+    let s = c in
     record {
       walkable = walkable_shard s.args.numbers.now s.args.strides.now s.requires.admits;
-      small = omega (arith, (sized (card s) s.requires.admits.admitted).most_elements_lem);
+      small = omega (arith, (sized (card s.before) s.requires.admits.admitted).most_elements_lem);
     })
     returns_2)

@@ -103,7 +103,7 @@ loop_again : tie.Need-loop-flat-preserved invariant_loop decreases_loop
 loop_again c =
     let f = c in
     let t = f in (
-      omega (arith, few f.before.before.before, (found f).most),
+      omega (arith, few f.before.before.before, (found f.before).most),
       part_passed t.loop-flat.flat f.smaller-count.result f.first_of_run-found.result t.loop-flat.invariant.1 (found f.before),
     )
 

@@ -16,7 +16,7 @@ returns c =
     let k = p in
     let a = k.args in
     let after = p.place_packed.new.memory in
-    (placement_exactly a.card a.shape a.coordinates a.memory.now after p.place-packed.result).1
+    (placement_exactly a.card a.shape a.coordinates a.memory.now after p.place_packed.result).1
     (subst (λ (card : Card). Placing card a.shape a.coordinates a.memory.now after p.place_packed.result) k.pack-packed.ensures.same_card
     p.place_packed.ensures)
 

@@ -59,7 +59,7 @@ shape_fits c = is_shape c.before ∙ c.if-not-is_admitted.false
 is_admitted_requires : tie.Need-is_admitted-requires
 is_admitted_requires c κs =
     let e = c in
-    let n = sized (asked (start e.before.before)) (admits e).admitted in
+    let n = sized (asked (start e.before.before)) (admits e.before.before).admitted in
     omega (arith, is_elements e.before.before, n.most_elements_lem)
 
 returns_2 : tie.Need-returns-then-not-is_admitted
@@ -72,7 +72,7 @@ flatten_requires : tie.Need-flatten-found-requires
 flatten_requires c κs =
     let e = c in
     let s = start e.before.before.before.before in
-    let n = sized (asked s) (admits e).admitted in
+    let n = sized (asked s) (admits e.before.before.before.before).admitted in
     shaped s.args.shape (elements (asked s)) n.some_elements n.most_elements_lem (shape_fits c)
 
 returns_3 : tie.Need-returns-in_default-found

@@ -39,7 +39,7 @@ matching c =
 write_cells_requires : tie.Need-write_cells-requires
 write_cells_requires c κs =
     let p = c in
-    (matching p.before.before.before, (parted p.before.before.before ∙ sym (parted_other p.before.before.before), (ready p).counted ∙ ap occupied (sym (take_second (judged p.before.before.before).open_pair-opened.ensures (ready p.before.before.before)))))
+    (matching p.before.before.before, (parted p.before.before.before ∙ sym (parted_other p.before.before.before), (ready p.before.before.before).counted ∙ ap occupied (sym (take_second (judged p.before.before.before).open_pair-opened.ensures (ready p.before.before.before)))))
 
 returns : tie.Need-returns-in-Matching
 returns c =

@@ -11,10 +11,10 @@ pair_up_spec =
     tie.close
     (tie.spec (λ c. search rules) (λ c. rw (c.in-Approved.is, c.if-marks.true) refl)
     (λ c.
-    let v = c.before.before.before in
-    rw (v.verdict.given.1, c.before.if1.false, ne_eqb v.before.before.args.elements v.verdict.given.0.0 (λ e. omega (arith, c.if2.true))) refl)
+    let v = c in
+    rw (v.in-Approved.is, c.if-marks.false, ne_eqb v.args.elements v.in-Approved.others (λ e. omega (arith, c.if-elements-others.true))) refl)
     (λ c. search rules)
     (λ c.
-    let v = c.before.before.before in
-    rw (v.verdict.given.1, c.before.if1.false, eq-eqb v.before.before.args.elements v.verdict.given.0.0 (omega (arith, c.if2.false))) refl)
+    let v = c in
+    rw (v.in-Approved.is, c.if-marks.false, eq-eqb v.args.elements v.in-Approved.others (omega (arith, c.if-elements-others.false))) refl)
     (λ c. rw c.in-Refused.is refl))

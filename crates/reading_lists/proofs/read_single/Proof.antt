@@ -40,7 +40,7 @@ returns_3 c =
     let n = e in
     let a = n.args in
     rw c.no_single-then-not-one.ensures
-    (single_no_step a.text.now a.from n.number-size.result n.number-size.ensures (e.if-not-size.false) (colon e).0 (colon e).1 o.read_step-one.result o.read_step-one.ensures (c.if-not-one.true))
+    (single_no_step a.text.now a.from n.number-size.result n.number-size.ensures (e.if-not-size.false) (colon e.before.before.before.before).0 (colon e.before.before.before.before).1 o.read_step-one.result o.read_step-one.ensures (c.if-not-one.true))
 
 returns_4 : tie.Need-returns-then-not-stands-2
 returns_4 c =
@@ -50,7 +50,7 @@ returns_4 c =
     let n = e in
     let a = n.args in
     rw c.no_single-then-not-stands-2.ensures
-    (single_no_bracket a.text.now a.from n.number-size.result n.number-size.ensures (e.if-not-size.false) (colon e).0 (colon e).1 o.read_step-one.result o.read_step-one.ensures (s.if-not-one.false)
+    (single_no_bracket a.text.now a.from n.number-size.result n.number-size.ensures (e.if-not-size.false) (colon e.before.before.before.before.before.before).0 (colon e.before.before.before.before.before.before).1 o.read_step-one.result o.read_step-one.ensures (s.if-not-one.false)
     (stands_no a.text.now o.read_step-one.result.next 93 (sym s.stands-2.ensures ∙ c.if-not-stands-2.true)))
 
 bracket : (c : tie.Else-not-stands-2) → let o = c in let t = o.args.text.now in (o.read_step-one.result.next < length t) × (get_or t o.read_step-one.result.next 0 ≡ 93)
@@ -74,7 +74,7 @@ returns_5 c =
     let n = e in
     let a = n.args in
     rw c.with_step.ensures
-    (single_good a.text.now a.from n.number-size.result n.number-size.ensures (e.if-not-size.false) (colon e).0 (colon e).1 o.read_step-one.result o.read_step-one.ensures (s.if-not-one.false) (bracket b).0 (bracket b).1)
+    (single_good a.text.now a.from n.number-size.result n.number-size.ensures (e.if-not-size.false) (colon e.before.before.before.before.before.before.before).0 (colon e.before.before.before.before.before.before.before).1 o.read_step-one.result o.read_step-one.ensures (s.if-not-one.false) (bracket b.before.before).0 (bracket b.before.before).1)
 
 pub read_single_spec : {M : Type 1} → statement M
 read_single_spec =

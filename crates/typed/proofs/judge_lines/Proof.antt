@@ -14,7 +14,7 @@ returns c =
       line = r.read-line.result;
       line_read = r.read-line.ensures;
       reading = r.read-reading.result;
-      text_read = (read_exactly _ r.read2.result).0 r.read-reading.ensures;
+      text_read = (read_exactly _ r.read-reading.result).0 r.read-reading.ensures;
       outcome = j.judge_read.ensures;
     })
 

@@ -19,7 +19,7 @@ returns c =
     let e = c in
     let block = e.args.block.now in
     let long : length (note_in block) ≡ noted_in block =
-    length-take-le (noted_in block) (drop 216 block) (omega (arith, length-drop 216 block, (was e).room, (was e).noted)) in
+    length-take-le (noted_in block) (drop 216 block) (omega (arith, length-drop 216 block, (was e.before).room, (was e.before).noted)) in
     rw e.in-Done.is (ap (λ (n : ℕ). 216 ∷ n ∷ []) (c.noted_in.ensures.0 ∙ sym long))
 
 pub note_place_spec : {M : Type 1} → statement M

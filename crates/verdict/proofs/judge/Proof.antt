@@ -16,7 +16,7 @@ returns c =
     let k = p in
     let a = k.args in
     let after = p.judge_packed.new.table in
-    (verdict_exactly a.card a.table.now after p.judge-packed.result).1
+    (verdict_exactly a.card a.table.now after p.judge_packed.result).1
     (subst (λ (card : Card). VerdictPromise card a.table.now after p.judge_packed.result) k.pack-packed.ensures.same_card p.judge_packed.ensures)
 
 pub judge_spec : {M : Type 1} → statement M

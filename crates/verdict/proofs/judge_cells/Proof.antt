@@ -33,7 +33,7 @@ slice_aggregate_judge_passes c = sym (long c.before.before.before.before.before)
 judge_passes_requires : tie.Need-judge_passes-requires
 judge_passes_requires c κs =
     let s = c in (
-      record { whole = s.requires.0.0; admitted = s.requires.0.1; all_elements = (sizes s).elements_are; one_each = long s.before.before.before.before.before.before ∙ (sizes s).copies_are },
+      record { whole = s.requires.0.0; admitted = s.requires.0.1; all_elements = (sizes s.before.before.before.before.before.before).elements_are; one_each = long s.before.before.before.before.before.before ∙ (sizes s.before.before.before.before.before.before).copies_are },
       s.requires.1,
     )
 

@@ -22,7 +22,7 @@ put_shard_requires c κs = let s = c in (omega arith, (shard_few s.args.card (ei
 put_replica_requires : tie.Need-put_replica-requires
 put_replica_requires c κs =
     let s = c in
-    (omega (arith, c.put_shard.ensures.1), omega (arith, replica_few s.args.card (eight s.before.before.before.before.before) s.requires), (eight s).replica)
+    (omega (arith, c.put_shard.ensures.1), omega (arith, replica_few s.args.card (eight s.before.before.before.before.before) s.requires), (eight s.before.before.before.before.before).replica)
 
 returns : tie.Need-returns
 unfolding text_of
