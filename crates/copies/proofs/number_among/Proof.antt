@@ -39,7 +39,7 @@ loop_holds c =
 turn : (c : tie.In-loop-k invariant_loop decreases_loop) → let s = c in
     let a = s.args in
     let k = c.loop-k.k in
-    Numbering (sizes s.before.before) (coordinates s.before.before) (get_or a.sizes.now (a.from + k) 0 ∷ left s (a.from + (k + 1)))
+    Numbering (sizes s.before.before) (coordinates s.before.before) (get_or a.sizes.now (a.from + k) 0 ∷ left s.before.before (a.from + (k + 1)))
     (get_or a.coordinates.now k 0 ∷ slice (k + 1) a.count a.coordinates.now) k c.loop-k.number
 turn c =
     let s = c in
@@ -49,7 +49,7 @@ turn c =
     let size = get_or a.sizes.now (a.from + k) 0 in
     rw (
       slice_next a.sizes.now (a.from + k) (a.from + a.count) 0 (omega (arith, c.loop-k-test.true)) s.requires.0.there
-          ∙ ap (λ (i : ℕ). size ∷ left s i) on,
+          ∙ ap (λ (i : ℕ). size ∷ left s.before.before i) on,
       slice_next a.coordinates.now k a.count 0 c.loop-k-test.true (omega (arith, s.requires.1, s.requires.0.few)),
     ) at c.loop-k.invariant.1
 

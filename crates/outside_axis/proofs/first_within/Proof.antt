@@ -129,7 +129,7 @@ returns c =
     let a = s.args in
     let l = c.loop-k in
     let end : l.k ≡ get_or a.numbers.now (40 + a.list) 0 = omega arith in
-    let none : later s l.k ≡ [] = ap (later s.before.before.before.before) end ∙ slice_empty (get_or a.numbers.now (40 + a.list) 0) (map (iter_at a.numbers.now a.strides.now a.list) slots) in
+    let none : later s.before.before.before.before l.k ≡ [] = ap (later s.before.before.before.before) end ∙ slice_empty (get_or a.numbers.now (40 + a.list) 0) (map (iter_at a.numbers.now a.strides.now a.list) slots) in
     let all = subst (λ (m : List Iter). Numbering (map extent_of (later s.before.before.before.before 0)) (first s.before.before.before.before a.spare (later s.before.before.before.before 0)) (map extent_of m) (first s.before.before.before.before l.left m) l.k l.index) none l.invariant.2 in
     omega (arith, all.same_number)
 

@@ -30,7 +30,7 @@ returns_2 c =
     let x = c in
     let a = x.args in
     let y = at_sign x.before.before.before in
-    spot_bad a.text.now a.from a.least a.marks x.axis-name.result y.0 y.1 x.axis-name.ensures (c.if-not-name.true)
+    spot_bad a.text.now a.from a.least a.marks x.axis-name.result y.0 y.1 x.axis-name.ensures (not-true _ c.if-not-name.true)
 
 add_t12 : tie.Need-overflow_add-result
 add_t12 c =
@@ -43,14 +43,14 @@ returns_3 c =
     let x = c in
     let a = x.args in
     let y = at_sign x.before.before.before.before.before in
-    spot_marked a.text.now a.from a.least a.marks x.axis-name.result y.0 y.1 x.axis-name.ensures (c.if-not-name.false) (rw c.stands-2.ensures at c.if-stands-marks.true)
+    spot_marked a.text.now a.from a.least a.marks x.axis-name.result y.0 y.1 x.axis-name.ensures (not-false _ c.if-not-name.false) (rw c.stands-2.ensures at c.if-stands-marks.true)
 
 returns_4 : tie.Need-returns
 returns_4 c =
     let x = c in
     let a = x.args in
     let y = at_sign x.before.before.before.before.before in
-    spot_at_lem a.text.now a.from a.least a.marks x.axis-name.result y.0 y.1 x.axis-name.ensures (c.if-not-name.false) (rw c.stands-2.ensures at c.if-stands-marks.false)
+    spot_at_lem a.text.now a.from a.least a.marks x.axis-name.result y.0 y.1 x.axis-name.ensures (not-false _ c.if-not-name.false) (rw c.stands-2.ensures at c.if-stands-marks.false)
 
 pub spot_spec : {M : Type 1} → statement M
 spot_spec = tie.close (tie.spec (λ c κs. search rules) returns add_axis (λ c κs. search rules) returns_2 (λ c κs. search rules) add_t12 returns_3 returns_4)
