@@ -17,9 +17,17 @@ ID = r"[^\s(){}\[\];,.\"`]+"
 
 
 def norm(s):
-    s = s.replace("_", "-")
+    s = s.replace("_", "-").lower()
     s = re.sub(r"^(overflow|nonzero)-", "", s)
     return s
+
+
+def source(crate):
+    text = ""
+    for path in glob.glob(f"crates/{crate}/src/**/*.rt", recursive=True):
+        with open(path, encoding="utf-8") as f:
+            text += f.read()
+    return text
 
 
 def parameters(crate, fn):
@@ -243,7 +251,7 @@ def head_of(before):
 WORDS = {"Read-step": "read-step", "type-inv": "type_inv", "well-formed": "well_formed", "enum-told": "enum_told"}
 
 
-def paths(text, env, f, said, wanted={}, results={}, result=None):
+def paths(text, env, f, said, wanted={}, results={}, result=None, defs={}):
     """The text with each path from a record of a place turned; wanted has the places of which a lemma's arguments are records."""
     env, steps = dict(env), {}
     out, i = [], 0
@@ -262,8 +270,12 @@ def paths(text, env, f, said, wanted={}, results={}, result=None):
                 i = m.end()
                 continue
             env[v] = results[lemma]
-        if v in env and segs and segs[0] == "pre":
-            segs[0] = "requires"
+        if v in env and segs and segs[0] in ("pre", "fits"):
+            segs[0] = {"pre": "requires", "fits": "ranges"}[segs[0]]
+        elif v in env and "before" in segs:
+            k = len(segs) - segs[::-1].index("before")
+            if segs[:k] == ["before"] * k and segs[k : k + 1] in (["pre"], ["fits"]):
+                segs[k] = {"pre": "requires", "fits": "ranges"}[segs[k]]
         if steps.get(v) is not None and segs:
             turned = f.parameter(["args"] + segs)[1:] if steps[v] == "args" else f.rest(steps[v], segs)
             out.append(text[i : m.start()] + ".".join([v] + turned))
@@ -282,6 +294,9 @@ def paths(text, env, f, said, wanted={}, results={}, result=None):
             asked = wanted[head][n : n + 1] if head in wanted else None
             if asked and asked[0] is None:
                 asked = None
+            own = re.search(r"(?:^|\n) *([A-Za-z][\w'₀-₉]*) =\s+$", before)
+            if not asked and own and own[1] in defs:
+                asked = [defs[own[1]]]
             if not asked and result is not None and re.fullmatch(rf"\s*{ID}(?: {ID})* =\s+", before):
                 asked = [result]
             if k == 0 and not asked:
@@ -387,6 +402,23 @@ def turn(text, f, said):
             piece, _ = paths(piece, env, f, said, env_of, results, results.get(d[1]))
             out.append(piece)
             continue
+        mod = re.match(r"module _((?: \([^()]*(?:\([^()]*\)[^()]*)*\)| \{[^{}]*\})*) where", piece)
+        if mod:
+            # a record that a module's declarations share, and the records that they make of it
+            for b in re.finditer(rf"\(([^():]+) : tie\.({ID})", mod[1]):
+                for v in b[1].split():
+                    env[v] = f.place(b[2])
+            defs = {m[1]: f.place(m[2]) for m in re.finditer(rf"(?m)^ +(?:(?:pub|abbrev|unfoldable) )*([A-Za-z][\w'₀-₉]*) : tie\.({ID})(?: {ID})*$", piece)}
+            env.update({a: b for a, b in defs.items() if b is not None})
+            env = {a: b for a, b in env.items() if b is not None}
+            for b in re.finditer(rf"tie\.({ID})", piece):
+                p = f.place(b[1])
+                if p is not None:
+                    piece = re.sub(rf"tie\.{re.escape(b[1])}(?![\w'\-])", f"tie.{f.names[p]}", piece)
+            if env:
+                piece, _ = paths(piece, env, f, said, env_of, results, None, defs)
+                out.append(piece)
+                continue
         inside = [(b - begin, e - begin, k) for b, e, k in spans if begin <= b and e <= pos]
         if inside:
             t, i = [], 0
@@ -415,9 +447,28 @@ def turn(text, f, said):
     text = re.sub(rf"tie\.((?:In|At|After|Then|Else|Start)(?:[\w'\-]*))", lambda m: m[0] if m[1] in f.names else place(m), text)
     text = re.sub(rf"tie\.Need-({ID})", need, text)
     text = re.sub(r"\.inv\b", ".invariant", text)
-    # a test of `!x` now says what x is
-    text = re.sub(r"not-(?:true|false) (?:_|[^\s()]+|\([^()]*\)) ((?:\w+\.)+if-not-[\w.\-']+)", r"\1", text)
-    return re.sub(r"\.(most-(?:elements|copies|stride|cells|extent))\b", lambda m: "." + m[1].replace("-", "_") + "_lem", text)
+    # a test of `!f(..)` now says what the call gave, and one of `!x.field` what it said before
+    def tested(m):
+        name = re.search(r"if-not-([A-Za-z]\w*)", m[1])
+        return m[0] if name and re.search(rf"![A-Za-z_:]*\b{name[1]}\.\w+(?!\w*\()", f.source) else m[1]
+
+    text = re.sub(r"not-(?:true|false) (?:_|[^\s()]+|\([^()]*\)) ((?:[A-Za-z][\w'₀-₉]*\.)+if-not-[\w.\-']+|\(rw (?:[^()]|\([^()]*\))* at [\w.\-']*if-not-[\w.\-']+\))", tested, text)
+    # a signed variable is a number of its own, and an invariant is told its bits
+    text = re.sub(r"to_z w64 ([a-z][\w'₀-₉]*(?:\.[A-Za-z][\w\-']*)+)", r"to_z w64 (of_z w64 \1)", text)
+    return re.sub(r"\.([a-z]+(?:[-_][a-z]+)+)\b", lambda m: "." + FIELDS.get(m[1], m[1]), text)
+
+
+def laws_as_fields():
+    """Fields of records that got _lem beside a definition, by the name that they had."""
+    found = {}
+    for path in glob.glob("crates/*/specs/**/*.antt", recursive=True) + glob.glob("crates/*/proofs/**/*.antt", recursive=True):
+        with open(path, encoding="utf-8") as t:
+            for name in re.findall(r"(?m)^\s+pub (\w+_lem) :", t.read()):
+                found[name[:-4].replace("_", "-")] = name
+    return found
+
+
+FIELDS = laws_as_fields()
 
 
 def main():
@@ -439,7 +490,9 @@ def main():
         with open(path, encoding="utf-8") as t:
             text = t.read()
         said = []
-        new = turn(text, Function(listed[key], parameters(crate, fn)), said)
+        f = Function(listed[key], parameters(crate, fn))
+        f.source = source(crate)
+        new = turn(text, f, said)
         for s in said:
             print(f"{path}: {s}")
         if new != text:

@@ -81,19 +81,19 @@ module _ (p : tie.After-put_copies) where
   n = length s.args.row.now
 
   abbrev levels : List ℤ
-  levels = p.put-copies.last.1.1.0
+  levels = p.put_copies.last.1.1.0
 
   abbrev ms : List ℤ
-  ms = p.put-copies.last.1.1.1.0
+  ms = p.put_copies.last.1.1.1.0
 
   levels_long : length levels ≡ n
-  levels_long = p.put-copies.kept.1.1.0 ∙ long s
+  levels_long = p.put_copies.kept.1.1.0 ∙ long s
 
   ms_long : length ms ≡ n
-  ms_long = p.put-copies.kept.1.1.1.0 ∙ long s
+  ms_long = p.put_copies.kept.1.1.1.0 ∙ long s
 
   filled : Rows (card s) levels ms s.args.row.now
-  filled = record { adds = rw (long s ∙ s.pre.0.one_each) at p.put-copies.ensures; one_each = s.pre.0.one_each }
+  filled = record { adds = rw (long s ∙ s.requires.0.one_each) at p.put_copies.ensures; one_each = s.requires.0.one_each }
 
 -- the front of a list
 front : (n : ℕ) (l rest : List ℤ) → length l ≡ n → take n (l ++ rest) ≡ l

@@ -53,25 +53,25 @@ module _ (t : tie.In-loop-copy invariant_loop decreases_loop) where
   s = start k
 
   abbrev copy : ℕ
-  copy = t.before.loop.copy
+  copy = t.loop-copy.copy
 
   few : copy < copies (card s)
-  few = omega (arith, t.loop-test.taken, s.pre.1.levels_size)
+  few = omega (arith, t.loop-copy-test.taken, s.requires.1.levels_size)
 
-  size : length t.before.loop.table ≡ cells (card s)
-  size = t.before.loop.invariant.1 ∙ s.pre.0.0.owned.size
+  size : length t.loop-copy.table ≡ cells (card s)
+  size = t.loop-copy.invariant.1 ∙ s.requires.0.0.owned.size
 
   abbrev here : LevelAndM
   here =
-      place s.args.numbers.now s.args.strides.now s.args.start s.args.step s.args.run s.args.table.now s.pre.0.0 s.args.levels.now s.args.ms.now
-      s.pre.1 copy few
+      place s.args.numbers.now s.args.strides.now s.args.start s.args.step s.args.run s.args.table.now s.requires.0.0 s.args.levels.now s.args.ms.now
+      s.requires.1 copy few
 
   near : (nat_abs s.args.start.level ≤ roomy_level) × (nat_abs s.args.start.m ≤ roomy_level)
-  near = start_near s.args.numbers.now s.args.strides.now s.args.start s.args.step s.args.run s.args.table.now s.pre.0.0 s.pre.0.1
+  near = start_near s.args.numbers.now s.args.strides.now s.args.start s.args.step s.args.run s.args.table.now s.requires.0.0 s.requires.0.1
 
   copies_near : (nat_abs (get_or s.args.levels.now copy (pos 0)) ≤ roomy_level) × (nat_abs (get_or s.args.ms.now copy (pos 0)) ≤ roomy_level)
   copies_near =
-      copy_near s.args.numbers.now s.args.strides.now s.pre.0.0.admits s.pre.1 copy few
+      copy_near s.args.numbers.now s.args.strides.now s.requires.0.0.admits s.requires.1 copy few
 
 -- level and m of a copy, as the machine adds them up
 module _ (c : tie.After-place-1 invariant_loop decreases_loop) where
@@ -80,12 +80,12 @@ module _ (c : tie.After-place-1 invariant_loop decreases_loop) where
 
   level_fits : SFits w64 (to_z w64 (of_z w64 (s t).args.start.level) +ℤ to_z w64 (of_z w64 (get_or (s t).args.levels.now (copy t) (pos 0))))
   level_fits =
-      sum_fits (s t).args.start.level (get_or (s t).args.levels.now (copy t) (pos 0)) (record { sfits = (k t).struct-told2.given.0.1 }) (record { sfits = c.t20.given })
+      sum_fits (s t).args.start.level (get_or (s t).args.levels.now (copy t) (pos 0)) (record { sfits = (k t).struct-told2.given.0.1 }) (record { sfits = c.place-1.given })
       (near t).0 (copies_near t).0
 
   level_back : to_z w64 (of_z w64 (to_z w64 (of_z w64 (s t).args.start.level) +ℤ to_z w64 (of_z w64 (get_or (s t).args.levels.now (copy t) (pos 0))))) ≡ (here t).level
   level_back =
-      sum_back (s t).args.start.level (get_or (s t).args.levels.now (copy t) (pos 0)) (record { sfits = (k t).struct-told2.given.0.1 }) (record { sfits = c.t20.given })
+      sum_back (s t).args.start.level (get_or (s t).args.levels.now (copy t) (pos 0)) (record { sfits = (k t).struct-told2.given.0.1 }) (record { sfits = c.place-1.given })
       (near t).0 (copies_near t).0
 
 module _ (c : tie.After-place-in-loop-copy-1 invariant_loop decreases_loop) where
@@ -94,12 +94,12 @@ module _ (c : tie.After-place-in-loop-copy-1 invariant_loop decreases_loop) wher
 
   m_fits : SFits w64 (to_z w64 (of_z w64 (s u).args.start.m) +ℤ to_z w64 (of_z w64 (get_or (s u).args.ms.now (copy u) (pos 0))))
   m_fits =
-      sum_fits (s u).args.start.m (get_or (s u).args.ms.now (copy u) (pos 0)) (record { sfits = (k u).struct-told2.given.1.0.1 }) (record { sfits = c.t24.given })
+      sum_fits (s u).args.start.m (get_or (s u).args.ms.now (copy u) (pos 0)) (record { sfits = (k u).struct-told2.given.1.0.1 }) (record { sfits = c.place-in-loop-copy-1.given })
       (near u).1 (copies_near u).1
 
   m_back : to_z w64 (of_z w64 (to_z w64 (of_z w64 (s u).args.start.m) +ℤ to_z w64 (of_z w64 (get_or (s u).args.ms.now (copy u) (pos 0))))) ≡ (here u).m
   m_back =
-      sum_back (s u).args.start.m (get_or (s u).args.ms.now (copy u) (pos 0)) (record { sfits = (k u).struct-told2.given.1.0.1 }) (record { sfits = c.t24.given })
+      sum_back (s u).args.start.m (get_or (s u).args.ms.now (copy u) (pos 0)) (record { sfits = (k u).struct-told2.given.1.0.1 }) (record { sfits = c.place-in-loop-copy-1.given })
       (near u).1 (copies_near u).1
 
 loop_holds : tie.Need-loop-copy-init invariant_loop decreases_loop
@@ -131,17 +131,17 @@ module _ (r : tie.After-claim_line invariant_loop decreases_loop) where
   turn = u e
 
   abbrev after : List ℕ
-  after = r.claim-line.last.1.1.1.1.1.0
+  after = r.claim_line.last.1.1.1.1.1.0
 
   kept : length after ≡ length (s turn).args.table.now
-  kept = r.claim-line.kept.1.1.1.1.1.0 ∙ turn.before.loop.invariant.1
+  kept = r.claim_line.kept.1.1.1.1.1.0 ∙ turn.loop-copy.invariant.1
 
-  lined : r.claim-line.result ≡ true
-      → Lined (line_cell (swizzle_of (s turn).args.numbers.now) (here turn) (s turn).args.step) (λ j. (s turn).args.run.first.0 + j) (s turn).args.run.length turn.before.loop.table after
+  lined : r.claim_line.result ≡ true
+      → Lined (line_cell (swizzle_of (s turn).args.numbers.now) (here turn) (s turn).args.step) (λ j. (s turn).args.run.first.0 + j) (s turn).args.run.length turn.loop-copy.table after
   lined yes-it-is =
       let q = s turn in
-      subst (λ (w : Swizzle). Lined (line_cell w (here turn) q.args.step) (λ j. q.args.run.first.0 + j) q.args.run.length turn.before.loop.table after) q.pre.0.2
-      (rw (level_back e.before, m_back e) at r.claim-line.ensures yes-it-is)
+      subst (λ (w : Swizzle). Lined (line_cell w (here turn) q.args.step) (λ j. q.args.run.first.0 + j) q.args.run.length turn.loop-copy.table after) q.pre.0.2
+      (rw (level_back e.before, m_back e) at r.claim_line.ensures yes-it-is)
 
 abbrev claimed : tie.Else-not-claim_line invariant_loop decreases_loop → tie.After-claim_line invariant_loop decreases_loop
 claimed c = c.before.before.before

@@ -57,28 +57,28 @@ module _ (t : tie.In-loop-first invariant_loop decreases_loop) where
   many = s.args.length
 
   by : RunsBy (card s) many
-  by = subst (RunsBy (card s)) (sym s.pre.1.long_is) (runs_by_run (card s) s.pre.0.0.admits.admitted s.pre.0.2)
+  by = subst (RunsBy (card s)) (sym s.requires.1.long_is) (runs_by_run (card s) s.requires.0.0.admits.admitted s.requires.0.2)
 
-  an_element : t.before.loop.first < elements (card s)
-  an_element = omega (arith, t.loop-test.taken, s.pre.0.0.all_elements)
+  an_element : t.loop-first.first < elements (card s)
+  an_element = omega (arith, t.loop-first-test.taken, s.requires.0.0.all_elements)
 
-  end : t.before.loop.first + many ≤ elements (card s)
-  end = run_end s.args.numbers.now s.args.strides.now many t.before.loop.invariant.0 by t.before.loop.invariant.1 an_element
+  end : t.loop-first.first + many ≤ elements (card s)
+  end = run_end s.args.numbers.now s.args.strides.now many t.loop-first.invariant.0 by t.loop-first.invariant.1 an_element
 
-  next : t.before.loop.first + many ≡ (t.before.loop.invariant.0 + 1) * many
-  next = run_next s.args.numbers.now s.args.strides.now many t.before.loop.invariant.0 by t.before.loop.invariant.1
+  next : t.loop-first.first + many ≡ (t.loop-first.invariant.0 + 1) * many
+  next = run_next s.args.numbers.now s.args.strides.now many t.loop-first.invariant.0 by t.loop-first.invariant.1
 
-  begins : Adds (slice 32 40 s.args.numbers.now) (base (card s) t.before.loop.first) t.before.loop.start
+  begins : Adds (slice 32 40 s.args.numbers.now) (base (card s) t.loop-first.first) t.loop-first.start
   begins =
-      let l = t.before.loop in
-      subst (λ (f : ℕ). Adds (slice 32 40 s.args.numbers.now) (base (card s) f) l.start) (l.invariant.6 t.loop-test.taken)
-      (place_of s.args.numbers.now s.args.strides.now s.pre.0.0.admits l.digits l.start l.invariant.4)
+      let l = t.loop-first in
+      subst (λ (f : ℕ). Adds (slice 32 40 s.args.numbers.now) (base (card s) f) l.start) (l.invariant.6 t.loop-first-test.taken)
+      (place_of s.args.numbers.now s.args.strides.now s.requires.0.0.admits l.digits l.start l.invariant.4)
 
-  runs : Running s.args.numbers.now s.args.strides.now t.before.loop.start s.args.step (record { first = record { 0 = t.before.loop.first }; length = many }) t.before.loop.table
+  runs : Running s.args.numbers.now s.args.strides.now t.loop-first.start s.args.step (record { first = record { 0 = t.loop-first.first }; length = many }) t.loop-first.table
   runs =
-      let l = t.before.loop in
-      running s.args.numbers.now s.args.strides.now s.pre.0.0.admits s.pre.0.0.inside many l.invariant.0 by s.pre.1.steps
-      l.first l.invariant.1 an_element (leads_itself (card s) s.pre.0.2 l.first an_element) begins (owned_as (card s) refl l.invariant.3.counted l.invariant.3)
+      let l = t.loop-first in
+      running s.args.numbers.now s.args.strides.now s.requires.0.0.admits s.requires.0.0.inside many l.invariant.0 by s.requires.1.steps
+      l.first l.invariant.1 an_element (leads_itself (card s) s.requires.0.2 l.first an_element) begins (owned_as (card s) refl l.invariant.3.counted l.invariant.3)
 
 loop_holds : tie.Need-loop-first-init invariant_loop decreases_loop
 loop_holds c =
@@ -103,10 +103,10 @@ module _ (r : tie.After-claim_copies-claimed invariant_loop decreases_loop) wher
   turn = r.before.before
 
   abbrev after : List ℕ
-  after = r.claim-copies.last.1.1.1.1.1.1.1.1.0
+  after = r.claim_copies-claimed.last.1.1.1.1.1.1.1.1.0
 
   kept : length after ≡ cells (card (s turn))
-  kept = r.claim-copies.kept.1.1.1.1.1.1.1.1.0 ∙ turn.before.loop.invariant.3.size
+  kept = r.claim_copies-claimed.kept.1.1.1.1.1.1.1.1.0 ∙ turn.loop-first.invariant.3.size
 
 abbrev claimed : tie.Else-claimed-eq0 invariant_loop decreases_loop → tie.After-claim_copies-claimed invariant_loop decreases_loop
 claimed c = c.before.before.before

@@ -25,21 +25,21 @@ module _ (s : tie.Start) where
   card = card_of s.args.numbers.now s.args.strides.now
 
   element : 0 < elements card
-  element = omega (arith, s.pre.one_element)
+  element = omega (arith, s.requires.one_element)
 
   leads : leader card 0 ≡ 0
   leads = omega (arith, leader_least card 0 element)
 
   claimable : Claimable card 0 s.args.table.now
-  claimable = record { inside = s.pre.inside; element = element; leads = leads; size = cleared_size card s.pre.cleared }
+  claimable = record { inside = s.requires.inside; element = element; leads = leads; size = cleared_size card s.requires.cleared }
 
   none_so_far : OwnedTable (placed card) 0 (cells card) s.args.table.now 0
-  none_so_far = rw s.pre.cleared (claims_none card)
+  none_so_far = rw s.requires.cleared (claims_none card)
 
   free : entry_met s.args.table.now (copy_cells card 0) ≡ 0
   free =
-      single_free card 0 s.pre.one_copy s.pre.cleared
-      (cell_short s.args.numbers.now s.args.strides.now s.pre.admits s.pre.inside 0 0 element (omega (arith, s.pre.one_copy)))
+      single_free card 0 s.requires.one_copy s.requires.cleared
+      (cell_short s.args.numbers.now s.args.strides.now s.requires.admits s.requires.inside 0 0 element (omega (arith, s.requires.one_copy)))
 
 claim_single_requires : tie.Need-claim_single-requires
 claim_single_requires c κs =

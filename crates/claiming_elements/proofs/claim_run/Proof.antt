@@ -58,16 +58,16 @@ module _ (c : tie.After-struct_told-4-1 invariant_loop decreases_loop) where
   b = (start c).args.step
 
   level_back : to_z w64 (of_z w64 a.level) ≡ a.level
-  level_back = to_z-of_z {w = w64} {z = a.level} (record { sfits = c.struct-told4.given.0.1 })
+  level_back = to_z-of_z {w = w64} {z = a.level} (record { sfits = c.struct_told-4-1.given.0.1 })
 
   m_back : to_z w64 (of_z w64 a.m) ≡ a.m
-  m_back = to_z-of_z {w = w64} {z = a.m} (record { sfits = c.struct-told4.given.1.0.1 })
+  m_back = to_z-of_z {w = w64} {z = a.m} (record { sfits = c.struct_told-4-1.given.1.0.1 })
 
   level_step_back : to_z w64 (of_z w64 b.level) ≡ b.level
-  level_step_back = to_z-of_z {w = w64} {z = b.level} (record { sfits = c.before.before.struct-told2.given.0.1 })
+  level_step_back = to_z-of_z {w = w64} {z = b.level} (record { sfits = c.struct_told-2-1.given.0.1 })
 
   m_step_back : to_z w64 (of_z w64 b.m) ≡ b.m
-  m_step_back = to_z-of_z {w = w64} {z = b.m} (record { sfits = c.before.before.struct-told2.given.1.0.1 })
+  m_step_back = to_z-of_z {w = w64} {z = b.m} (record { sfits = c.struct_told-2-1.given.1.0.1 })
 
 -- a turn
 module _ (t : tie.In-loop-done invariant_loop decreases_loop) where
@@ -78,31 +78,31 @@ module _ (t : tie.In-loop-done invariant_loop decreases_loop) where
   s = start k
 
   abbrev flat : ℕ
-  flat = s.args.run.first.0 + t.before.loop.done
+  flat = s.args.run.first.0 + t.loop-done.done
 
-  below : t.before.loop.done < s.args.run.length
-  below = t.loop-test.taken
+  below : t.loop-done.done < s.args.run.length
+  below = t.loop-done-test.taken
 
   abbrev here : LevelAndM
-  here = record { level = to_z w64 t.before.loop.level; m = to_z w64 t.before.loop.m }
+  here = record { level = to_z w64 (of_z w64 t.loop-done.level); m = to_z w64 (of_z w64 t.loop-done.m) }
 
   begins : Adds (slice 32 40 s.args.numbers.now) (base (card s) flat) here
   begins =
-      let l = t.before.loop in
-      let given = s.pre.0.begins l.done below in
+      let l = t.loop-done in
+      let given = s.requires.0.begins l.done below in
       record {
         level_is = l.invariant.3 ∙ rw (level_back k, level_step_back k) given.level_is;
         m_is = l.invariant.4 ∙ rw (m_back k, m_step_back k) given.m_is;
       }
 
-  claimable : Claimable (card s) flat t.before.loop.table
+  claimable : Claimable (card s) flat t.loop-done.table
   claimable =
-      let p = s.pre.0 in
+      let p = s.requires.0 in
       record {
         inside = p.inside;
-        element = p.element t.before.loop.done below;
-        leads = p.leads t.before.loop.done below;
-        size = t.before.loop.invariant.2.size;
+        element = p.element t.loop-done.done below;
+        leads = p.leads t.loop-done.done below;
+        size = t.loop-done.invariant.2.size;
       }
 
 loop_holds : tie.Need-loop-done-init invariant_loop decreases_loop
@@ -128,34 +128,34 @@ module _ (m : tie.After-claim_element-newly invariant_loop decreases_loop) where
   turn = m.before.before.before
 
   abbrev after : List ℕ
-  after = m.claim-element.last.1.1.1.1.1.1.1.1.0
+  after = m.claim_element-newly.last.1.1.1.1.1.1.1.1.0
 
   abbrev count : ℕ
-  count = occupied (s turn).args.table.now + turn.before.loop.cells
+  count = occupied (s turn).args.table.now + turn.loop-done.cells
 
   size : length after ≡ cells (card (s turn))
-  size = m.claim-element.kept.1.1.1.1.1.1.1.1.0 ∙ turn.before.loop.invariant.2.size
+  size = m.claim_element-newly.kept.1.1.1.1.1.1.1.1.0 ∙ turn.loop-done.invariant.2.size
 
-  more : 0 < m.claim-element.result → OwnedTable (placed (card (s turn))) (flat turn + 1) (cells (card (s turn))) after (count + m.claim-element.result)
+  more : 0 < m.claim_element-newly.result → OwnedTable (placed (card (s turn))) (flat turn + 1) (cells (card (s turn))) after (count + m.claim_element-newly.result)
   more h =
-      claims_more (card (s turn)) (flat turn) m.claim-element.result count turn.before.loop.invariant.2 (claimable turn).leads m.claim-element.ensures
-      (row_ready (card (s turn)) (flat turn) turn.before.loop.table (s turn).pre.0.admits.admitted (claimable turn) refl).within size h
+      claims_more (card (s turn)) (flat turn) m.claim_element-newly.result count turn.loop-done.invariant.2 (claimable turn).leads m.claim_element-newly.ensures
+      (row_ready (card (s turn)) (flat turn) turn.loop-done.table (s turn).pre.0.admits.admitted (claimable turn) refl).within size h
 
-  met : m.claim-element.result ≡ 0 → (0 < entry_met after (copy_cells (card (s turn)) (flat turn))) × (after ≡ turn.before.loop.table)
-  met = claims_met (card (s turn)) (flat turn) m.claim-element.result count turn.before.loop.invariant.2 (claimable turn).leads m.claim-element.ensures
+  met : m.claim_element-newly.result ≡ 0 → (0 < entry_met after (copy_cells (card (s turn)) (flat turn))) × (after ≡ turn.loop-done.table)
+  met = claims_met (card (s turn)) (flat turn) m.claim_element-newly.result count turn.loop-done.invariant.2 (claimable turn).leads m.claim_element-newly.ensures
 
-  counted : count + m.claim-element.result ≤ cells (card (s turn))
-  counted = claims_count (card (s turn)) (flat turn) m.claim-element.result count turn.before.loop.invariant.2 (claimable turn).leads m.claim-element.ensures size
+  counted : count + m.claim_element-newly.result ≤ cells (card (s turn))
+  counted = claims_count (card (s turn)) (flat turn) m.claim_element-newly.result count turn.loop-done.invariant.2 (claimable turn).leads m.claim_element-newly.ensures size
 
-  level_fits : SFits w64 (to_z w64 turn.before.loop.level +ℤ to_z w64 (of_z w64 (s turn).args.step.level))
+  level_fits : SFits w64 (to_z w64 (of_z w64 turn.loop-done.level) +ℤ to_z w64 (of_z w64 (s turn).args.step.level))
   level_fits =
-      step_fits (to_z w64 turn.before.loop.level) (to_z w64 (of_z w64 (s turn).args.step.level))
+      step_fits (to_z w64 (of_z w64 turn.loop-done.level)) (to_z w64 (of_z w64 (s turn).args.step.level))
       (omega (arith, (base_near (s turn).args.numbers.now (s turn).args.strides.now (s turn).pre.0.admits (flat turn) (begins turn)).0))
       (rw (level_step_back (k turn)) (s turn).pre.0.near.0)
 
-  m_fits : SFits w64 (to_z w64 turn.before.loop.m +ℤ to_z w64 (of_z w64 (s turn).args.step.m))
+  m_fits : SFits w64 (to_z w64 (of_z w64 turn.loop-done.m) +ℤ to_z w64 (of_z w64 (s turn).args.step.m))
   m_fits =
-      step_fits (to_z w64 turn.before.loop.m) (to_z w64 (of_z w64 (s turn).args.step.m))
+      step_fits (to_z w64 (of_z w64 turn.loop-done.m)) (to_z w64 (of_z w64 (s turn).args.step.m))
       (omega (arith, (base_near (s turn).args.numbers.now (s turn).args.strides.now (s turn).pre.0.admits (flat turn) (begins turn)).1))
       (rw (m_step_back (k turn)) (s turn).pre.0.near.1)
 
@@ -178,8 +178,8 @@ loop_again c =
       omega (arith, below (turn d)),
       d.claim_element-newly.kept.1.1.1.1.1.1.1.0 ∙ l.invariant.1,
       owned_as (card (s (turn d))) (omega arith) (omega arith) (more d some),
-      to_z-of_z (level_fits d) ∙ stepped (bits (a q).level) (bits (b q).level) (to_z w64 l.level) l.done l.invariant.3,
-      to_z-of_z (m_fits d) ∙ stepped (bits (a q).m) (bits (b q).m) (to_z w64 l.m) l.done l.invariant.4,
+      to_z-of_z (level_fits d) ∙ stepped (bits (a q).level) (bits (b q).level) (to_z w64 (of_z w64 l.level)) l.done l.invariant.3,
+      to_z-of_z (m_fits d) ∙ stepped (bits (a q).m) (bits (b q).m) (to_z w64 (of_z w64 l.m)) l.done l.invariant.4,
     )
 
 returns_2 : tie.Need-returns invariant_loop decreases_loop

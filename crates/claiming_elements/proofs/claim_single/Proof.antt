@@ -46,17 +46,17 @@ cell_at_requires c κs =
     (single_there a.numbers.now a.strides.now b.admits b.claimable.inside a.flat.0 0 b.claimable.element (one s.before.before.before) refl b.begins.level_is b.begins.m_is))
 
 -- the cell that was found
-cell_found : (c : tie.After-cell_at-cell) → let s = c in c.Cell-at.result.0 ≡ cell_of (spot (card s.before.before.before.before) s.args.flat.0 0)
+cell_found : (c : tie.After-cell_at-cell) → let s = c in c.cell_at-cell.result.0 ≡ cell_of (spot (card s.before.before.before.before) s.args.flat.0 0)
 cell_found c =
     let d = c in
     let s = d in
     let a = s.args in
     let b = s.requires.0 in
-    single_is a.numbers.now a.strides.now b.admits b.claimable.inside a.flat.0 0 b.claimable.element (one s.before.before.before.before) refl c.Cell-at.result.0
+    single_is a.numbers.now a.strides.now b.admits b.claimable.inside a.flat.0 0 b.claimable.element (one s.before.before.before.before) refl c.cell_at-cell.result.0
     b.begins.level_is b.begins.m_is
-    (rw (level_back d.before.before, m_back d.before.before) at c.Cell-at.ensures ∙ ap (λ (w : Swizzle). a.place.level +ℤ swizzled_z w a.place.m) s.requires.2)
+    (rw (level_back d.before.before, m_back d.before.before) at c.cell_at-cell.ensures ∙ ap (λ (w : Swizzle). a.place.level +ℤ swizzled_z w a.place.m) s.requires.2)
 
-cell_here : (c : tie.After-cell_at-cell) → let s = c in c.Cell-at.result.0 < length s.args.table.now
+cell_here : (c : tie.After-cell_at-cell) → let s = c in c.cell_at-cell.result.0 < length s.args.table.now
 cell_here c =
     let s = c in
     let a = s.args in
@@ -68,7 +68,7 @@ cell_here c =
       cell_short a.numbers.now a.strides.now b.admits b.claimable.inside a.flat.0 0 b.claimable.element (one s.before.before.before.before),
     )
 
-row_is : (c : tie.After-cell_at-cell) → let s = c in copy_cells (card s.before.before.before.before) s.args.flat.0 ≡ c.Cell-at.result.0 ∷ []
+row_is : (c : tie.After-cell_at-cell) → let s = c in copy_cells (card s.before.before.before.before) s.args.flat.0 ≡ c.cell_at-cell.result.0 ∷ []
 row_is c =
     let s = c in
     single_row (card s.before.before.before.before) s.args.flat.0 s.requires.1 ∙ ap (λ (n : ℕ). n ∷ []) (sym (cell_found c))
@@ -80,7 +80,7 @@ returns : tie.Need-returns-then-table-cell-ne0
 returns c =
     let d = c in
     let s = d in
-    single_met (copy_cells (card s.before.before.before.before.before.before) s.args.flat.0) s.args.table.now s.args.flat.0 d.Cell-at.result.0 (row_is d.before.before) c.if-table-cell-ne0.true
+    single_met (copy_cells (card s.before.before.before.before.before.before) s.args.flat.0) s.args.table.now s.args.flat.0 d.cell_at-cell.result.0 (row_is d.before.before) c.if-table-cell-ne0.true
 
 abbrev found : tie.After-struct_known-1 → tie.After-cell_at-cell
 found c = c.before.before.before
@@ -97,7 +97,7 @@ returns_2 : tie.Need-returns
 returns_2 c =
     let d = found c in
     let s = d in
-    single_claimed (copy_cells (card s.before.before.before.before) s.args.flat.0) s.args.table.now s.args.flat.0 d.Cell-at.result.0 (row_is d) (cell_here d) c.if-table-cell-ne0.false
+    single_claimed (copy_cells (card s.before.before.before.before) s.args.flat.0) s.args.table.now s.args.flat.0 d.cell_at-cell.result.0 (row_is d) (cell_here d) c.if-table-cell-ne0.false
 
 pub claim_single_spec : {M : Type 1} → statement M
 claim_single_spec =

@@ -49,19 +49,19 @@ module _ (t : tie.In-loop-flat invariant_loop decreases_loop) where
   s = before t.before.before
 
   abbrev many : ℕ
-  many = t.before.before.before.run_length.result
+  many = t.run_length-length.result
 
   by : RunsBy (card s) many
-  by = t.before.before.before.run_length.ensures
+  by = t.run_length-length.ensures
 
-  an_element : t.before.loop.flat < elements (card s)
-  an_element = omega (arith, t.loop-test.taken, s.pre.0.0.all_elements)
+  an_element : t.loop-flat.flat < elements (card s)
+  an_element = omega (arith, t.loop-flat-test.taken, s.requires.0.0.all_elements)
 
-  end : t.before.loop.flat + many ≤ elements (card s)
-  end = run_end s.args.numbers.now s.args.strides.now many t.before.loop.invariant.0 by t.before.loop.invariant.1 an_element
+  end : t.loop-flat.flat + many ≤ elements (card s)
+  end = run_end s.args.numbers.now s.args.strides.now many t.loop-flat.invariant.0 by t.loop-flat.invariant.1 an_element
 
-  next : t.before.loop.flat + many ≡ (t.before.loop.invariant.0 + 1) * many
-  next = run_next s.args.numbers.now s.args.strides.now many t.before.loop.invariant.0 by t.before.loop.invariant.1
+  next : t.loop-flat.flat + many ≡ (t.loop-flat.invariant.0 + 1) * many
+  next = run_next s.args.numbers.now s.args.strides.now many t.loop-flat.invariant.0 by t.loop-flat.invariant.1
 
 -- a run whose first element leads
 led : (i : tie.Then-leads invariant_loop decreases_loop) → let t = i in leader (card (s t)) t.loop-flat.flat ≡ t.loop-flat.flat
@@ -87,16 +87,16 @@ module _ (r : tie.After-claim_run-claimed invariant_loop decreases_loop) where
   turn = start.before.before.before
 
   abbrev after : List ℕ
-  after = r.claim-run.last.1.1.1.1.1.1.1.1.0
+  after = r.claim_run-claimed.last.1.1.1.1.1.1.1.1.0
 
   abbrev claimed : ℕ
-  claimed = r.claim-run.result.elements
+  claimed = r.claim_run-claimed.result.elements
 
   size : length after ≡ cells (card (s turn))
-  size = r.claim-run.ensures.owned.size
+  size = r.claim_run-claimed.ensures.owned.size
 
   -- the element that was not claimed
-  claimable : claimed < many turn → Claimable (card (s turn)) (turn.before.loop.flat + claimed) after
+  claimable : claimed < many turn → Claimable (card (s turn)) (turn.loop-flat.flat + claimed) after
   claimable h = record {
     inside = (s turn).pre.1.0;
     element = (runs start).element claimed h;
@@ -104,11 +104,11 @@ module _ (r : tie.After-claim_run-claimed invariant_loop decreases_loop) where
     size = size;
   }
 
-  kept : length r.claim-run.last.1.1.1.1.1.1.1.0 ≡ length (s turn).args.row.now
-  kept = r.claim-run.kept.1.1.1.1.1.1.1.0 ∙ turn.before.loop.invariant.3
+  kept : length r.claim_run-claimed.last.1.1.1.1.1.1.1.0 ≡ length (s turn).args.row.now
+  kept = r.claim_run-claimed.kept.1.1.1.1.1.1.1.0 ∙ turn.loop-flat.invariant.3
 
-  counted : turn.before.loop.occupied + r.claim-run.result.cells ≤ cells (card (s turn))
-  counted = omega (arith, turn.before.loop.invariant.4.counted, r.claim-run.ensures.owned.counted, occupied_most after, size)
+  counted : turn.loop-flat.occupied + r.claim_run-claimed.result.cells ≤ cells (card (s turn))
+  counted = omega (arith, turn.loop-flat.invariant.4.counted, r.claim_run-claimed.ensures.owned.counted, occupied_most after, size)
 
 abbrev claimed_run : tie.After-struct_known-then-leads-1 invariant_loop decreases_loop → tie.After-claim_run-claimed invariant_loop decreases_loop
 claimed_run c = c.before.before.before.before.before.before.before

@@ -48,19 +48,19 @@ module _ (c : tie.After-struct_told-4-1 invariant_loop decreases_loop) where
   start_is : start ≡ s.args.start
   start_is =
       ap₂ (λ (x y : ℤ). record { level = x; m = y })
-      (to_z-of_z {w = w64} {z = s.args.start.level} (record { sfits = c.struct-told4.given.0.1 }))
-      (to_z-of_z {w = w64} {z = s.args.start.m} (record { sfits = c.struct-told4.given.1.0.1 }))
+      (to_z-of_z {w = w64} {z = s.args.start.level} (record { sfits = c.struct_told-4-1.given.0.1 }))
+      (to_z-of_z {w = w64} {z = s.args.start.m} (record { sfits = c.struct_told-4-1.given.1.0.1 }))
 
   step_is : step ≡ s.args.step
   step_is =
       ap₂ (λ (x y : ℤ). record { level = x; m = y })
-      (to_z-of_z {w = w64} {z = s.args.step.level} (record { sfits = c.before.before.struct-told2.given.0.1 }))
-      (to_z-of_z {w = w64} {z = s.args.step.m} (record { sfits = c.before.before.struct-told2.given.1.0.1 }))
+      (to_z-of_z {w = w64} {z = s.args.step.level} (record { sfits = c.struct_told-2-1.given.0.1 }))
+      (to_z-of_z {w = w64} {z = s.args.step.m} (record { sfits = c.struct_told-2-1.given.1.0.1 }))
 
   there : LineThere s.args.by start step s.args.first s.args.many s.args.table.now
   there =
       subst (λ (p : LevelAndM). LineThere s.args.by p step s.args.first s.args.many s.args.table.now) (sym start_is)
-      (subst (λ (q : LevelAndM). LineThere s.args.by s.args.start q s.args.first s.args.many s.args.table.now) (sym step_is) s.pre)
+      (subst (λ (q : LevelAndM). LineThere s.args.by s.args.start q s.args.first s.args.many s.args.table.now) (sym step_is) s.requires)
 
 -- a turn
 module _ (t : tie.In-loop-done invariant_loop decreases_loop) where
@@ -68,13 +68,13 @@ module _ (t : tie.In-loop-done invariant_loop decreases_loop) where
   k = t.before.before
 
   abbrev done : ℕ
-  done = t.before.loop.done
+  done = t.loop-done.done
 
-  level_fits : SFits w64 (to_z w64 t.before.loop.level +ℤ (step k).level)
-  level_fits = step_fits (to_z w64 t.before.loop.level) (step k).level (rw t.before.loop.invariant.2 ((there k).near done t.loop-test.taken).0) (there k).step_near.0
+  level_fits : SFits w64 (to_z w64 (of_z w64 t.loop-done.level) +ℤ (step k).level)
+  level_fits = step_fits (to_z w64 (of_z w64 t.loop-done.level)) (step k).level (rw t.loop-done.invariant.2 ((there k).near done t.loop-done-test.taken).0) (there k).step_near.0
 
-  m_fits : SFits w64 (to_z w64 t.before.loop.m +ℤ (step k).m)
-  m_fits = step_fits (to_z w64 t.before.loop.m) (step k).m (rw t.before.loop.invariant.3 ((there k).near done t.loop-test.taken).1) (there k).step_near.1
+  m_fits : SFits w64 (to_z w64 (of_z w64 t.loop-done.m) +ℤ (step k).m)
+  m_fits = step_fits (to_z w64 (of_z w64 t.loop-done.m)) (step k).m (rw t.loop-done.invariant.3 ((there k).near done t.loop-done-test.taken).1) (there k).step_near.1
 
 loop_holds : tie.Need-loop-done-init invariant_loop decreases_loop
 loop_holds c = (
@@ -95,16 +95,16 @@ module _ (f : tie.After-cell_at-cell invariant_loop decreases_loop) where
   abbrev q : tie.After-struct_told-4-1 invariant_loop decreases_loop
   q = k turn
 
-  found : f.Cell-at.result.0 ≡ line_cell (s q).args.by (start q) (step q) (done turn)
+  found : f.cell_at-cell.result.0 ≡ line_cell (s q).args.by (start q) (step q) (done turn)
   found =
-      let l = turn.before.loop in
-      cell_found (s q).args.by (start q) (step q) (s q).args.first (done turn) (s q).args.table.now l.table l.invariant.1 l.invariant.2 l.invariant.3 f.Cell-at.ensures
+      let l = turn.loop-done in
+      cell_found (s q).args.by (start q) (step q) (s q).args.first (done turn) (s q).args.table.now l.table l.invariant.1 l.invariant.2 l.invariant.3 f.cell_at-cell.ensures
 
-  here : f.Cell-at.result.0 < length turn.before.loop.table
-  here = omega (arith, found, turn.before.loop.invariant.1.size, (there q).inside (done turn) turn.loop-test.taken)
+  here : f.cell_at-cell.result.0 < length turn.loop-done.table
+  here = omega (arith, found, turn.loop-done.invariant.1.size, (there q).inside (done turn) turn.loop-done-test.taken)
 
   few : (s q).args.first + done turn + 2 < 2 ^ 32 + 1
-  few = omega (arith, (there q).small, turn.loop-test.taken)
+  few = omega (arith, (there q).small, turn.loop-done-test.taken)
 
 abbrev at : tie.Else-table-cell-ne0 invariant_loop decreases_loop → tie.After-cell_at-cell invariant_loop decreases_loop
 at c = c.before.before
@@ -117,8 +117,8 @@ loop_again c =
     let d = q f in (
       omega (arith, t.loop-test.taken),
       line_more (s d).args.by (start d) (step d) (s d).args.first (done t) (s d).args.table.now l.table l.invariant.1 (found f) (omega arith) (here f) c.if-table-cell-ne0.false,
-      to_z-of_z (level_fits t) ∙ stepped (start d).level (step d).level (to_z w64 l.level) l.done l.invariant.2,
-      to_z-of_z (m_fits t) ∙ stepped (start d).m (step d).m (to_z w64 l.m) l.done l.invariant.3,
+      to_z-of_z (level_fits t) ∙ stepped (start d).level (step d).level (to_z w64 (of_z w64 l.level)) l.done l.invariant.2,
+      to_z-of_z (m_fits t) ∙ stepped (start d).m (step d).m (to_z w64 (of_z w64 l.m)) l.done l.invariant.3,
     )
 
 returns_2 : tie.Need-returns invariant_loop decreases_loop

@@ -28,11 +28,11 @@ module _ (c : tie.After-struct_told-1) where
 
   step_is : adds_step ≡ s.args.step.level +ℤ s.args.step.m
   step_is =
-      ap₂ (λ (x y : ℤ). x +ℤ y) (to_z-of_z {w = w64} {z = s.args.step.level} (record { sfits = c.struct_told.given.0.1 }))
-      (to_z-of_z {w = w64} {z = s.args.step.m} (record { sfits = c.struct_told.given.1.0.1 }))
+      ap₂ (λ (x y : ℤ). x +ℤ y) (to_z-of_z {w = w64} {z = s.args.step.level} (record { sfits = c.struct_told-1.given.0.1 }))
+      (to_z-of_z {w = w64} {z = s.args.step.m} (record { sfits = c.struct_told-1.given.1.0.1 }))
 
   step_sum : SFits w64 adds_step
-  step_sum = rw step_is (step_fits s.args.step.level s.args.step.m (omega (arith, s.pre.step_near.0)) s.pre.step_near.1)
+  step_sum = rw step_is (step_fits s.args.step.level s.args.step.m (omega (arith, s.requires.step_near.0)) s.requires.step_near.1)
 
   -- what the test says
   module _ (e : ((ltb 4 s.args.many && eqb s.args.by.b 0) && eqb (of_z w64 adds_step) 1) ≡ true) where
@@ -59,22 +59,22 @@ module _ (c : tie.After-struct_told-then-many-by-1) where
   q = s told
 
   abbrev tested : ((ltb 4 q.args.many && eqb q.args.by.b 0) && eqb (of_z w64 (adds_step told)) 1) ≡ true
-  tested = c.before.before.before.if1.true
+  tested = c.if-many-by.true
 
   abbrev begin : ℕ
-  begin = from q.args.by q.args.start q.args.step q.args.first.0 q.args.many q.args.table.now q.pre (straight told tested) (one told tested)
+  begin = from q.args.by q.args.start q.args.step q.args.first.0 q.args.many q.args.table.now q.requires (straight told tested) (one told tested)
 
   abbrev adds : ℤ
   adds = to_z w64 (of_z w64 q.args.start.level) +ℤ to_z w64 (of_z w64 q.args.start.m)
 
   adds_is : adds ≡ pos begin
   adds_is =
-      ap₂ (λ (x y : ℤ). x +ℤ y) (to_z-of_z {w = w64} {z = q.args.start.level} (record { sfits = c.struct-told2.given.0.1 }))
-      (to_z-of_z {w = w64} {z = q.args.start.m} (record { sfits = c.struct-told2.given.1.0.1 }))
-      ∙ from_is q.args.by q.args.start q.args.step q.args.first.0 q.args.many q.args.table.now q.pre (straight told tested) (one told tested)
+      ap₂ (λ (x y : ℤ). x +ℤ y) (to_z-of_z {w = w64} {z = q.args.start.level} (record { sfits = c.struct_told-then-many-by-1.given.0.1 }))
+      (to_z-of_z {w = w64} {z = q.args.start.m} (record { sfits = c.struct_told-then-many-by-1.given.1.0.1 }))
+      ∙ from_is q.args.by q.args.start q.args.step q.args.first.0 q.args.many q.args.table.now q.requires (straight told tested) (one told tested)
 
   few : begin < 2 ^ 32
-  few = (q.pre.cells 0 q.pre.some).few
+  few = (q.requires.cells 0 q.requires.some).few
 
   adds_fits : SFits w64 adds
   adds_fits = rw adds_is (far_fits {x = pos begin} (omega (arith, few)))
@@ -83,7 +83,7 @@ module _ (c : tie.After-struct_told-then-many-by-1) where
   back = to_z-of_z adds_fits ∙ adds_is
 
   there : StretchThere q.args.first.0 begin q.args.many q.args.table.now
-  there = stretch_there q.args.by q.args.start q.args.step q.args.first.0 q.args.many q.args.table.now q.pre (straight told tested) (one told tested)
+  there = stretch_there q.args.by q.args.start q.args.step q.args.first.0 q.args.many q.args.table.now q.requires (straight told tested) (one told tested)
 
 cast_claim_stretch : tie.Need-overflow_cast-start
 cast_claim_stretch c = rw (back c) (tt, record { fits = omega (arith, few c) })

@@ -21,24 +21,24 @@ decreases_loop numbers k₀ k = k
 -- the iter that a turn passes
 module _ (t : tie.In-loop-k invariant_loop decreases_loop) (strides : List ℤ) where
   abbrev numbers : List ℕ
-  numbers = t.before.before.before.args.numbers.now
+  numbers = t.args.numbers.now
 
   abbrev j : ℕ
-  j = t.before.loop.k - 1
+  j = t.loop-k.k - 1
 
   few : get_or numbers 40 0 ≤ 8
-  few = t.before.before.before.pre.few
+  few = t.requires.few
 
   below : j < length (shard_iters numbers strides)
-  below = omega (arith, iters_count numbers strides few, t.before.loop.invariant.0, t.loop-test.taken)
+  below = omega (arith, iters_count numbers strides few, t.loop-k.invariant.0, t.loop-k-test.taken)
 
   before_it : (run_length (drop (suc j) (shard_iters numbers strides)) ≡ 1) × (size_from (suc j) (shard_iters numbers strides) ≡ 1)
   before_it =
-      let same : t.before.loop.k ≡ suc j = omega (arith, t.loop-test.taken) in
-      subst (λ (n : ℕ). (run_length (drop n (shard_iters numbers strides)) ≡ 1) × (size_from n (shard_iters numbers strides) ≡ 1)) same (t.before.loop.invariant.1 strides)
+      let same : t.loop-k.k ≡ suc j = omega (arith, t.loop-k-test.taken) in
+      subst (λ (n : ℕ). (run_length (drop n (shard_iters numbers strides)) ≡ 1) × (size_from n (shard_iters numbers strides) ≡ 1)) same (t.loop-k.invariant.1 strides)
 
   extent_is : get_or (iter_extents (shard_iters numbers strides)) j 0 ≡ get_or numbers j 0
-  extent_is = extent_at numbers strides j few (omega (arith, t.before.loop.invariant.0, t.loop-test.taken))
+  extent_is = extent_at numbers strides j few (omega (arith, t.loop-k.invariant.0, t.loop-k-test.taken))
 
 loop_holds : tie.Need-loop-k-init invariant_loop decreases_loop
 loop_holds c = (omega arith, λ strides. let numbers = c.args.numbers.now in all_ones (shard_iters numbers strides) (get_or numbers 40 0) (omega (arith, iters_count numbers strides c.requires.few)))

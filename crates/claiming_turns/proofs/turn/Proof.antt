@@ -65,60 +65,60 @@ module _ (t : tie.In-loop-k invariant_loop decreases_loop) where
   l = shard_iters numbers strides
 
   abbrev digits : List ℕ
-  digits = t.before.loop.digits
+  digits = t.loop-k.digits
 
   abbrev j : ℕ
-  j = t.before.loop.k - 1
+  j = t.loop-k.k - 1
 
   abbrev digit : ℕ
   digit = get_or digits j 0
 
   abbrev here : LevelAndM
-  here = read t.before.loop.level t.before.loop.m
+  here = read t.loop-k.level t.loop-k.m
 
   abbrev way : LevelAndM
   way = record { level = get_or s.args.levels.now j (pos 0); m = get_or s.args.ms.now j (pos 0) }
 
   few : get_or numbers 40 0 ≤ 8
-  few = s.pre.whole.2
+  few = s.requires.whole.2
 
   slower : j < s.args.from
-  slower = omega (arith, t.before.loop.invariant.0, t.loop-test.taken)
+  slower = omega (arith, t.loop-k.invariant.0, t.loop-k-test.taken)
 
   below : j < length l
-  below = omega (arith, slower, s.pre.slower)
+  below = omega (arith, slower, s.requires.slower)
 
   short : j < 8
   short = omega (arith, below, iters_count numbers strides few, few)
 
   adds : Adds (slice 32 40 numbers) (unit (get_or l j none)) way
-  adds = s.pre.ways.ways j slower
+  adds = s.requires.ways.ways j slower
 
   extent_is : get_or (iter_extents l) j 0 ≡ get_or numbers j 0
   extent_is = extent_at numbers strides j few (omega (arith, below, iters_count numbers strides few))
 
-  after_is : size_from (suc j) l ≡ size_from t.before.loop.k l
-  after_is = let same : suc j ≡ t.before.loop.k = omega (arith, t.loop-test.taken) in ap (λ (n : ℕ). size_from n l) same
+  after_is : size_from (suc j) l ≡ size_from t.loop-k.k l
+  after_is = let same : suc j ≡ t.loop-k.k = omega (arith, t.loop-k-test.taken) in ap (λ (n : ℕ). size_from n l) same
 
   small : digit ≤ 2 ^ 32
-  small = digit_small numbers strides digits here j below t.before.loop.invariant.1 adds (s.pre.small j below)
+  small = digit_small numbers strides digits here j below t.loop-k.invariant.1 adds (s.requires.small j below)
 
   -- forth
   module _ (more : digit + 1 < get_or numbers j 0) where
     forth : DigitsAt numbers strides (set digits j (digit + 1)) (record { level = here.level +ℤ way.level; m = here.m +ℤ way.m })
-    forth = turn_forth numbers strides digits here j below t.before.loop.invariant.1 adds (omega (arith, extent_is, more))
+    forth = turn_forth numbers strides digits here j below t.loop-k.invariant.1 adds (omega (arith, extent_is, more))
 
     near : (nat_abs (here.level +ℤ way.level) ≤ roomy_level) × (nat_abs (here.m +ℤ way.m) ≤ roomy_level)
-    near = s.pre.near (set digits j (digit + 1)) _ forth
+    near = s.requires.near (set digits j (digit + 1)) _ forth
 
     index_next : index_of l (set digits j (digit + 1)) ≡ index_of l s.args.digits.now + size_from s.args.from l
-    index_next = omega (arith, index_forth numbers strides digits here j below t.before.loop.invariant.1 adds, after_is, t.before.loop.invariant.3)
+    index_next = omega (arith, index_forth numbers strides digits here j below t.loop-k.invariant.1 adds, after_is, t.loop-k.invariant.3)
 
   back_level : Steps here.level digit way.level
-  back_level = level_steps numbers strides digits here j below t.before.loop.invariant.1 adds s.pre.near small
+  back_level = level_steps numbers strides digits here j below t.loop-k.invariant.1 adds s.requires.near small
 
   back_m : Steps here.m digit way.m
-  back_m = m_steps numbers strides digits here j below t.before.loop.invariant.1 adds s.pre.near small
+  back_m = m_steps numbers strides digits here j below t.loop-k.invariant.1 adds s.requires.near small
 
 -- the digit goes on
 abbrev at : tie.Then-digit-numbers invariant_loop decreases_loop → tie.In-loop-k invariant_loop decreases_loop
@@ -129,20 +129,20 @@ module _ (c : tie.After-level-1 invariant_loop decreases_loop) where
   t1 = at c.before
 
   level_read : to_z w64 (of_z w64 (way t1).level) ≡ (way t1).level
-  level_read = to_z-of_z {w = w64} {z = (way t1).level} (record { sfits = c.level.given })
+  level_read = to_z-of_z {w = w64} {z = (way t1).level} (record { sfits = c.level-1.given })
 
   level_fits : SFits w64 ((here t1).level +ℤ to_z w64 (of_z w64 (way t1).level))
-  level_fits = rw level_read (far_fits {x = (here t1).level +ℤ (way t1).level} (omega (arith, (near t1 c.before.if1.true).0)))
+  level_fits = rw level_read (far_fits {x = (here t1).level +ℤ (way t1).level} (omega (arith, (near t1 c.if-digit-numbers.true).0)))
 
 module _ (c : tie.After-m-1 invariant_loop decreases_loop) where
   abbrev t2 : tie.In-loop-k invariant_loop decreases_loop
   t2 = at c.before.before
 
   m_read : to_z w64 (of_z w64 (way t2).m) ≡ (way t2).m
-  m_read = to_z-of_z {w = w64} {z = (way t2).m} (record { sfits = c.m.given })
+  m_read = to_z-of_z {w = w64} {z = (way t2).m} (record { sfits = c.m-1.given })
 
   m_fits : SFits w64 ((here t2).m +ℤ to_z w64 (of_z w64 (way t2).m))
-  m_fits = rw m_read (far_fits {x = (here t2).m +ℤ (way t2).m} (omega (arith, (near t2 c.before.before.if1.true).1)))
+  m_fits = rw m_read (far_fits {x = (here t2).m +ℤ (way t2).m} (omega (arith, (near t2 c.if-digit-numbers.true).1)))
 
 returns : tie.Need-returns-then-digit-numbers invariant_loop decreases_loop
 returns c =
@@ -160,10 +160,10 @@ returns c =
 -- it goes back to 0
 module _ (c : tie.After-back-arg-1 invariant_loop decreases_loop) where
   abbrev t3 : tie.In-loop-k invariant_loop decreases_loop
-  t3 = c.before.before.before.before
+  t3 = c.before.before.before.before.before.before
 
   step_read : to_z w64 (of_z w64 (way t3).level) ≡ (way t3).level
-  step_read = to_z-of_z {w = w64} {z = (way t3).level} (record { sfits = c.back-arg.given })
+  step_read = to_z-of_z {w = w64} {z = (way t3).level} (record { sfits = c.back-arg-1.given })
 
 back_requires : tie.Need-back-level-requires invariant_loop decreases_loop
 back_requires c κs = rw (step_read c) (back_level (t3 c))
@@ -173,7 +173,7 @@ module _ (c : tie.After-back-arg-in-loop-k-1 invariant_loop decreases_loop) wher
   first = c.before.before
 
   m_step_read : to_z w64 (of_z w64 (way (t3 first)).m) ≡ (way (t3 first)).m
-  m_step_read = to_z-of_z {w = w64} {z = (way (t3 first)).m} (record { sfits = c.back-arg2.given })
+  m_step_read = to_z-of_z {w = w64} {z = (way (t3 first)).m} (record { sfits = c.back-arg-in-loop-k-1.given })
 
 back_requires_2 : tie.Need-back-m-requires invariant_loop decreases_loop
 back_requires_2 c κs = rw (m_step_read c) (back_m (t3 (first c)))

@@ -39,10 +39,10 @@ module _ (s : tie.Start) where
   k = s.args.k
 
   few : get_or numbers 40 0 ≤ 8
-  few = (walkable_shard numbers strides s.pre.0).of.few
+  few = (walkable_shard numbers strides s.requires.0).of.few
 
   met : Meets (iter_at numbers strides 0 k)
-  met = meets numbers strides 0 (walkable_shard numbers strides s.pre.0) k s.pre.1
+  met = meets numbers strides 0 (walkable_shard numbers strides s.requires.0) k s.requires.1
 
   stride_is : get_or strides k (pos 0) ≡ (iter_at numbers strides 0 k).stride
   stride_is = ap (λ (n : ℕ). get_or strides n (pos 0)) (omega arith)
@@ -67,7 +67,7 @@ module _ (s : tie.Start) where
   sums_are =
       unit_sums (get_or numbers (8 + k) 0) (get_or strides k (pos 0)) an_axis
       ∙ ap (λ (z : ℤ). map (λ axis. cond (eqb (get_or numbers (8 + k) 0) axis) z (pos 0)) axes) stride_is
-      ∙ sym (ap (λ (i : Iter). map (unit i) axes) (iter_at_lem numbers strides k few s.pre.1))
+      ∙ sym (ap (λ (i : Iter). map (unit i) axes) (iter_at_lem numbers strides k few s.requires.1))
 
 -- what the machine reads of the stride
 stride_back : (c : tie.After-stride-1) → to_z w64 (of_z w64 (get_or (strides c.before) (k c.before) (pos 0))) ≡ get_or (strides c.before) (k c.before) (pos 0)

@@ -40,7 +40,7 @@ module _ (c : tie.After-cell_at-arg-in-loop-combination-1 invariant_loop decreas
   turn = c.before.before
 
   abbrev k : ℕ
-  k = turn.before.loop.combination
+  k = turn.loop-combination.combination
 
   abbrev s : tie.Start invariant_loop decreases_loop
   s = start turn
@@ -48,21 +48,21 @@ module _ (c : tie.After-cell_at-arg-in-loop-combination-1 invariant_loop decreas
   level_back : to_z w64 (of_z w64 (to_z w64 (of_z w64 s.args.level) +ℤ to_z w64 (of_z w64 (get_or s.args.levels.now k (pos 0)))))
       ≡ s.args.level +ℤ get_or s.args.levels.now k (pos 0)
   level_back =
-      sum_back s.args.level (get_or s.args.levels.now k (pos 0)) s.fits.level (record { sfits = c.before.cell-at-arg.given })
-      s.pre.near (s.pre.levels_near k (below turn))
+      sum_back s.args.level (get_or s.args.levels.now k (pos 0)) s.ranges.level (record { sfits = c.cell_at-arg-1.given })
+      s.requires.near (s.requires.levels_near k (below turn))
 
   m_back : to_z w64 (of_z w64 (to_z w64 (of_z w64 s.args.m) +ℤ to_z w64 (of_z w64 (get_or s.args.ms.now k (pos 0)))))
       ≡ s.args.m +ℤ get_or s.args.ms.now k (pos 0)
   m_back =
-      sum_back s.args.m (get_or s.args.ms.now k (pos 0)) s.fits.m (record { sfits = c.cell-at-arg2.given })
-      s.pre.m_near (s.pre.ms_near k (below turn))
+      sum_back s.args.m (get_or s.args.ms.now k (pos 0)) s.ranges.m (record { sfits = c.cell_at-arg-in-loop-combination-1.given })
+      s.requires.m_near (s.requires.ms_near k (below turn))
 
 add_cell_at : tie.Need-overflow_add-level invariant_loop decreases_loop
 add_cell_at c =
     let t = c in
     let s = start t.before in
     let k = t.loop-combination.combination in
-    sum_fits s.args.level (get_or s.args.levels.now k (pos 0)) s.fits.level (record { sfits = c.cell_at-arg-1.given })
+    sum_fits s.args.level (get_or s.args.levels.now k (pos 0)) s.ranges.level (record { sfits = c.cell_at-arg-1.given })
     s.requires.near (s.requires.levels_near k (below t.before))
 
 add_cell_at_2 : tie.Need-overflow_add-m invariant_loop decreases_loop
@@ -70,7 +70,7 @@ add_cell_at_2 c =
     let t = c in
     let s = start t.before.before in
     let k = t.loop-combination.combination in
-    sum_fits s.args.m (get_or s.args.ms.now k (pos 0)) s.fits.m (record { sfits = c.cell_at-arg-in-loop-combination-1.given })
+    sum_fits s.args.m (get_or s.args.ms.now k (pos 0)) s.ranges.m (record { sfits = c.cell_at-arg-in-loop-combination-1.given })
     s.requires.m_near (s.requires.ms_near k (below t.before.before))
 
 cell_at_requires : tie.Need-cell_at-cell-requires invariant_loop decreases_loop
@@ -91,13 +91,13 @@ module _ (f : tie.After-cell_at-cell invariant_loop decreases_loop) where
   abbrev m : ℤ
   m = (s d).args.m +ℤ get_or (s d).args.ms.now (k d) (pos 0)
 
-  found : pos f.Cell-at.result.0 ≡ level +ℤ swizzled_z (swizzle_of (s d).args.numbers.now) m
-  found = rw (level_back d, m_back d) at f.Cell-at.ensures ∙ ap (λ (w : Swizzle). level +ℤ swizzled_z w m) (turn d).before.before.swizzle-of.ensures
+  found : pos f.cell_at-cell.result.0 ≡ level +ℤ swizzled_z (swizzle_of (s d).args.numbers.now) m
+  found = rw (level_back d, m_back d) at f.cell_at-cell.ensures ∙ ap (λ (w : Swizzle). level +ℤ swizzled_z w m) (turn d).before.before.swizzle-of.ensures
 
-  small : f.Cell-at.result.0 < 2 ^ 32
+  small : f.cell_at-cell.result.0 < 2 ^ 32
   small =
       let c = (s d).pre.cells (k d) (below (turn d)) in
-      let same : f.Cell-at.result.0 ≡ c.cell = ap nat_abs (found ∙ ap (λ (z : ℤ). level +ℤ z) c.m_there ∙ sym c.there) in
+      let same : f.cell_at-cell.result.0 ≡ c.cell = ap nat_abs (found ∙ ap (λ (z : ℤ). level +ℤ z) c.m_there ∙ sym c.there) in
       omega (arith, same, c.few)
 
 loop_again : tie.Need-loop-combination-preserved invariant_loop decreases_loop
@@ -108,10 +108,10 @@ loop_again c =
     let s = start t.before.before.before.before in
     let l = t.loop-combination in
     let a = s.args in
-    let level_is = to_z-of_z s.fits.level in
-    let m_is = to_z-of_z s.fits.m in (
+    let level_is = to_z-of_z s.ranges.level in
+    let m_is = to_z-of_z s.ranges.m in (
       omega (arith, below t.before.before.before.before),
-      filled_more a.numbers.now (to_z w64 (of_z w64 a.level)) (to_z w64 (of_z w64 a.m)) a.levels.now a.ms.now a.row.now l.row l.combination f.Cell-at.result.0
+      filled_more a.numbers.now (to_z w64 (of_z w64 a.level)) (to_z w64 (of_z w64 a.m)) a.levels.now a.ms.now a.row.now l.row l.combination f.cell_at-cell.result.0
           (below t.before.before.before.before) l.invariant.1 (rw (level_is, m_is) (found f)),
     )
 

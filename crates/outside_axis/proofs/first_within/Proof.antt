@@ -145,4 +145,4 @@ first_within_spec =
     (λ c. omega (arith, (start c.before.before.before).requires.walkable.of)) (λ c. omega (arith, (start c.before.before.before).requires.walkable.of))
     (λ c κs. rw (to_z-of_z {w = w64} {z = (met c.before.before.before.before).stride} (record { sfits = c.step_ahead-arg-in-loop-k-1.given })) (turn c.before.before.before.before).most_stride_lem)
     (λ c κs. (turn (turned c)).some_extent) (λ c. omega (arith, room c)) (λ c. omega (arith, (turn (turned c.before)).some_extent)) (λ c. omega (arith, most c)) (λ c. omega (arith, room c))
-    (λ c. let t = turned c.before in omega (arith, spared c, t.loop-k.invariant.1, (start t).fits.spare)) (λ c. omega (arith, spared c)) (λ c. omega arith) (λ c. omega arith) loop_again returns)
+    (λ c. let t = turned c.before in omega (arith, spared c, t.loop-k.invariant.1, (start t).ranges.spare)) (λ c. omega (arith, spared c)) (λ c. omega arith) (λ c. omega arith) loop_again returns)

@@ -31,7 +31,7 @@ returns_2 c =
     let w = c in
     let a = w.args in
     let r = letter_r w.before.before.before.before in
-    rw c.refuse.ensures (bracket_wrong a.text.now a.from a.layout w.word-open.result r.0 r.1 w.word-open.ensures (c.if-not-open.true))
+    rw c.refuse.ensures (bracket_wrong a.text.now a.from a.layout w.word-open.result r.0 r.1 w.word-open.ensures (not-true _ c.if-not-open.true))
 
 paren : (c : tie.Then-stands) → let w = c in let t = w.args.text.now in (w.word-open.result.next < length t) × (get_or t w.word-open.result.next 0 ≡ 40)
 paren c =
@@ -50,7 +50,7 @@ returns_3 c =
     λ alone s h.
     c.several.ensures alone
     (opened_paren a.text.now w.word-open.result.next s a.layout p.0 p.1
-    (bracket_right a.text.now a.from s a.layout w.word-open.result r.0 r.1 w.word-open.ensures (c.if-not-open.false) h))
+    (bracket_right a.text.now a.from s a.layout w.word-open.result r.0 r.1 w.word-open.ensures (not-false _ c.if-not-open.false) h))
 
 returns_4 : tie.Need-returns
 returns_4 c =
@@ -59,7 +59,7 @@ returns_4 c =
     let r = letter_r w.before.before.before.before.before.before in
     λ alone s h.
     c.single.ensures alone (stands_no a.text.now w.word-open.result.next 40 (sym c.stands-2.ensures ∙ c.if-stands.false)) s
-    (bracket_right a.text.now a.from s a.layout w.word-open.result r.0 r.1 w.word-open.ensures (c.if-not-open.false) h)
+    (bracket_right a.text.now a.from s a.layout w.word-open.result r.0 r.1 w.word-open.ensures (not-false _ c.if-not-open.false) h)
 
 pub after_plus_spec : {M : Type 1} → statement M
 after_plus_spec = tie.close (tie.spec (λ c κs. search rules) (λ c κs. search rules) returns add_word word_requires (λ c κs. search rules) returns_2 (λ c κs. search rules) add_several (λ c κs. search rules) returns_3 (λ c κs. search rules) returns_4)

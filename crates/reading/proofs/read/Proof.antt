@@ -14,13 +14,13 @@ use Rattle.reading.proofs.read.Tie as tie
 returns : tie.Need-returns-then-not-open
 returns c =
     let w = c in
-    rw c.refuse.ensures ((read_exactly _ _).1 (open_wrong w.args.text.now w.word-open.result w.word-open.ensures (c.if-not-open.true)))
+    rw c.refuse.ensures ((read_exactly _ _).1 (open_wrong w.args.text.now w.word-open.result w.word-open.ensures (not-true _ c.if-not-open.true)))
 
 returns_2 : tie.Need-returns-then-not-part
 returns_2 c =
     let k = c in
     let w = k in
-    rw c.refuse-then-not-part.ensures ((read_exactly _ _).1 (shard_wrong w.args.text.now w.word-open.result k.read_list-part.result w.word-open.ensures (k.if-not-open.false) k.read_list-part.ensures (c.if-not-part.true)))
+    rw c.refuse-then-not-part.ensures ((read_exactly _ _).1 (shard_wrong w.args.text.now w.word-open.result k.read_list-part.result w.word-open.ensures (not-false _ k.if-not-open.false) k.read_list-part.ensures (not-true _ c.if-not-part.true)))
 
 -- where the shard ends
 shard : (c : tie.After-shard_alone-layout)
@@ -30,7 +30,7 @@ shard : (c : tie.After-shard_alone-layout)
 shard c =
     let k = c in
     let w = k in
-    shard_right w.args.text.now w.word-open.result k.read_list-part.result w.word-open.ensures (k.if-not-open.false) k.read_list-part.ensures (c.if-not-part.false)
+    shard_right w.args.text.now w.word-open.result k.read_list-part.result w.word-open.ensures (not-false _ k.if-not-open.false) k.read_list-part.ensures (not-false _ c.if-not-part.false)
 
 returns_3 : tie.Need-returns-then-text-from
 returns_3 c =

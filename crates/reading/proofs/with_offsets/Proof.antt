@@ -9,13 +9,13 @@ returns : tie.Need-returns-then-not-last
 returns c =
     let o = c in
     let a = o.args in
-    rw c.refuse.ensures (offsets_wrong a.text.now a.from a.layout o.offsets-last.result o.offsets-last.ensures (c.if-not-last.true))
+    rw c.refuse.ensures (offsets_wrong a.text.now a.from a.layout o.offsets-last.result o.offsets-last.ensures (not-true _ c.if-not-last.true))
 
 returns_2 : tie.Need-returns
 returns_2 c =
     let o = c in
     let a = o.args in
-    rw (c.done.ensures, c.with_offset.ensures) (offsets_right a.text.now a.from a.layout o.offsets-last.result o.offsets-last.ensures (c.if-not-last.false))
+    rw (c.done.ensures, c.with_offset.ensures) (offsets_right a.text.now a.from a.layout o.offsets-last.result o.offsets-last.ensures (not-false _ c.if-not-last.false))
 
 pub with_offsets_spec : {M : Type 1} → statement M
 with_offsets_spec = tie.close (tie.spec (λ c κs. search rules) (λ c κs. search rules) returns (λ c κs. search rules) (λ c κs. search rules) returns_2)

@@ -31,20 +31,20 @@ returns c =
     let n = c in
     let l = n in
     let a = l.args in
-    offsets_none a.text.now a.from l.loop-one.i l.loop-one.least l.loop-one.offset n.read_step-one.result l.loop-one.invariant.1 n.read_step-one.ensures _ (c.if-not-one.true)
+    offsets_none a.text.now a.from l.loop-one.i l.loop-one.least l.loop-one.offset n.read_step-one.result l.loop-one.invariant.1 n.read_step-one.ensures _ (not-true _ c.if-not-one.true)
 
 value_requires : tie.Need-value-requires invariant_loop decreases_loop
-value_requires c κs = let n = c in n.read_step-one.ensures.small (c.if-not-one.false)
+value_requires c κs = let n = c in n.read_step-one.ensures.small (not-false _ c.if-not-one.false)
 
 written : (c : tie.After-value invariant_loop decreases_loop)
     → to_z w64 (of_z w64 c.value.result) ≡ value_of c.read_step-one.result.step
 written c =
     let n = c in
     let t = n.read_step-one.result.step in
-    as_written t.negative t.size (n.read_step-one.ensures.small (c.if-not-one.false)) c.value.result c.value.ensures
+    as_written t.negative t.size (n.read_step-one.ensures.small (not-false _ c.if-not-one.false)) c.value.result c.value.ensures
 
 known : (c : tie.After-value invariant_loop decreases_loop) → c.axis_of-axis.result ≤ 7
-known c = let n = c in rw c.axis_of-axis.ensures (n.read_step-one.ensures.known (c.if-not-one.false))
+known c = let n = c in rw c.axis_of-axis.ensures (n.read_step-one.ensures.known (not-false _ c.if-not-one.false))
 
 returns_2 : tie.Need-returns-then-text-next invariant_loop decreases_loop
 returns_2 c =
@@ -52,7 +52,7 @@ returns_2 c =
     let n = v in
     let l = n in
     let a = l.args in
-    rw (written v.before, v.axis_of-axis.ensures) (offsets_done a.text.now a.from l.loop-one.i l.loop-one.least l.loop-one.offset n.read_step-one.result l.loop-one.invariant.1 n.read_step-one.ensures (v.if-not-one.false) (omega arith))
+    rw (written v.before, v.axis_of-axis.ensures) (offsets_done a.text.now a.from l.loop-one.i l.loop-one.least l.loop-one.offset n.read_step-one.result l.loop-one.invariant.1 n.read_step-one.ensures (not-false _ v.if-not-one.false) (omega arith))
 
 returns_3 : tie.Need-returns-then-not-text-next invariant_loop decreases_loop
 returns_3 c =
@@ -60,7 +60,7 @@ returns_3 c =
     let n = v in
     let l = n in
     let a = l.args in
-    offsets_bad a.text.now a.from l.loop-one.i l.loop-one.least l.loop-one.offset n.read_step-one.result l.loop-one.invariant.1 n.read_step-one.ensures _ (v.if-not-one.false) (omega arith) (not-true _ (rw v.axis_of-axis.ensures at c.if-not-text-next.true))
+    offsets_bad a.text.now a.from l.loop-one.i l.loop-one.least l.loop-one.offset n.read_step-one.result l.loop-one.invariant.1 n.read_step-one.ensures _ (not-false _ v.if-not-one.false) (omega arith) ((rw v.axis_of-axis.ensures at c.if-not-text-next.true))
 
 add_i : tie.Need-overflow_add-i invariant_loop decreases_loop
 add_i c = omega arith
@@ -69,7 +69,7 @@ loop_less : tie.Need-loop-one-smaller invariant_loop decreases_loop
 loop_less c =
     let v = c in
     let n = v in
-    let least-below = rw (← v.axis_of-axis.ensures) at (n.read_step-one.ensures.low (v.if-not-one.false) n.loop-one.invariant.0) in
+    let least-below = rw (← v.axis_of-axis.ensures) at (n.read_step-one.ensures.low (not-false _ v.if-not-one.false) n.loop-one.invariant.0) in
     omega (arith, known v.before.before.before, least-below)
 
 loop_again : tie.Need-loop-one-preserved invariant_loop decreases_loop
@@ -78,11 +78,11 @@ loop_again c =
     let n = v in
     let l = n in
     let a = l.args in
-    let more = not-false _ (rw v.axis_of-axis.ensures at c.if-not-text-next.false) in
+    let more = (rw v.axis_of-axis.ensures at c.if-not-text-next.false) in
     let t = n.read_step-one.result.step in
     rw (written v.before.before.before, v.axis_of-axis.ensures) (
       omega (arith, ltb-true (axis_meant t.place) 7 (second_yes (eqb (get_or a.text.now n.read_step-one.result.next 0) 43) (ltb (axis_meant t.place) 7) more)),
-      offsets_more a.text.now a.from l.loop-one.i l.loop-one.least l.loop-one.offset n.read_step-one.result l.loop-one.invariant.1 n.read_step-one.ensures (v.if-not-one.false) (omega arith) more,
+      offsets_more a.text.now a.from l.loop-one.i l.loop-one.least l.loop-one.offset n.read_step-one.result l.loop-one.invariant.1 n.read_step-one.ensures (not-false _ v.if-not-one.false) (omega arith) more,
     )
 
 pub offsets_spec : {M : Type 1} → statement M

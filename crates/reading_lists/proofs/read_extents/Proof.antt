@@ -25,7 +25,7 @@ returns c =
     let l = n in
     let a = l.args in
     rw c.no_extents.ensures
-    (extents_none a.text.now a.from a.least a.most l.loop-at.i l.loop-at.k l.loop-at.at n.number-one.result l.loop-at.invariant.2 n.number-one.ensures _ _ (c.if-not-one.true))
+    (extents_none a.text.now a.from a.least a.most l.loop-at.i l.loop-at.k l.loop-at.at n.number-one.result l.loop-at.invariant.2 n.number-one.ensures _ _ (not-true _ c.if-not-one.true))
 
 add_word : tie.Need-overflow_add-next invariant_loop decreases_loop
 add_word c =
@@ -48,7 +48,7 @@ returns_2 c =
     let l = n in
     let a = l.args in
     extents_good a.text.now a.from a.least a.most l.loop-at.i l.loop-at.k l.loop-at.at n.number-one.result l.loop-at.invariant.2 n.number-one.ensures c.word-open.result (omega (arith, l.loop-at.invariant.0, l.loop-at.invariant.1))
-    (d.if-not-one.false) (not-true _ (rw d.stands.ensures at d.if-not-stands-k.true)) (rw c.stands-then-not-stands-k.ensures at c.if-stands-least.true) c.word-open.ensures
+    (not-false _ d.if-not-one.false) ((rw d.stands.ensures at d.if-not-stands-k.true)) (rw c.stands-then-not-stands-k.ensures at c.if-stands-least.true) c.word-open.ensures
 
 returns_3 : tie.Need-returns-then-not-stands-k invariant_loop decreases_loop
 returns_3 c =
@@ -58,24 +58,24 @@ returns_3 c =
     let a = l.args in
     rw c.no_extents-then-not-stands-k.ensures
     (extents_bad a.text.now a.from a.least a.most l.loop-at.i l.loop-at.k l.loop-at.at n.number-one.result l.loop-at.invariant.2 n.number-one.ensures _ _
-    (d.if-not-one.false) (not-true _ (rw d.stands.ensures at d.if-not-stands-k.true)) (rw c.stands-then-not-stands-k.ensures at c.if-stands-least.false))
+    (not-false _ d.if-not-one.false) ((rw d.stands.ensures at d.if-not-stands-k.true)) (rw c.stands-then-not-stands-k.ensures at c.if-stands-least.false))
 
 add_i : tie.Need-overflow_add-i invariant_loop decreases_loop
 add_i c =
     let n = c in
     let l = n in
     let a = l.args in
-    omega (arith, within_yes a.text.now n.number-one.result.next (eqb (get_or a.text.now n.number-one.result.next 0) 44) (ltb (l.loop-at.k + 1) a.most) (not-false _ (rw c.stands.ensures at c.if-not-stands-k.false)))
+    omega (arith, within_yes a.text.now n.number-one.result.next (eqb (get_or a.text.now n.number-one.result.next 0) 44) (ltb (l.loop-at.k + 1) a.most) ((rw c.stands.ensures at c.if-not-stands-k.false)))
 
 loop_again : tie.Need-loop-at-preserved invariant_loop decreases_loop
 loop_again c =
     let n = c in
     let l = n in
     let a = l.args in
-    let comma = not-false _ (rw c.stands.ensures at c.if-not-stands-k.false) in (
+    let comma = (rw c.stands.ensures at c.if-not-stands-k.false) in (
       second_less a.text.now n.number-one.result.next 44 (l.loop-at.k + 1) a.most comma,
       l.loop-at.invariant.1,
-      extents_more a.text.now a.from a.least a.most l.loop-at.i l.loop-at.k l.loop-at.at n.number-one.result l.loop-at.invariant.2 n.number-one.ensures (c.if-not-one.false) comma,
+      extents_more a.text.now a.from a.least a.most l.loop-at.i l.loop-at.k l.loop-at.at n.number-one.result l.loop-at.invariant.2 n.number-one.ensures (not-false _ c.if-not-one.false) comma,
     )
 
 pub read_extents_spec : {M : Type 1} → statement M

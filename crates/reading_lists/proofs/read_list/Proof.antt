@@ -9,12 +9,12 @@ returns : tie.Need-returns-then-not-sizes
 returns c =
     let e = c in
     let a = e.args in
-    list_bad a.text.now a.from a.least a.most a.shard e.read_extents-sizes.result _ _ e.read_extents-sizes.ensures (c.if-not-sizes.true)
+    list_bad a.text.now a.from a.least a.most a.shard e.read_extents-sizes.result _ _ e.read_extents-sizes.ensures (not-true _ c.if-not-sizes.true)
 
 read_steps_requires : tie.Need-read_steps-all-requires
 read_steps_requires c κs =
     let e = c in
-    let f = c.if-not-sizes.false in
+    let f = not-false _ c.if-not-sizes.false in
     (e.read_extents-sizes.ensures.some f, e.read_extents-sizes.ensures.room f)
 
 returns_2 : tie.Need-returns
@@ -22,7 +22,7 @@ returns_2 c =
     let s = c in
     let e = s in
     let a = e.args in
-    list_good a.text.now a.from a.least a.most a.shard e.read_extents-sizes.result s.read_steps-all.result e.read_extents-sizes.ensures (s.if-not-sizes.false) s.read_steps-all.ensures
+    list_good a.text.now a.from a.least a.most a.shard e.read_extents-sizes.result s.read_steps-all.result e.read_extents-sizes.ensures (not-false _ s.if-not-sizes.false) s.read_steps-all.ensures
 
 pub read_list_spec : {M : Type 1} → statement M
 read_list_spec = tie.close (tie.spec (λ c κs. search rules) returns read_steps_requires returns_2)

@@ -14,7 +14,7 @@ returns : tie.Need-returns-then-not-size
 returns c =
     let n = c in
     let a = n.args in
-    rw c.no_single.ensures (single_none a.text.now a.from n.number-size.result n.number-size.ensures (c.if-not-size.true))
+    rw c.no_single.ensures (single_none a.text.now a.from n.number-size.result n.number-size.ensures (not-true _ c.if-not-size.true))
 
 returns_2 : tie.Need-returns-then-not-stands
 returns_2 c =
@@ -22,7 +22,7 @@ returns_2 c =
     let n = s in
     let a = n.args in
     rw c.no_single-then-not-stands.ensures
-    (single_no_colon a.text.now a.from n.number-size.result n.number-size.ensures (s.if-not-size.false) (stands_no a.text.now n.number-size.result.next 58 (sym s.stands.ensures ∙ c.if-not-stands.true)))
+    (single_no_colon a.text.now a.from n.number-size.result n.number-size.ensures (not-false _ s.if-not-size.false) (stands_no a.text.now n.number-size.result.next 58 (sym s.stands.ensures ∙ c.if-not-stands.true)))
 
 colon : (c : tie.Else-not-stands) → let n = c in let t = n.args.text.now in (n.number-size.result.next < length t) × (get_or t n.number-size.result.next 0 ≡ 58)
 colon c =
@@ -40,7 +40,7 @@ returns_3 c =
     let n = e in
     let a = n.args in
     rw c.no_single-then-not-one.ensures
-    (single_no_step a.text.now a.from n.number-size.result n.number-size.ensures (e.if-not-size.false) (colon e.before.before.before.before).0 (colon e.before.before.before.before).1 o.read_step-one.result o.read_step-one.ensures (c.if-not-one.true))
+    (single_no_step a.text.now a.from n.number-size.result n.number-size.ensures (not-false _ e.if-not-size.false) (colon e.before.before.before.before).0 (colon e.before.before.before.before).1 o.read_step-one.result o.read_step-one.ensures (not-true _ c.if-not-one.true))
 
 returns_4 : tie.Need-returns-then-not-stands-2
 returns_4 c =
@@ -50,7 +50,7 @@ returns_4 c =
     let n = e in
     let a = n.args in
     rw c.no_single-then-not-stands-2.ensures
-    (single_no_bracket a.text.now a.from n.number-size.result n.number-size.ensures (e.if-not-size.false) (colon e.before.before.before.before.before.before).0 (colon e.before.before.before.before.before.before).1 o.read_step-one.result o.read_step-one.ensures (s.if-not-one.false)
+    (single_no_bracket a.text.now a.from n.number-size.result n.number-size.ensures (not-false _ e.if-not-size.false) (colon e.before.before.before.before.before.before).0 (colon e.before.before.before.before.before.before).1 o.read_step-one.result o.read_step-one.ensures (not-false _ s.if-not-one.false)
     (stands_no a.text.now o.read_step-one.result.next 93 (sym s.stands-2.ensures ∙ c.if-not-stands-2.true)))
 
 bracket : (c : tie.Else-not-stands-2) → let o = c in let t = o.args.text.now in (o.read_step-one.result.next < length t) × (get_or t o.read_step-one.result.next 0 ≡ 93)
@@ -63,7 +63,7 @@ add_t11 : tie.Need-overflow_add-result
 add_t11 c = omega (arith, (bracket c.before).0)
 
 with_step_requires : tie.Need-with_step-requires
-with_step_requires c κs = let s = c in s.read_step-one.ensures.small (s.if-not-one.false)
+with_step_requires c κs = let s = c in s.read_step-one.ensures.small (not-false _ s.if-not-one.false)
 
 returns_5 : tie.Need-returns
 returns_5 c =
@@ -74,7 +74,7 @@ returns_5 c =
     let n = e in
     let a = n.args in
     rw c.with_step.ensures
-    (single_good a.text.now a.from n.number-size.result n.number-size.ensures (e.if-not-size.false) (colon e.before.before.before.before.before.before.before).0 (colon e.before.before.before.before.before.before.before).1 o.read_step-one.result o.read_step-one.ensures (s.if-not-one.false) (bracket b.before.before).0 (bracket b.before.before).1)
+    (single_good a.text.now a.from n.number-size.result n.number-size.ensures (not-false _ e.if-not-size.false) (colon e.before.before.before.before.before.before.before).0 (colon e.before.before.before.before.before.before.before).1 o.read_step-one.result o.read_step-one.ensures (not-false _ s.if-not-one.false) (bracket b.before.before).0 (bracket b.before.before).1)
 
 pub read_single_spec : {M : Type 1} → statement M
 read_single_spec =

@@ -25,10 +25,10 @@ returns c =
     let l = n in
     let a = l.args in
     rw c.no_steps.ensures
-    (steps_none a.text.now a.from a.iters a.count a.shard l.loop-at.i l.loop-at.k l.loop-at.at l.loop-at.marks n.read_step-one.result l.loop-at.invariant.2 n.read_step-one.ensures _ _ (c.if-not-one.true))
+    (steps_none a.text.now a.from a.iters a.count a.shard l.loop-at.i l.loop-at.k l.loop-at.at l.loop-at.marks n.read_step-one.result l.loop-at.invariant.2 n.read_step-one.ensures _ _ (not-true _ c.if-not-one.true))
 
 with_step_requires : tie.Need-with_step-requires invariant_loop decreases_loop
-with_step_requires c κs = let n = c in n.read_step-one.ensures.small (c.if-not-one.false)
+with_step_requires c κs = let n = c in n.read_step-one.ensures.small (not-false _ c.if-not-one.false)
 
 add_word : tie.Need-overflow_add-next invariant_loop decreases_loop
 add_word c =
@@ -55,7 +55,7 @@ returns_2 c =
     let a = l.args in
     rw (m.is_marked.ensures, m.with_step.ensures)
     (steps_good a.text.now a.from a.iters a.count a.shard l.loop-at.i l.loop-at.k l.loop-at.at l.loop-at.marks n.read_step-one.result l.loop-at.invariant.2 n.read_step-one.ensures c.word-shut.result
-    (m.if-not-one.false) (not-true _ (rw d.stands.ensures at d.if-not-stands-k.true)) (rw c.stands-then-not-stands-k.ensures at c.if-stands-k.true) c.word-shut.ensures)
+    (not-false _ m.if-not-one.false) ((rw d.stands.ensures at d.if-not-stands-k.true)) (rw c.stands-then-not-stands-k.ensures at c.if-stands-k.true) c.word-shut.ensures)
 
 returns_3 : tie.Need-returns-then-not-stands-k invariant_loop decreases_loop
 returns_3 c =
@@ -66,7 +66,7 @@ returns_3 c =
     let a = l.args in
     rw c.no_steps-then-not-stands-k.ensures
     (steps_bad a.text.now a.from a.iters a.count a.shard l.loop-at.i l.loop-at.k l.loop-at.at l.loop-at.marks n.read_step-one.result l.loop-at.invariant.2 n.read_step-one.ensures _ _
-    (m.if-not-one.false) (not-true _ (rw d.stands.ensures at d.if-not-stands-k.true)) (rw c.stands-then-not-stands-k.ensures at c.if-stands-k.false))
+    (not-false _ m.if-not-one.false) ((rw d.stands.ensures at d.if-not-stands-k.true)) (rw c.stands-then-not-stands-k.ensures at c.if-stands-k.false))
 
 add_i : tie.Need-overflow_add-i invariant_loop decreases_loop
 add_i c =
@@ -74,7 +74,7 @@ add_i c =
     let n = m in
     let l = n in
     let a = l.args in
-    omega (arith, within_yes a.text.now n.read_step-one.result.next (eqb (get_or a.text.now n.read_step-one.result.next 0) 44) (ltb (l.loop-at.k + 1) a.count) (not-false _ (rw c.stands.ensures at c.if-not-stands-k.false)))
+    omega (arith, within_yes a.text.now n.read_step-one.result.next (eqb (get_or a.text.now n.read_step-one.result.next 0) 44) (ltb (l.loop-at.k + 1) a.count) ((rw c.stands.ensures at c.if-not-stands-k.false)))
 
 loop_again : tie.Need-loop-at-preserved invariant_loop decreases_loop
 loop_again c =
@@ -82,11 +82,11 @@ loop_again c =
     let n = m in
     let l = n in
     let a = l.args in
-    let comma = not-false _ (rw c.stands.ensures at c.if-not-stands-k.false) in
+    let comma = (rw c.stands.ensures at c.if-not-stands-k.false) in
     rw (m.is_marked.ensures, m.with_step.ensures) (
       second_less a.text.now n.read_step-one.result.next 44 (l.loop-at.k + 1) a.count comma,
       l.loop-at.invariant.1,
-      steps_more a.text.now a.from a.iters a.count a.shard l.loop-at.i l.loop-at.k l.loop-at.at l.loop-at.marks n.read_step-one.result l.loop-at.invariant.2 n.read_step-one.ensures (m.if-not-one.false) comma,
+      steps_more a.text.now a.from a.iters a.count a.shard l.loop-at.i l.loop-at.k l.loop-at.at l.loop-at.marks n.read_step-one.result l.loop-at.invariant.2 n.read_step-one.ensures (not-false _ m.if-not-one.false) comma,
     )
 
 pub read_steps_spec : {M : Type 1} → statement M
