@@ -122,11 +122,23 @@ class Function:
                             best = (new, path)
                     if best:
                         return [self.arms[g][0], best[0]] + self.rest(where, rest[len(best[1]) :])
+                    if any(norm(old) == norm(s) and path[: len(rest)] == rest for new, old, path in self.arms[g][2]):
+                        self.partial = (g, s, rest)
+                        return [self.arms[g][0]]
             if g == where:
                 break
             g = self.parent[g]
         new = self.places[where][2][1]
         return [new] + self.rest(where, rest)
+
+    def part(self, partial, segs):
+        """A field of an arm, of which a name stood for all that it took apart."""
+        g, s, rest = partial
+        for new, old, path in self.arms[g][2]:
+            n = len(path) - len(rest)
+            if norm(old) == norm(s) and path[: len(rest)] == rest and path[len(rest) :] == segs[:n]:
+                return [new] + segs[n:]
+        return segs
 
     def parameter(self, rest):
         """A parameter's own name: an older Rattle named an array by its local, as t3."""
@@ -140,6 +152,8 @@ class Function:
     def rest(self, where, rest):
         if rest and self.places[where][2][0].startswith("loop"):
             rest = self.parameter(["", *rest])[1:]
+        if rest and rest[0] in ("taken", "left") and self.places[where][2][0].startswith(("if", "loop")):
+            rest = [{"taken": "true", "left": "false"}[rest[0]]] + rest[1:]
         callee = self.places[where][3]
         params = self.e["params"].get(callee)
         if rest and rest[0] in ("new", "auto") and params:
@@ -177,7 +191,7 @@ def arguments(text):
     return out
 
 
-PATH = re.compile(rf"(?<![\w'₀-₉.\-])([A-Za-z][\w'₀-₉]*|\([A-Za-z][\w'₀-₉]* [^()]*\)(?=\.))((?:\.{ID})*)(?![\w])")
+PATH = re.compile(rf"(?<![\w'₀-₉.\-])([A-Za-z][\w'₀-₉]*|\([A-Za-z][\w'₀-₉]* (?:[^()]|\((?:[^()]|\([^()]*\))*\))*\)(?=\.))((?:\.{ID})*)(?![\w])")
 
 
 def segments(sig):
@@ -253,7 +267,7 @@ WORDS = {"Read-step": "read-step", "type-inv": "type_inv", "well-formed": "well_
 
 def paths(text, env, f, said, wanted={}, results={}, result=None, defs={}):
     """The text with each path from a record of a place turned; wanted has the places of which a lemma's arguments are records."""
-    env, steps = dict(env), {}
+    env, steps, partials = dict(env), {}, {}
     out, i = [], 0
     for lemma, place in results.items():
         for m in re.finditer(rf"let ([A-Za-z][\w'₀-₉]*) = {re.escape(lemma)} [^\n=]*? in\b", text):
@@ -276,6 +290,10 @@ def paths(text, env, f, said, wanted={}, results={}, result=None, defs={}):
             k = len(segs) - segs[::-1].index("before")
             if segs[:k] == ["before"] * k and segs[k : k + 1] in (["pre"], ["fits"]):
                 segs[k] = {"pre": "requires", "fits": "ranges"}[segs[k]]
+        if v in partials and segs:
+            out.append(text[i : m.start()] + ".".join([v] + f.part(partials[v], segs)))
+            i = m.end()
+            continue
         if steps.get(v) is not None and segs:
             turned = f.parameter(["args"] + segs)[1:] if steps[v] == "args" else f.rest(steps[v], segs)
             out.append(text[i : m.start()] + ".".join([v] + turned))
@@ -318,7 +336,11 @@ def paths(text, env, f, said, wanted={}, results={}, result=None, defs={}):
         elif rest[0] == "requires":
             new = ".".join([v] + rest)
         else:
+            f.partial = None
             got = f.step(p, k, rest[0], rest[1:])
+            lt = re.search(r"let ([A-Za-z][\w'₀-₉]*) = $", text[: m.start()])
+            if f.partial and lt:
+                partials[lt[1]] = f.partial
             if got is None:
                 if k:
                     said.append(f"no step {rest[0]} above {f.names[p]} in {m[0]}")
@@ -417,6 +439,11 @@ def turn(text, f, said):
                     piece = re.sub(rf"tie\.{re.escape(b[1])}(?![\w'\-])", f"tie.{f.names[p]}", piece)
             if env:
                 piece, _ = paths(piece, env, f, said, env_of, results, None, defs)
+                shared = [f.place(b[2]) for b in re.finditer(rf"\(([^():]+) : tie\.({ID})", mod[1]) for _ in b[1].split()]
+                for n in re.findall(r"(?m)^ +(?:(?:pub|abbrev|unfoldable) )*([A-Za-z][\w'₀-₉\-]*) : ", piece):
+                    env_of.setdefault(n, shared)
+                    if defs.get(n) is not None:
+                        results.setdefault(n, defs[n])
                 out.append(piece)
                 continue
         inside = [(b - begin, e - begin, k) for b, e, k in spans if begin <= b and e <= pos]
@@ -454,7 +481,7 @@ def turn(text, f, said):
 
     text = re.sub(r"not-(?:true|false) (?:_|[^\s()]+|\([^()]*\)) ((?:[A-Za-z][\w'₀-₉]*\.)+if-not-[\w.\-']+|\(rw (?:[^()]|\([^()]*\))* at [\w.\-']*if-not-[\w.\-']+\))", tested, text)
     # a signed variable is a number of its own, and an invariant is told its bits
-    text = re.sub(r"to_z w64 ([a-z][\w'₀-₉]*(?:\.[A-Za-z][\w\-']*)+)", r"to_z w64 (of_z w64 \1)", text)
+    text = re.sub(r"to_z w64 ([a-z][\w'₀-₉]*(?:\.[A-Za-z][\w\-']*)+)", lambda m: m[0] if ".result" in m[1] or ".args" in m[1] else f"to_z w64 {m[1]}-bits", text)
     return re.sub(r"\.([a-z]+(?:[-_][a-z]+)+)\b", lambda m: "." + FIELDS.get(m[1], m[1]), text)
 
 

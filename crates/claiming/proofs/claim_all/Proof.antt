@@ -106,22 +106,22 @@ as_long : (n : ℕ) (l rest : List ℤ) → length l ≡ n → n ≡ length (tak
 as_long n l rest e = sym (ap length (front n l rest e) ∙ e)
 
 array_share_prefix_levels : tie.Need-slice_bounds-levels-end-2
-array_share_prefix_levels c = let p = c in reaches (n p) (levels p) _ (levels_long p)
+array_share_prefix_levels c = let p = c in reaches (n p.before.before) (levels p.before.before) _ (levels_long p.before.before)
 
 slice_aggregate_claim_twice : tie.Need-slice_bounds-claim_twice-end
-slice_aggregate_claim_twice c = let p = c in as_long (n p) (levels p) _ (levels_long p)
+slice_aggregate_claim_twice c = let p = c in as_long (n p.before.before.before) (levels p.before.before.before) _ (levels_long p.before.before.before)
 
 array_share_prefix_ms : tie.Need-slice_bounds-ms-end-2
-array_share_prefix_ms c = let p = c in reaches (n p) (ms p) _ (ms_long p)
+array_share_prefix_ms c = let p = c in reaches (n p.before.before.before) (ms p.before.before.before) _ (ms_long p.before.before.before)
 
 slice_aggregate_claim_twice_2 : tie.Need-slice_bounds-claim_twice-end-2
-slice_aggregate_claim_twice_2 c = let p = c in as_long (n p) (ms p) _ (ms_long p)
+slice_aggregate_claim_twice_2 c = let p = c in as_long (n p.before.before.before.before) (ms p.before.before.before.before) _ (ms_long p.before.before.before.before)
 
 claim_twice_requires : tie.Need-claim_twice-requires
 claim_twice_requires c κs =
     let p = c in
-    let q = s p in
-    ((q.pre.0, rw (front (n p) (levels p) _ (levels_long p), front (n p) (ms p) _ (ms_long p)) (filled p)), q.pre.1)
+    let q = s p.before.before.before.before.before.before in
+    ((q.requires.0, rw (front (n p.before.before.before.before.before.before) (levels p.before.before.before.before.before.before) _ (levels_long p.before.before.before.before.before.before), front (n p.before.before.before.before.before.before) (ms p.before.before.before.before.before.before) _ (ms_long p.before.before.before.before.before.before)) (filled p.before.before.before.before.before.before)), q.requires.1)
 
 returns_2 : tie.Need-returns
 returns_2 c = c.claim_twice.ensures

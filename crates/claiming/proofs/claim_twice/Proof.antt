@@ -41,23 +41,23 @@ module _ (q : tie.After-claim_quickly-occupied) where
 returns : tie.Need-returns-then-occupied-ne0
 returns c =
     let q = c in
-    let s = start q in
-    approved_promise (card s) s.args.table.now s.pre.0.0.admitted (exact s) s.pre.1.0
-    (subst (λ (n : ℕ). OwnedTable (placed (card s)) n (cells (card s)) (after q) q.claim_quickly-occupied.result) s.pre.0.0.all_elements
-    (q.claim_quickly-occupied.ensures.0 (omega (arith, c.if-occupied-ne0.true)))) s.pre.0.0.all_elements (kept q)
+    let s = start q.before.before.before in
+    approved_promise (card s) s.args.table.now s.requires.0.0.admitted (exact s) s.requires.1.0
+    (subst (λ (n : ℕ). OwnedTable (placed (card s)) n (cells (card s)) (after q.before.before.before) q.claim_quickly-occupied.result) s.requires.0.0.all_elements
+    (q.claim_quickly-occupied.ensures.0 (omega (arith, c.if-occupied-ne0.true)))) s.requires.0.0.all_elements (kept q.before.before.before)
 
 claim_runs_requires : tie.Need-claim_runs-requires
 claim_runs_requires c κs =
     let q = c in
-    let s = start q in
-    (s.pre.0, (s.pre.1.0, q.claim_quickly-occupied.ensures.1 c.if-occupied-ne0.false))
+    let s = start q.before.before.before.before.before in
+    (s.requires.0, (s.requires.1.0, q.claim_quickly-occupied.ensures.1 c.if-occupied-ne0.false))
 
 returns_2 : tie.Need-returns
 returns_2 c =
     let r = c in
     let q = r in
-    let s = start q in
-    cells_anew (card s) s.args.table.now (after q) s.pre.0.0.admitted (exact s) (kept q) r.claim_runs.ensures
+    let s = start q.before.before.before.before.before.before.before.before.before.before in
+    cells_anew (card s) s.args.table.now (after q.before.before.before.before.before.before.before.before.before.before) s.requires.0.0.admitted (exact s) (kept q.before.before.before.before.before.before.before.before.before.before) r.claim_runs.ensures
 
 pub claim_twice_spec : {M : Type 1} → statement M
 claim_twice_spec =

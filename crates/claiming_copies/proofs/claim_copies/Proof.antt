@@ -56,7 +56,7 @@ module _ (t : tie.In-loop-copy invariant_loop decreases_loop) where
   copy = t.loop-copy.copy
 
   few : copy < copies (card s)
-  few = omega (arith, t.loop-copy-test.taken, s.requires.1.levels_size)
+  few = omega (arith, t.loop-copy-test.true, s.requires.1.levels_size)
 
   size : length t.loop-copy.table ≡ cells (card s)
   size = t.loop-copy.invariant.1 ∙ s.requires.0.0.owned.size
@@ -80,12 +80,12 @@ module _ (c : tie.After-place-1 invariant_loop decreases_loop) where
 
   level_fits : SFits w64 (to_z w64 (of_z w64 (s t).args.start.level) +ℤ to_z w64 (of_z w64 (get_or (s t).args.levels.now (copy t) (pos 0))))
   level_fits =
-      sum_fits (s t).args.start.level (get_or (s t).args.levels.now (copy t) (pos 0)) (record { sfits = (k t).struct-told2.given.0.1 }) (record { sfits = c.place-1.given })
+      sum_fits (s t).args.start.level (get_or (s t).args.levels.now (copy t) (pos 0)) (record { sfits = (k t).struct_told-2-1.given.0.1 }) (record { sfits = c.place-1.given })
       (near t).0 (copies_near t).0
 
   level_back : to_z w64 (of_z w64 (to_z w64 (of_z w64 (s t).args.start.level) +ℤ to_z w64 (of_z w64 (get_or (s t).args.levels.now (copy t) (pos 0))))) ≡ (here t).level
   level_back =
-      sum_back (s t).args.start.level (get_or (s t).args.levels.now (copy t) (pos 0)) (record { sfits = (k t).struct-told2.given.0.1 }) (record { sfits = c.place-1.given })
+      sum_back (s t).args.start.level (get_or (s t).args.levels.now (copy t) (pos 0)) (record { sfits = (k t).struct_told-2-1.given.0.1 }) (record { sfits = c.place-1.given })
       (near t).0 (copies_near t).0
 
 module _ (c : tie.After-place-in-loop-copy-1 invariant_loop decreases_loop) where
@@ -94,12 +94,12 @@ module _ (c : tie.After-place-in-loop-copy-1 invariant_loop decreases_loop) wher
 
   m_fits : SFits w64 (to_z w64 (of_z w64 (s u).args.start.m) +ℤ to_z w64 (of_z w64 (get_or (s u).args.ms.now (copy u) (pos 0))))
   m_fits =
-      sum_fits (s u).args.start.m (get_or (s u).args.ms.now (copy u) (pos 0)) (record { sfits = (k u).struct-told2.given.1.0.1 }) (record { sfits = c.place-in-loop-copy-1.given })
+      sum_fits (s u).args.start.m (get_or (s u).args.ms.now (copy u) (pos 0)) (record { sfits = (k u).struct_told-2-1.given.1.0.1 }) (record { sfits = c.place-in-loop-copy-1.given })
       (near u).1 (copies_near u).1
 
   m_back : to_z w64 (of_z w64 (to_z w64 (of_z w64 (s u).args.start.m) +ℤ to_z w64 (of_z w64 (get_or (s u).args.ms.now (copy u) (pos 0))))) ≡ (here u).m
   m_back =
-      sum_back (s u).args.start.m (get_or (s u).args.ms.now (copy u) (pos 0)) (record { sfits = (k u).struct-told2.given.1.0.1 }) (record { sfits = c.place-in-loop-copy-1.given })
+      sum_back (s u).args.start.m (get_or (s u).args.ms.now (copy u) (pos 0)) (record { sfits = (k u).struct_told-2-1.given.1.0.1 }) (record { sfits = c.place-in-loop-copy-1.given })
       (near u).1 (copies_near u).1
 
 loop_holds : tie.Need-loop-copy-init invariant_loop decreases_loop
@@ -115,12 +115,12 @@ loop_holds c =
 claim_line_requires : tie.Need-claim_line-requires invariant_loop decreases_loop
 claim_line_requires c κs =
     let d = c in
-    let t = u d in
+    let t = u d.before in
     let q = s t in
-    rw (level_back d.before, m_back d)
-    (subst (λ (w : Swizzle). LineThere w (here t) q.args.step q.args.run.first.0 q.args.run.length t.before.loop.table) (sym q.pre.0.2)
-    (line_there q.args.numbers.now q.args.strides.now q.args.start q.args.step q.args.run q.args.table.now q.pre.0.0 q.args.levels.now q.args.ms.now
-    q.pre.1 (copy t) (few t) q.pre.0.1 t.before.loop.table (size t)))
+    rw (level_back d.before.before, m_back d.before)
+    (subst (λ (w : Swizzle). LineThere w (here t) q.args.step q.args.run.first.0 q.args.run.length t.loop-copy.table) (sym q.requires.0.2)
+    (line_there q.args.numbers.now q.args.strides.now q.args.start q.args.step q.args.run q.args.table.now q.requires.0.0 q.args.levels.now q.args.ms.now
+    q.requires.1 (copy t) (few t) q.requires.0.1 t.loop-copy.table (size t)))
 
 -- after a line was claimed
 module _ (r : tie.After-claim_line invariant_loop decreases_loop) where
@@ -140,7 +140,7 @@ module _ (r : tie.After-claim_line invariant_loop decreases_loop) where
       → Lined (line_cell (swizzle_of (s turn).args.numbers.now) (here turn) (s turn).args.step) (λ j. (s turn).args.run.first.0 + j) (s turn).args.run.length turn.loop-copy.table after
   lined yes-it-is =
       let q = s turn in
-      subst (λ (w : Swizzle). Lined (line_cell w (here turn) q.args.step) (λ j. q.args.run.first.0 + j) q.args.run.length turn.loop-copy.table after) q.pre.0.2
+      subst (λ (w : Swizzle). Lined (line_cell w (here turn) q.args.step) (λ j. q.args.run.first.0 + j) q.args.run.length turn.loop-copy.table after) q.requires.0.2
       (rw (level_back e.before, m_back e) at r.claim_line.ensures yes-it-is)
 
 abbrev claimed : tie.Else-not-claim_line invariant_loop decreases_loop → tie.After-claim_line invariant_loop decreases_loop
@@ -149,22 +149,22 @@ claimed c = c.before.before.before
 is_claimed : (c : tie.Else-not-claim_line invariant_loop decreases_loop) → (claimed c).claim_line.result ≡ true
 is_claimed c = c.if-not-claim_line.false
 
-more : (c : tie.Else-not-claim_line invariant_loop decreases_loop) → occupied (after (claimed c)) ≡ occupied (s (turn (claimed c))).args.table.now + ((turn (claimed c)).before.loop.newly + (s (turn (claimed c))).args.run.length)
-more c = omega (arith, (lined (claimed c) (is_claimed c)).counted, (turn (claimed c)).before.loop.invariant.4)
+more : (c : tie.Else-not-claim_line invariant_loop decreases_loop) → occupied (after (claimed c)) ≡ occupied (s (turn (claimed c))).args.table.now + ((turn (claimed c)).loop-copy.newly + (s (turn (claimed c))).args.run.length)
+more c = omega (arith, (lined (claimed c) (is_claimed c)).counted, (turn (claimed c)).loop-copy.invariant.4)
 
-counted : (c : tie.Else-not-claim_line invariant_loop decreases_loop) → (turn (claimed c)).before.loop.newly + (s (turn (claimed c))).args.run.length ≤ cells (card (s (turn (claimed c))))
-counted c = omega (arith, more c, occupied_most (after (claimed c)), kept (claimed c), (s (turn (claimed c))).pre.0.0.owned.size)
+counted : (c : tie.Else-not-claim_line invariant_loop decreases_loop) → (turn (claimed c)).loop-copy.newly + (s (turn (claimed c))).args.run.length ≤ cells (card (s (turn (claimed c))))
+counted c = omega (arith, more c, occupied_most (after (claimed c)), kept (claimed c), (s (turn (claimed c))).requires.0.0.owned.size)
 
 loop_again : tie.Need-loop-copy-preserved invariant_loop decreases_loop
 loop_again c =
     let r = claimed c in
     let t = turn r in
     let q = s t in
-    let l = t.before.loop in (
-      omega (arith, t.loop-test.taken),
+    let l = t.loop-copy in (
+      omega (arith, t.loop-copy-test.true),
       kept r,
-      copies_more q.args.numbers.now q.args.strides.now q.args.start q.args.step q.args.run q.args.table.now q.pre.0.0 q.args.levels.now q.args.ms.now
-          q.pre.1 (copy t) (few t) l.table (after r) l.invariant.2 (lined r (is_claimed c)),
+      copies_more q.args.numbers.now q.args.strides.now q.args.start q.args.step q.args.run q.args.table.now q.requires.0.0 q.args.levels.now q.args.ms.now
+          q.requires.1 (copy t) (few t) l.table (after r) l.invariant.2 (lined r (is_claimed c)),
       omega (arith, l.invariant.3, add-mul l.copy 1 q.args.run.length),
       more c,
     )
@@ -181,8 +181,8 @@ pub claim_copies_spec : {M : Type 1} → statement M
 claim_copies_spec =
     tie.close
     (tie.spec invariant_loop decreases_loop loop_holds (λ c. omega arith) (λ c. c.loop-copy-test.true) level_fits
-    (λ c. omega arith) (λ c. omega (arith, few c.before, (s c.before).pre.1.ms_size)) m_fits claim_line_requires
+    (λ c. omega arith) (λ c. omega (arith, few c.before, (s c.before).requires.1.ms_size)) m_fits claim_line_requires
     (λ c. kept c.before.before.before) (λ c some. absurd (omega arith))
-    (λ c. omega (arith, counted c, (sized (card (s (turn (claimed c)))) (s (turn (claimed c))).pre.0.0.admits.admitted).most_cells_lem))
-    (λ c. omega (arith, (turn (claimed c)).loop-test.taken)) (λ c. omega (arith, (turn (claimed c)).loop-test.taken))
+    (λ c. omega (arith, counted c, (sized (card (s (turn (claimed c)))) (s (turn (claimed c))).requires.0.0.admits.admitted).most_cells_lem))
+    (λ c. omega (arith, (turn (claimed c)).loop-copy-test.true)) (λ c. omega (arith, (turn (claimed c)).loop-copy-test.true))
     loop_again (λ c. c.loop-copy.invariant.1) returns_2)

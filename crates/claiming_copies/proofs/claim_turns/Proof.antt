@@ -60,7 +60,7 @@ module _ (t : tie.In-loop-first invariant_loop decreases_loop) where
   by = subst (RunsBy (card s)) (sym s.requires.1.long_is) (runs_by_run (card s) s.requires.0.0.admits.admitted s.requires.0.2)
 
   an_element : t.loop-first.first < elements (card s)
-  an_element = omega (arith, t.loop-first-test.taken, s.requires.0.0.all_elements)
+  an_element = omega (arith, t.loop-first-test.true, s.requires.0.0.all_elements)
 
   end : t.loop-first.first + many ≤ elements (card s)
   end = run_end s.args.numbers.now s.args.strides.now many t.loop-first.invariant.0 by t.loop-first.invariant.1 an_element
@@ -71,7 +71,7 @@ module _ (t : tie.In-loop-first invariant_loop decreases_loop) where
   begins : Adds (slice 32 40 s.args.numbers.now) (base (card s) t.loop-first.first) t.loop-first.start
   begins =
       let l = t.loop-first in
-      subst (λ (f : ℕ). Adds (slice 32 40 s.args.numbers.now) (base (card s) f) l.start) (l.invariant.6 t.loop-first-test.taken)
+      subst (λ (f : ℕ). Adds (slice 32 40 s.args.numbers.now) (base (card s) f) l.start) (l.invariant.6 t.loop-first-test.true)
       (place_of s.args.numbers.now s.args.strides.now s.requires.0.0.admits l.digits l.start l.invariant.4)
 
   runs : Running s.args.numbers.now s.args.strides.now t.loop-first.start s.args.step (record { first = record { 0 = t.loop-first.first }; length = many }) t.loop-first.table
@@ -95,7 +95,7 @@ loop_holds c =
 claim_copies_requires : tie.Need-claim_copies-claimed-requires invariant_loop decreases_loop
 claim_copies_requires c κs =
     let t = c in
-    ((runs t, (by t).some, (s t).requires.1.swizzles), (s t).requires.0.1)
+    ((runs t.before, (by t.before).some, (s t.before).requires.1.swizzles), (s t.before).requires.0.1)
 
 -- after a run was claimed
 module _ (r : tie.After-claim_copies-claimed invariant_loop decreases_loop) where
@@ -112,35 +112,35 @@ abbrev claimed : tie.Else-claimed-eq0 invariant_loop decreases_loop → tie.Afte
 claimed c = c.before.before.before
 
 owned : (c : tie.Else-claimed-eq0 invariant_loop decreases_loop) → let t = turn (claimed c) in
-    OwnedTable (placed (card (s t))) (t.before.loop.first + many t) (cells (card (s t))) (after (claimed c)) (t.before.loop.occupied + (claimed c).claim_copies-claimed.result)
+    OwnedTable (placed (card (s t))) (t.loop-first.first + many t) (cells (card (s t))) (after (claimed c)) (t.loop-first.occupied + (claimed c).claim_copies-claimed.result)
 owned c =
     let r = claimed c in
     let t = turn r in
-    owned_as (card (s t)) refl (omega (arith, t.before.loop.invariant.3.counted)) (r.claim_copies-claimed.ensures (omega (arith, c.if-claimed-eq0.false)))
+    owned_as (card (s t)) refl (omega (arith, t.loop-first.invariant.3.counted)) (r.claim_copies-claimed.ensures (omega (arith, c.if-claimed-eq0.false)))
 
 turn_requires : tie.Need-turn-start-requires invariant_loop decreases_loop
 turn_requires c κs =
     let t = turn (claimed c.before) in
     let a = (s t).args in
-    let l = t.before.loop in
-    turnable a.numbers.now a.strides.now (s t).pre.0.0.admits a.from a.lifts.now a.moves.now l.digits l.start
-    (s t).pre.1.slower.most l.invariant.5 (s t).pre.1.ways l.invariant.4
+    let l = t.loop-first in
+    turnable a.numbers.now a.strides.now (s t).requires.0.0.admits a.from a.lifts.now a.moves.now l.digits l.start
+    (s t).requires.1.slower.most l.invariant.5 (s t).requires.1.ways l.invariant.4
 
 loop_again : tie.Need-loop-first-preserved invariant_loop decreases_loop
 loop_again c =
     let e = c in
     let t = turn (claimed e.before.before) in
-    let l = t.before.loop in
+    let l = t.loop-first in
     let its = shard_iters (s t).args.numbers.now (s t).args.strides.now in
-    let run_is : size_from (s t).args.from its ≡ many t = (s t).pre.1.slower.a_run ∙ sym (s t).pre.1.long_is in
-    let here = l.invariant.6 t.loop-test.taken in (
+    let run_is : size_from (s t).args.from its ≡ many t = (s t).requires.1.slower.a_run ∙ sym (s t).requires.1.long_is in
+    let here = l.invariant.6 t.loop-first-test.true in (
       l.invariant.0 + 1,
       next t,
-      omega (arith, end t, (s t).pre.0.0.all_elements),
+      omega (arith, end t, (s t).requires.0.0.all_elements),
       owned e.before.before,
       c.turn-start.ensures.there,
       c.turn-start.ensures.size ∙ l.invariant.5,
-      λ some. c.turn-start.ensures.next (omega (arith, here, run_is, some, (s t).pre.0.0.all_elements)) ∙ omega (arith, here, run_is),
+      λ some. c.turn-start.ensures.next (omega (arith, here, run_is, some, (s t).requires.0.0.all_elements)) ∙ omega (arith, here, run_is),
     )
 
 returns_2 : tie.Need-returns invariant_loop decreases_loop
@@ -155,7 +155,7 @@ claim_turns_spec =
     tie.close
     (tie.spec invariant_loop decreases_loop (λ c κs. c.requires.0.0.admits) loop_holds claim_copies_requires
     (λ c. kept c.before.before.before ∙ sym (exact (s (turn c.before.before.before)))) (λ c some. absurd (omega arith))
-    (λ c. omega (arith, (owned c).counted, occupied_most (after (claimed c)), kept (claimed c), (sized (card (s (turn (claimed c)))) (s (turn (claimed c))).pre.0.0.admits.admitted).most_cells_lem))
-    (λ c. omega (arith, end (turn (claimed c)), (sized (card (s (turn (claimed c)))) (s (turn (claimed c))).pre.0.0.admits.admitted).most_elements_lem)) turn_requires
-    (λ c. omega (arith, (by (turn (claimed c.before.before))).some, (turn (claimed c.before.before)).loop-test.taken))
+    (λ c. omega (arith, (owned c).counted, occupied_most (after (claimed c)), kept (claimed c), (sized (card (s (turn (claimed c)))) (s (turn (claimed c))).requires.0.0.admits.admitted).most_cells_lem))
+    (λ c. omega (arith, end (turn (claimed c)), (sized (card (s (turn (claimed c)))) (s (turn (claimed c))).requires.0.0.admits.admitted).most_elements_lem)) turn_requires
+    (λ c. omega (arith, (by (turn (claimed c.before.before))).some, (turn (claimed c.before.before)).loop-first-test.true))
     loop_again (λ c. c.loop-first.invariant.3.size ∙ sym (exact (before c.before.before))) returns_2)

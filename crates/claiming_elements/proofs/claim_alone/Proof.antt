@@ -46,7 +46,7 @@ claim_single_requires c κs =
     let b = c in
     let w = b in
     let s = w in
-    (record { admits = s.requires.admits; claimable = claimable s; begins = b.begin-place.ensures }, s.requires.one_copy, w.swizzle_of-by.ensures)
+    (record { admits = s.requires.admits; claimable = claimable s.before.before.before.before; begins = b.begin-place.ensures }, s.requires.one_copy, w.swizzle_of-by.ensures)
 
 returns : tie.Need-returns
 returns c =
@@ -54,10 +54,10 @@ returns c =
     let s = k in
     let claim = k.claim_single.ensures in
     let newly = k.claim_single.result in
-    let some : 0 < newly = elim (ℕ_discrete newly 0) [ yes e ↦ absurd (omega (arith, (claim.met e).0, free s)) | no e ↦ omega arith ] in
-    owned_as (card s) refl (omega arith)
-    (claims_more (card s) 0 newly 0 (none_so_far s) (leads s) claim (row_ready (card s) 0 s.args.table.now s.requires.admits.admitted (claimable s) refl).within
-    (k.claim_single.auto.table ∙ cleared_size (card s) s.requires.cleared) some)
+    let some : 0 < newly = elim (ℕ_discrete newly 0) [ yes e ↦ absurd (omega (arith, (claim.met e).0, free s.before.before.before.before.before.before.before)) | no e ↦ omega arith ] in
+    owned_as (card s.before.before.before.before.before.before.before) refl (omega arith)
+    (claims_more (card s.before.before.before.before.before.before.before) 0 newly 0 (none_so_far s.before.before.before.before.before.before.before) (leads s.before.before.before.before.before.before.before) claim (row_ready (card s.before.before.before.before.before.before.before) 0 s.args.table.now s.requires.admits.admitted (claimable s.before.before.before.before.before.before.before) refl).within
+    (k.claim_single.auto.table ∙ cleared_size (card s.before.before.before.before.before.before.before) s.requires.cleared) some)
 
 pub claim_alone_spec : {M : Type 1} → statement M
 claim_alone_spec =

@@ -81,10 +81,10 @@ module _ (t : tie.In-loop-done invariant_loop decreases_loop) where
   flat = s.args.run.first.0 + t.loop-done.done
 
   below : t.loop-done.done < s.args.run.length
-  below = t.loop-done-test.taken
+  below = t.loop-done-test.true
 
   abbrev here : LevelAndM
-  here = record { level = to_z w64 (of_z w64 t.loop-done.level); m = to_z w64 (of_z w64 t.loop-done.m) }
+  here = record { level = to_z w64 t.loop-done.level-bits; m = to_z w64 t.loop-done.m-bits }
 
   begins : Adds (slice 32 40 s.args.numbers.now) (base (card s) flat) here
   begins =
@@ -119,8 +119,8 @@ loop_holds c =
 claim_element_requires : tie.Need-claim_element-newly-requires invariant_loop decreases_loop
 claim_element_requires c κs =
     let t = c in
-    let p = (s t).requires in
-    ((record { admits = p.0.admits; claimable = claimable t; begins = begins t }, (k t).before.before.before.before.swizzle-of.ensures), record { adds = p.1.adds; one_each = t.loop-done.invariant.1 ∙ p.1.one_each })
+    let p = (s t.before.before).requires in
+    ((record { admits = p.0.admits; claimable = claimable t.before.before; begins = begins t.before.before }, (k t.before.before).swizzle_of-by.ensures), record { adds = p.1.adds; one_each = t.loop-done.invariant.1 ∙ p.1.one_each })
 
 -- after an element was claimed or not
 module _ (m : tie.After-claim_element-newly invariant_loop decreases_loop) where
@@ -139,7 +139,7 @@ module _ (m : tie.After-claim_element-newly invariant_loop decreases_loop) where
   more : 0 < m.claim_element-newly.result → OwnedTable (placed (card (s turn))) (flat turn + 1) (cells (card (s turn))) after (count + m.claim_element-newly.result)
   more h =
       claims_more (card (s turn)) (flat turn) m.claim_element-newly.result count turn.loop-done.invariant.2 (claimable turn).leads m.claim_element-newly.ensures
-      (row_ready (card (s turn)) (flat turn) turn.loop-done.table (s turn).pre.0.admits.admitted (claimable turn) refl).within size h
+      (row_ready (card (s turn)) (flat turn) turn.loop-done.table (s turn).requires.0.admits.admitted (claimable turn) refl).within size h
 
   met : m.claim_element-newly.result ≡ 0 → (0 < entry_met after (copy_cells (card (s turn)) (flat turn))) × (after ≡ turn.loop-done.table)
   met = claims_met (card (s turn)) (flat turn) m.claim_element-newly.result count turn.loop-done.invariant.2 (claimable turn).leads m.claim_element-newly.ensures
@@ -147,17 +147,17 @@ module _ (m : tie.After-claim_element-newly invariant_loop decreases_loop) where
   counted : count + m.claim_element-newly.result ≤ cells (card (s turn))
   counted = claims_count (card (s turn)) (flat turn) m.claim_element-newly.result count turn.loop-done.invariant.2 (claimable turn).leads m.claim_element-newly.ensures size
 
-  level_fits : SFits w64 (to_z w64 (of_z w64 turn.loop-done.level) +ℤ to_z w64 (of_z w64 (s turn).args.step.level))
+  level_fits : SFits w64 (to_z w64 turn.loop-done.level-bits +ℤ to_z w64 (of_z w64 (s turn).args.step.level))
   level_fits =
-      step_fits (to_z w64 (of_z w64 turn.loop-done.level)) (to_z w64 (of_z w64 (s turn).args.step.level))
-      (omega (arith, (base_near (s turn).args.numbers.now (s turn).args.strides.now (s turn).pre.0.admits (flat turn) (begins turn)).0))
-      (rw (level_step_back (k turn)) (s turn).pre.0.near.0)
+      step_fits (to_z w64 turn.loop-done.level-bits) (to_z w64 (of_z w64 (s turn).args.step.level))
+      (omega (arith, (base_near (s turn).args.numbers.now (s turn).args.strides.now (s turn).requires.0.admits (flat turn) (begins turn)).0))
+      (rw (level_step_back (k turn)) (s turn).requires.0.near.0)
 
-  m_fits : SFits w64 (to_z w64 (of_z w64 turn.loop-done.m) +ℤ to_z w64 (of_z w64 (s turn).args.step.m))
+  m_fits : SFits w64 (to_z w64 turn.loop-done.m-bits +ℤ to_z w64 (of_z w64 (s turn).args.step.m))
   m_fits =
-      step_fits (to_z w64 (of_z w64 turn.loop-done.m)) (to_z w64 (of_z w64 (s turn).args.step.m))
-      (omega (arith, (base_near (s turn).args.numbers.now (s turn).args.strides.now (s turn).pre.0.admits (flat turn) (begins turn)).1))
-      (rw (m_step_back (k turn)) (s turn).pre.0.near.1)
+      step_fits (to_z w64 turn.loop-done.m-bits) (to_z w64 (of_z w64 (s turn).args.step.m))
+      (omega (arith, (base_near (s turn).args.numbers.now (s turn).args.strides.now (s turn).requires.0.admits (flat turn) (begins turn)).1))
+      (rw (m_step_back (k turn)) (s turn).requires.0.near.1)
 
 abbrev claimed : tie.Else-newly-eq0 invariant_loop decreases_loop → tie.After-claim_element-newly invariant_loop decreases_loop
 claimed c = c.before.before.before.before.before
@@ -165,21 +165,21 @@ claimed c = c.before.before.before.before.before
 returns : tie.Need-returns-then-newly-eq0 invariant_loop decreases_loop
 returns c =
     let d = c in
-    let none = met d c.if-newly-eq0.true in
-    record { most = omega (arith, below (turn d)); owned = rw none.1 (turn d).before.loop.invariant.2; met = λ h. none.0 }
+    let none = met d.before.before.before.before.before c.if-newly-eq0.true in
+    record { most = omega (arith, below (turn d.before.before.before.before.before)); owned = rw none.1 (turn d.before.before.before.before.before).loop-done.invariant.2; met = λ h. none.0 }
 
 loop_again : tie.Need-loop-done-preserved invariant_loop decreases_loop
 loop_again c =
     let d = claimed c in
-    let l = (turn d).before.loop in
+    let l = (turn d).loop-done in
     let q = k (turn d) in
     let bits : ℤ → ℤ = λ z. to_z w64 (of_z w64 z) in
     let some : 0 < d.claim_element-newly.result = omega (arith, c.if-newly-eq0.false) in (
       omega (arith, below (turn d)),
       d.claim_element-newly.kept.1.1.1.1.1.1.1.0 ∙ l.invariant.1,
       owned_as (card (s (turn d))) (omega arith) (omega arith) (more d some),
-      to_z-of_z (level_fits d) ∙ stepped (bits (a q).level) (bits (b q).level) (to_z w64 (of_z w64 l.level)) l.done l.invariant.3,
-      to_z-of_z (m_fits d) ∙ stepped (bits (a q).m) (bits (b q).m) (to_z w64 (of_z w64 l.m)) l.done l.invariant.4,
+      to_z-of_z (level_fits d) ∙ stepped (bits (a q).level) (bits (b q).level) (to_z w64 l.level-bits) l.done l.invariant.3,
+      to_z-of_z (m_fits d) ∙ stepped (bits (a q).m) (bits (b q).m) (to_z w64 l.m-bits) l.done l.invariant.4,
     )
 
 returns_2 : tie.Need-returns invariant_loop decreases_loop
@@ -194,9 +194,9 @@ claim_run_spec =
     tie.close
     (tie.spec invariant_loop decreases_loop (λ c κs. c.requires.0.admits.whole.all_numbers) loop_holds
     (λ c. omega (arith, (claimable c).element, (sized (card (s c)) (s c).requires.0.admits.admitted).most_elements_lem)) claim_element_requires
-    (λ c. let d = c in d.claim_element-newly.auto.row ∙ (turn d).before.loop.invariant.1)
-    (λ c. let d = c in size d ∙ sym (s (turn d)).pre.0.owned.size)
-    returns (λ c. omega (arith, counted (claimed c), (sized (card (s (turn (claimed c)))) (s (turn (claimed c))).pre.0.admits.admitted).most_cells_lem))
+    (λ c. let d = c in d.claim_element-newly.auto.row ∙ (turn d.before.before.before.before.before).loop-done.invariant.1)
+    (λ c. let d = c in size d.before.before.before.before.before ∙ sym (s (turn d.before.before.before.before.before)).requires.0.owned.size)
+    returns (λ c. omega (arith, counted (claimed c), (sized (card (s (turn (claimed c)))) (s (turn (claimed c))).requires.0.admits.admitted).most_cells_lem))
     (λ c. level_fits (claimed c)) (λ c. m_fits (claimed c))
-    (λ c. omega (arith, (claimable (turn (claimed c))).element, (sized (card (s (turn (claimed c)))) (s (turn (claimed c))).pre.0.admits.admitted).most_elements_lem)) (λ c. omega (arith, below (turn (claimed c))))
+    (λ c. omega (arith, (claimable (turn (claimed c))).element, (sized (card (s (turn (claimed c)))) (s (turn (claimed c))).requires.0.admits.admitted).most_elements_lem)) (λ c. omega (arith, below (turn (claimed c))))
     loop_again (λ c. c.loop-done.invariant.1) (λ c. c.loop-done.invariant.2.size ∙ sym (start c.before.before).requires.0.owned.size) returns_2)

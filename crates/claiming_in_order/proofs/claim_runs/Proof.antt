@@ -55,7 +55,7 @@ module _ (t : tie.In-loop-flat invariant_loop decreases_loop) where
   by = t.run_length-length.ensures
 
   an_element : t.loop-flat.flat < elements (card s)
-  an_element = omega (arith, t.loop-flat-test.taken, s.requires.0.0.all_elements)
+  an_element = omega (arith, t.loop-flat-test.true, s.requires.0.0.all_elements)
 
   end : t.loop-flat.flat + many ≤ elements (card s)
   end = run_end s.args.numbers.now s.args.strides.now many t.loop-flat.invariant.0 by t.loop-flat.invariant.1 an_element
@@ -64,19 +64,19 @@ module _ (t : tie.In-loop-flat invariant_loop decreases_loop) where
   next = run_next s.args.numbers.now s.args.strides.now many t.loop-flat.invariant.0 by t.loop-flat.invariant.1
 
 -- a run whose first element leads
-led : (i : tie.Then-leads invariant_loop decreases_loop) → let t = i in leader (card (s t)) t.loop-flat.flat ≡ t.loop-flat.flat
+led : (i : tie.Then-leads invariant_loop decreases_loop) → let t = i in leader (card (s t.before.before)) t.loop-flat.flat ≡ t.loop-flat.flat
 led i =
     let t = i in
-    eqb-true (leader (card (s t)) t.loop-flat.flat) t.loop-flat.flat (sym (i.leads.ensures (s t).args.strides.now) ∙ i.if-leads.true)
+    eqb-true (leader (card (s t.before.before)) t.loop-flat.flat) t.loop-flat.flat (sym (i.leads.ensures (s t.before.before).args.strides.now) ∙ i.if-leads.true)
 
 runs : (b : tie.After-begin-start invariant_loop decreases_loop) → let t = b in
-    Running (s t).args.numbers.now (s t).args.strides.now b.begin-start.result t.added-step.result
-    (record { first = record { 0 = t.loop-flat.flat }; length = many t }) t.loop-flat.table
+    Running (s t.before.before.before).args.numbers.now (s t.before.before.before).args.strides.now b.begin-start.result t.added-step.result
+    (record { first = record { 0 = t.loop-flat.flat }; length = many t.before.before.before }) t.loop-flat.table
 runs b =
     let t = b in
     let l = t.loop-flat in
-    running (s t).args.numbers.now (s t).args.strides.now (admits (s t).requires.0.0) (s t).requires.1.0 (many t) l.invariant.0 (by t) t.added-step.ensures
-    l.flat l.invariant.1 (an_element t) (led b.before) b.begin-start.ensures (owned_as (card (s t)) refl l.invariant.4.counted l.invariant.4)
+    running (s t.before.before.before).args.numbers.now (s t.before.before.before).args.strides.now (admits (s t.before.before.before).requires.0.0) (s t.before.before.before).requires.1.0 (many t.before.before.before) l.invariant.0 (by t.before.before.before) t.added-step.ensures
+    l.flat l.invariant.1 (an_element t.before.before.before) (led b.before) b.begin-start.ensures (owned_as (card (s t.before.before.before)) refl l.invariant.4.counted l.invariant.4)
 
 -- after a run was claimed
 module _ (r : tie.After-claim_run-claimed invariant_loop decreases_loop) where
@@ -98,7 +98,7 @@ module _ (r : tie.After-claim_run-claimed invariant_loop decreases_loop) where
   -- the element that was not claimed
   claimable : claimed < many turn → Claimable (card (s turn)) (turn.loop-flat.flat + claimed) after
   claimable h = record {
-    inside = (s turn).pre.1.0;
+    inside = (s turn).requires.1.0;
     element = (runs start).element claimed h;
     leads = (runs start).leads claimed h;
     size = size;
@@ -135,13 +135,13 @@ claim_run_requires : tie.Need-claim_run-claimed-requires invariant_loop decrease
 claim_run_requires c κs =
     let b = c in
     let t = b in
-    (runs b.before.before, record { adds = (s t).requires.0.1.adds; one_each = t.loop-flat.invariant.3 ∙ (s t).requires.0.1.one_each })
+    (runs b.before.before, record { adds = (s t.before.before.before.before.before).requires.0.1.adds; one_each = t.loop-flat.invariant.3 ∙ (s t.before.before.before.before.before).requires.0.1.one_each })
 
 refuse_clash_requires : tie.Need-refuse_clash-requires invariant_loop decreases_loop
 refuse_clash_requires c κs =
     let m = c in
     let r = met_run m.before.before in
-    let p = (s (turn r)).pre in
+    let p = (s (turn r)).requires in
     record {
       admits = admits p.0.0;
       one_each = kept r ∙ p.0.0.one_each;
@@ -156,10 +156,10 @@ returns c =
     let r = met_run m.before.before.before.before.before.before.before in
     let short = m.if-claimed-length.true in
     let q = s (turn r) in
-    let flat = (turn r).before.loop.flat + claimed r in
+    let flat = (turn r).loop-flat.flat + claimed r in
     let k = claimable r short in
-    clash_promise (card q) q.args.table.now q.pre.0.0.admitted (exact q) q.pre.1.0 (after r) (copy_cells (card q) flat) (record { 0 = flat })
-    (claims_clash (card q) flat (occupied (turn r).before.loop.table + r.claim_run-claimed.result.cells) r.claim_run-claimed.ensures.owned k.leads k.element
+    clash_promise (card q) q.args.table.now q.requires.0.0.admitted (exact q) q.requires.1.0 (after r) (copy_cells (card q) flat) (record { 0 = flat })
+    (claims_clash (card q) flat (occupied (turn r).loop-flat.table + r.claim_run-claimed.result.cells) r.claim_run-claimed.ensures.owned k.leads k.element
     (r.claim_run-claimed.ensures.met short))
     f.refuse_clash.ensures.0 (f.refuse_clash.ensures.1 ∙ ap (λ (n : ℕ). replicate n 0) (size r))
 
@@ -167,11 +167,11 @@ loop_again : tie.Need-loop-flat-preserved-then-leads invariant_loop decreases_lo
 loop_again c =
     let r = claimed_run c in
     let t = turn r in
-    let l = t.before.loop in
+    let l = t.loop-flat in
     let whole : claimed r ≡ many t = omega (arith, r.claim_run-claimed.ensures.most, c.if-claimed-length.false) in (
       l.invariant.0 + 1,
       next t,
-      omega (arith, end t, (s t).pre.0.0.all_elements),
+      omega (arith, end t, (s t).requires.0.0.all_elements),
       kept r,
       owned_as (card (s t)) (ap (λ (n : ℕ). l.flat + n) whole) (omega (arith, l.invariant.4.counted)) r.claim_run-claimed.ensures.owned,
     )
@@ -181,14 +181,14 @@ loop_again_2 : tie.Need-loop-flat-preserved invariant_loop decreases_loop
 loop_again_2 c =
     let t = c in
     let l = t.loop-flat in
-    let follows : leader (card (s t)) l.flat ≡ l.flat → ⊥ =
-    λ e. true≢false (sym (eq-eqb (leader (card (s t)) l.flat) l.flat e) ∙ sym (c.leads.ensures (s t).args.strides.now) ∙ c.if-leads.false) in
-    let alone : many t ≡ 1 = (by t).alone l.invariant.0 (omega (arith, l.invariant.1, an_element t)) (λ e. follows (rw l.invariant.1 e)) in (
+    let follows : leader (card (s t.before.before)) l.flat ≡ l.flat → ⊥ =
+    λ e. true≢false (sym (eq-eqb (leader (card (s t.before.before)) l.flat) l.flat e) ∙ sym (c.leads.ensures (s t.before.before).args.strides.now) ∙ c.if-leads.false) in
+    let alone : many t.before.before ≡ 1 = (by t.before.before).alone l.invariant.0 (omega (arith, l.invariant.1, an_element t.before.before)) (λ e. follows (rw l.invariant.1 e)) in (
       l.invariant.0 + 1,
-      next t,
-      omega (arith, end t, (s t).requires.0.0.all_elements),
+      next t.before.before,
+      omega (arith, end t.before.before, (s t.before.before).requires.0.0.all_elements),
       l.invariant.3,
-      owned_as (card (s t)) (omega arith) refl (claims_follow (card (s t)) l.flat l.occupied follows l.invariant.4),
+      owned_as (card (s t.before.before)) (omega arith) refl (claims_follow (card (s t.before.before)) l.flat l.occupied follows l.invariant.4),
     )
 
 returns_2 : tie.Need-returns invariant_loop decreases_loop
@@ -206,12 +206,12 @@ pub claim_runs_spec : {M : Type 1} → statement M
 claim_runs_spec =
     tie.close
     (tie.spec invariant_loop decreases_loop (λ c κs. listed c.requires.0.0) run_length_requires added_requires loop_holds (λ c. omega (arith, end c, small c)) leads_requires
-    (λ c κs. admits (s c.before.before).pre.0.0) claim_run_requires
+    (λ c κs. admits (s c.before.before).requires.0.0) claim_run_requires
     (λ c. omega (arith, end (turn (met_run c)), small (turn (met_run c)), c.if-claimed-length.true)) refuse_clash_requires
     (λ c. let f = c in f.refuse_clash.auto.row ∙ kept (met_run f.before.before.before.before.before.before.before))
     (λ c. let f = c in let r = met_run f.before.before.before.before.before.before.before in f.refuse_clash.auto.table ∙ size r ∙ sym (exact (s (turn r))))
     returns
-    (λ c. omega (arith, counted (claimed_run c), (sized (card (s (turn (claimed_run c)))) (admits (s (turn (claimed_run c))).pre.0.0).admitted).most_cells_lem))
-    (λ c. omega (arith, (by (turn (claimed_run c))).some, (turn (claimed_run c)).loop-test.taken)) loop_again
+    (λ c. omega (arith, counted (claimed_run c), (sized (card (s (turn (claimed_run c)))) (admits (s (turn (claimed_run c))).requires.0.0).admitted).most_cells_lem))
+    (λ c. omega (arith, (by (turn (claimed_run c))).some, (turn (claimed_run c)).loop-flat-test.true)) loop_again
     (λ c. omega (arith, (by c.before.before).some, c.loop-flat-test.true)) loop_again_2
     (λ c. c.loop-flat.invariant.3) (λ c. c.loop-flat.invariant.4.size ∙ sym (exact (before c.before.before))) returns_2)

@@ -70,11 +70,11 @@ module _ (t : tie.In-loop-done invariant_loop decreases_loop) where
   abbrev done : ℕ
   done = t.loop-done.done
 
-  level_fits : SFits w64 (to_z w64 (of_z w64 t.loop-done.level) +ℤ (step k).level)
-  level_fits = step_fits (to_z w64 (of_z w64 t.loop-done.level)) (step k).level (rw t.loop-done.invariant.2 ((there k).near done t.loop-done-test.taken).0) (there k).step_near.0
+  level_fits : SFits w64 (to_z w64 t.loop-done.level-bits +ℤ (step k).level)
+  level_fits = step_fits (to_z w64 t.loop-done.level-bits) (step k).level (rw t.loop-done.invariant.2 ((there k).near done t.loop-done-test.true).0) (there k).step_near.0
 
-  m_fits : SFits w64 (to_z w64 (of_z w64 t.loop-done.m) +ℤ (step k).m)
-  m_fits = step_fits (to_z w64 (of_z w64 t.loop-done.m)) (step k).m (rw t.loop-done.invariant.3 ((there k).near done t.loop-done-test.taken).1) (there k).step_near.1
+  m_fits : SFits w64 (to_z w64 t.loop-done.m-bits +ℤ (step k).m)
+  m_fits = step_fits (to_z w64 t.loop-done.m-bits) (step k).m (rw t.loop-done.invariant.3 ((there k).near done t.loop-done-test.true).1) (there k).step_near.1
 
 loop_holds : tie.Need-loop-done-init invariant_loop decreases_loop
 loop_holds c = (
@@ -101,10 +101,10 @@ module _ (f : tie.After-cell_at-cell invariant_loop decreases_loop) where
       cell_found (s q).args.by (start q) (step q) (s q).args.first (done turn) (s q).args.table.now l.table l.invariant.1 l.invariant.2 l.invariant.3 f.cell_at-cell.ensures
 
   here : f.cell_at-cell.result.0 < length turn.loop-done.table
-  here = omega (arith, found, turn.loop-done.invariant.1.size, (there q).inside (done turn) turn.loop-done-test.taken)
+  here = omega (arith, found, turn.loop-done.invariant.1.size, (there q).inside (done turn) turn.loop-done-test.true)
 
   few : (s q).args.first + done turn + 2 < 2 ^ 32 + 1
-  few = omega (arith, (there q).small, turn.loop-done-test.taken)
+  few = omega (arith, (there q).small, turn.loop-done-test.true)
 
 abbrev at : tie.Else-table-cell-ne0 invariant_loop decreases_loop → tie.After-cell_at-cell invariant_loop decreases_loop
 at c = c.before.before
@@ -113,31 +113,31 @@ loop_again : tie.Need-loop-done-preserved invariant_loop decreases_loop
 loop_again c =
     let f = at c in
     let t = turn f in
-    let l = t.before.loop in
+    let l = t.loop-done in
     let d = q f in (
-      omega (arith, t.loop-test.taken),
+      omega (arith, t.loop-done-test.true),
       line_more (s d).args.by (start d) (step d) (s d).args.first (done t) (s d).args.table.now l.table l.invariant.1 (found f) (omega arith) (here f) c.if-table-cell-ne0.false,
-      to_z-of_z (level_fits t) ∙ stepped (start d).level (step d).level (to_z w64 (of_z w64 l.level)) l.done l.invariant.2,
-      to_z-of_z (m_fits t) ∙ stepped (start d).m (step d).m (to_z w64 (of_z w64 l.m)) l.done l.invariant.3,
+      to_z-of_z (level_fits t) ∙ stepped (start d).level (step d).level (to_z w64 l.level-bits) l.done l.invariant.2,
+      to_z-of_z (m_fits t) ∙ stepped (start d).m (step d).m (to_z w64 l.m-bits) l.done l.invariant.3,
     )
 
 returns_2 : tie.Need-returns invariant_loop decreases_loop
 returns_2 c e =
     let l = c.loop-done in
     let d = c in
-    let a = (s d).args in
+    let a = (s d.before.before).args in
     let end : l.done ≡ a.many = omega arith in
-    subst (λ (p : LevelAndM). Lined (line_cell a.by p a.step) (λ j. a.first + j) a.many a.table.now l.table) (start_is d)
-    (subst (λ (p : LevelAndM). Lined (line_cell a.by (start d) p) (λ j. a.first + j) a.many a.table.now l.table) (step_is d)
-    (subst (λ (n : ℕ). Lined (line_cell a.by (start d) (step d)) (λ j. a.first + j) n a.table.now l.table) end l.invariant.1))
+    subst (λ (p : LevelAndM). Lined (line_cell a.by p a.step) (λ j. a.first + j) a.many a.table.now l.table) (start_is d.before.before)
+    (subst (λ (p : LevelAndM). Lined (line_cell a.by (start d.before.before) p) (λ j. a.first + j) a.many a.table.now l.table) (step_is d.before.before)
+    (subst (λ (n : ℕ). Lined (line_cell a.by (start d.before.before) (step d.before.before)) (λ j. a.first + j) n a.table.now l.table) end l.invariant.1))
 
 pub claim_cells_spec : {M : Type 1} → statement M
 claim_cells_spec =
     tie.close
     (tie.spec invariant_loop decreases_loop loop_holds cell_at_requires
     (λ c. omega (arith, here c)) (λ c. here c.before)
-    (λ c. (turn c.before.before).before.loop.invariant.1.size) (λ c e. absurd (true≢false (sym e)))
+    (λ c. (turn c.before.before).loop-done.invariant.1.size) (λ c e. absurd (true≢false (sym e)))
     (λ c. omega (arith, few (at c))) (λ c. omega (arith, few (at c))) (λ c. omega (arith, few (at c)))
     (λ c. omega (arith, here (at c))) (λ c. here (at c))
-    (λ c. level_fits (turn (at c))) (λ c. m_fits (turn (at c))) (λ c. omega (arith, (turn (at c)).loop-test.taken)) (λ c. omega (arith, (turn (at c)).loop-test.taken))
+    (λ c. level_fits (turn (at c))) (λ c. m_fits (turn (at c))) (λ c. omega (arith, (turn (at c)).loop-done-test.true)) (λ c. omega (arith, (turn (at c)).loop-done-test.true))
     loop_again (λ c. c.loop-done.invariant.1.size) returns_2)

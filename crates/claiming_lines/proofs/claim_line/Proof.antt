@@ -95,10 +95,10 @@ returns : tie.Need-returns-then-many-by
 returns c e =
     let r = c in
     let d = r in
-    let a = (q d).args in
-    lined_as (λ j. begin d + j) (line_cell a.by a.start a.step) (λ j. a.first.0 + j) a.many
-    (λ j h. stretch_cell a.by a.start a.step a.first.0 a.many a.table.now (q d).requires (straight (told d) (tested d)) (one (told d) (tested d)) j)
-    (rw (back d) at r.claim_stretch.ensures e)
+    let a = (q d.before.before.before).args in
+    lined_as (λ j. begin d.before.before.before + j) (line_cell a.by a.start a.step) (λ j. a.first.0 + j) a.many
+    (λ j h. stretch_cell a.by a.start a.step a.first.0 a.many a.table.now (q d.before.before.before).requires (straight (told d.before.before.before) (tested d.before.before.before)) (one (told d.before.before.before) (tested d.before.before.before)) j)
+    (rw (back d.before.before.before) at r.claim_stretch.ensures e)
 
 pub claim_line_spec : {M : Type 1} → statement M
 claim_line_spec =

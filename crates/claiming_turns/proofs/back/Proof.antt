@@ -18,7 +18,7 @@ taken c = pos c.args.many *ℤ c.args.step
 taken_far : (c : tie.Start) → nat_abs (taken c) ≡ c.args.many * nat_abs c.args.step
 taken_far c = times_far c.args.many c.args.step
 
-many_back : (c : tie.Start) → to_z w64 (of_z w64 c.args.many) ≡ pos c.args.many
+many_back : (c : tie.Start) → to_z w64 c.args.many ≡ pos c.args.many
 many_back c = to_z_pos w64 (omega (arith, c.requires.small_component))
 
 taken_back : (c : tie.Start) → to_z w64 (of_z w64 (taken c)) ≡ taken c

@@ -30,15 +30,15 @@ module _ (t : tie.In-loop-k invariant_loop decreases_loop) (strides : List ℤ) 
   few = t.requires.few
 
   below : j < length (shard_iters numbers strides)
-  below = omega (arith, iters_count numbers strides few, t.loop-k.invariant.0, t.loop-k-test.taken)
+  below = omega (arith, iters_count numbers strides few, t.loop-k.invariant.0, t.loop-k-test.true)
 
   before_it : (run_length (drop (suc j) (shard_iters numbers strides)) ≡ 1) × (size_from (suc j) (shard_iters numbers strides) ≡ 1)
   before_it =
-      let same : t.loop-k.k ≡ suc j = omega (arith, t.loop-k-test.taken) in
+      let same : t.loop-k.k ≡ suc j = omega (arith, t.loop-k-test.true) in
       subst (λ (n : ℕ). (run_length (drop n (shard_iters numbers strides)) ≡ 1) × (size_from n (shard_iters numbers strides) ≡ 1)) same (t.loop-k.invariant.1 strides)
 
   extent_is : get_or (iter_extents (shard_iters numbers strides)) j 0 ≡ get_or numbers j 0
-  extent_is = extent_at numbers strides j few (omega (arith, t.loop-k.invariant.0, t.loop-k-test.taken))
+  extent_is = extent_at numbers strides j few (omega (arith, t.loop-k.invariant.0, t.loop-k-test.true))
 
 loop_holds : tie.Need-loop-k-init invariant_loop decreases_loop
 loop_holds c = (omega arith, λ strides. let numbers = c.args.numbers.now in all_ones (shard_iters numbers strides) (get_or numbers 40 0) (omega (arith, iters_count numbers strides c.requires.few)))
@@ -46,14 +46,14 @@ loop_holds c = (omega arith, λ strides. let numbers = c.args.numbers.now in all
 returns : tie.Need-returns-then-numbers-k-ne1 invariant_loop decreases_loop
 returns c strides =
     let t = c in
-    slower_run (shard_iters (numbers t strides) strides) (j t strides) (below t strides) (before_it t strides) (λ e. c.if-numbers-k-ne1.true (sym (extent_is t strides) ∙ e))
+    slower_run (shard_iters (numbers t.before.before.before strides) strides) (j t.before.before.before strides) (below t.before.before.before strides) (before_it t.before.before.before strides) (λ e. c.if-numbers-k-ne1.true (sym (extent_is t.before.before.before strides) ∙ e))
 
 loop_again : tie.Need-loop-k-preserved invariant_loop decreases_loop
 loop_again c = (
   omega (arith, c.loop-k.invariant.0),
   λ strides.
       let t = c in
-      ones_more (shard_iters (numbers t strides) strides) (j t strides) (below t strides) (before_it t strides) (extent_is t strides ∙ c.if-numbers-k-ne1.false),
+      ones_more (shard_iters (numbers t.before.before.before strides) strides) (j t.before.before.before strides) (below t.before.before.before strides) (before_it t.before.before.before strides) (extent_is t.before.before.before strides ∙ c.if-numbers-k-ne1.false),
 )
 
 returns_2 : tie.Need-returns invariant_loop decreases_loop

@@ -83,7 +83,7 @@ module _ (t : tie.In-loop-k invariant_loop decreases_loop) where
   few = s.requires.whole.2
 
   slower : j < s.args.from
-  slower = omega (arith, t.loop-k.invariant.0, t.loop-k-test.taken)
+  slower = omega (arith, t.loop-k.invariant.0, t.loop-k-test.true)
 
   below : j < length l
   below = omega (arith, slower, s.requires.slower)
@@ -98,7 +98,7 @@ module _ (t : tie.In-loop-k invariant_loop decreases_loop) where
   extent_is = extent_at numbers strides j few (omega (arith, below, iters_count numbers strides few))
 
   after_is : size_from (suc j) l ≡ size_from t.loop-k.k l
-  after_is = let same : suc j ≡ t.loop-k.k = omega (arith, t.loop-k-test.taken) in ap (λ (n : ℕ). size_from n l) same
+  after_is = let same : suc j ≡ t.loop-k.k = omega (arith, t.loop-k-test.true) in ap (λ (n : ℕ). size_from n l) same
 
   small : digit ≤ 2 ^ 32
   small = digit_small numbers strides digits here j below t.loop-k.invariant.1 adds (s.requires.small j below)
@@ -149,7 +149,7 @@ returns c =
     let t = t2 c in
     let more = c.if-digit-numbers.true in
     record {
-      size = length-set (digits t) (j t) (digit t + 1) ∙ t.before.loop.invariant.2 ∙ sym (s t).pre.whole.1;
+      size = length-set (digits t) (j t) (digit t + 1) ∙ t.loop-k.invariant.2 ∙ sym (s t).requires.whole.1;
       there =
           subst (DigitsAt (numbers t) (strides t) (set (digits t) (j t) (digit t + 1)))
           (sym (alike (to_z-of_z (level_fits c.before) ∙ ap (λ (z : ℤ). (here t).level +ℤ z) (level_read c.before)) (to_z-of_z (m_fits c) ∙ ap (λ (z : ℤ). (here t).m +ℤ z) (m_read c))))
@@ -183,15 +183,15 @@ loop_again c =
     let e = c in
     let b = e in
     let f = b in
-    let t = t3 f in
+    let t = t3 f.before.before.before in
     let full : get_or (iter_extents (l t)) (j t) 0 ≤ digit t + 1 = omega (arith, extent_is t, f.if-digit-numbers.false) in
-    let index = index_back (numbers t) (strides t) (digits t) (here t) (j t) (below t) t.before.loop.invariant.1 (adds t) full in (
-      omega (arith, t.before.loop.invariant.0),
-      turn_back (numbers t) (strides t) (digits t) (here t) (j t) (below t) t.before.loop.invariant.1 (adds t)
-          (ap (λ (z : ℤ). z +ℤ pos (digit t) *ℤ (way t).level) (to_z-of_z {w = w64} {z = b.back-level.result} (record { sfits = b.back-level.type_inv })) ∙ rw (step_read f) at b.back-level.ensures)
-          (ap (λ (z : ℤ). z +ℤ pos (digit t) *ℤ (way t).m) (to_z-of_z {w = w64} {z = c.back-m.result} (record { sfits = c.back-m.type_inv })) ∙ rw (m_step_read e) at c.back-m.ensures),
-      length-set (digits t) (j t) 0 ∙ t.before.loop.invariant.2,
-      omega (arith, index, after_is t, t.before.loop.invariant.3),
+    let index = index_back (numbers t) (strides t) (digits t) (here t) (j t) (below t) t.loop-k.invariant.1 (adds t) full in (
+      omega (arith, t.loop-k.invariant.0),
+      turn_back (numbers t) (strides t) (digits t) (here t) (j t) (below t) t.loop-k.invariant.1 (adds t)
+          (ap (λ (z : ℤ). z +ℤ pos (digit t) *ℤ (way t).level) (to_z-of_z {w = w64} {z = b.back-level.result} (record { sfits = b.back-level.type_inv })) ∙ rw (step_read f.before.before.before) at b.back-level.ensures)
+          (ap (λ (z : ℤ). z +ℤ pos (digit t) *ℤ (way t).m) (to_z-of_z {w = w64} {z = c.back-m.result} (record { sfits = c.back-m.type_inv })) ∙ rw (m_step_read e.before) at c.back-m.ensures),
+      length-set (digits t) (j t) 0 ∙ t.loop-k.invariant.2,
+      omega (arith, index, after_is t, t.loop-k.invariant.3),
     )
 
 returns_2 : tie.Need-returns invariant_loop decreases_loop
@@ -204,12 +204,12 @@ returns_2 c =
 pub turn_spec : {M : Type 1} → statement M
 turn_spec =
     tie.close
-    (tie.spec invariant_loop decreases_loop loop_holds (λ c. omega (arith, c.loop-k-test.true)) (λ c. omega (arith, short c)) (λ c. omega (arith, short c, c.loop-k.invariant.2))
-    (λ c. omega (arith, small c.before)) (λ c. omega (arith, short c.before)) (λ c. omega (arith, short c.before, (s c.before).pre.whole.0))
+    (tie.spec invariant_loop decreases_loop loop_holds (λ c. omega (arith, c.loop-k-test.true)) (λ c. omega (arith, short c)) (λ c. omega (arith, short c.before, c.loop-k.invariant.2))
+    (λ c. omega (arith, small c.before.before)) (λ c. omega (arith, short c.before.before)) (λ c. omega (arith, short c.before.before.before, (s c.before.before.before).requires.whole.0))
     (λ c. omega (arith, small (at c))) (λ c. omega (arith, short (at c))) (λ c. omega (arith, short (at c), (at c).loop-k.invariant.2))
-    (λ c. omega (arith, short (at c))) (λ c. omega (arith, short (at c), (s (at c)).pre.ways.level_size)) level_fits
-    (λ c. omega (arith, short (t1 c))) (λ c. omega (arith, short (t1 c), (s (t1 c)).pre.ways.m_size)) m_fits returns
-    (λ c. omega (arith, short c.before.before.before)) (λ c. omega (arith, short c.before.before.before, c.loop-k.invariant.2))
-    (λ c. omega (arith, short c.before.before.before)) (λ c. omega (arith, short c.before.before.before, (s c.before.before.before).pre.ways.level_size)) back_requires
-    (λ c. omega (arith, short (t3 c.before))) (λ c. omega (arith, short (t3 c.before), (s (t3 c.before)).pre.ways.m_size)) back_requires_2
-    (λ c. omega (arith, (t3 (first c.before)).loop-test.taken)) loop_again returns_2)
+    (λ c. omega (arith, short (at c))) (λ c. omega (arith, short (at c), (s (at c)).requires.ways.level_size)) level_fits
+    (λ c. omega (arith, short (t1 c))) (λ c. omega (arith, short (t1 c), (s (t1 c)).requires.ways.m_size)) m_fits returns
+    (λ c. omega (arith, short c.before.before.before.before.before)) (λ c. omega (arith, short c.before.before.before.before.before, c.loop-k.invariant.2))
+    (λ c. omega (arith, short c.before.before.before.before.before)) (λ c. omega (arith, short c.before.before.before.before.before, (s c.before.before.before.before.before).requires.ways.level_size)) back_requires
+    (λ c. omega (arith, short (t3 c.before))) (λ c. omega (arith, short (t3 c.before), (s (t3 c.before)).requires.ways.m_size)) back_requires_2
+    (λ c. omega (arith, (t3 (first c.before)).loop-k-test.true)) loop_again returns_2)

@@ -77,21 +77,21 @@ weigh_requires : tie.Need-weigh-level-requires
 weigh_requires c κs =
     let s = c in
     rw (stride_back c.before.before.before)
-    (s.requires.0.whole.all_numbers, (checked (card_of (numbers s) (strides s)) s.requires.0.admitted).space, sums_small s (get_or (numbers s) (8 + k s) 0) (an_axis s))
+    (s.requires.0.whole.all_numbers, (checked (card_of (numbers s.before.before.before.before) (strides s.before.before.before.before)) s.requires.0.admitted).space, sums_small s.before.before.before.before (get_or (numbers s.before.before.before.before) (8 + k s.before.before.before.before) 0) (an_axis s.before.before.before.before))
 
 returns : tie.Need-returns
 returns c =
     let w = c in
     let s = w in
     let back = stride_back w.before.before.before.before.before in
-    let axis = get_or (numbers s) (8 + k s) 0 in
-    let read : ℤ = to_z w64 (of_z w64 (get_or (strides s) (k s) (pos 0))) in
-    adds (slice 32 40 (numbers s)) (unit (get_or (shard_iters (numbers s) (strides s)) (k s) none)) (ap (set zeros axis) back ∙ sums_are s)
+    let axis = get_or (numbers s.before.before.before.before.before.before) (8 + k s.before.before.before.before.before.before) 0 in
+    let read : ℤ = to_z w64 (of_z w64 (get_or (strides s.before.before.before.before.before.before) (k s.before.before.before.before.before.before) (pos 0))) in
+    adds (slice 32 40 (numbers s.before.before.before.before.before.before)) (unit (get_or (shard_iters (numbers s.before.before.before.before.before.before) (strides s.before.before.before.before.before.before)) (k s.before.before.before.before.before.before) none)) (ap (set zeros axis) back ∙ sums_are s.before.before.before.before.before.before)
     (to_z-of_z {w = w64} {z = w.weigh-level.result} (record { sfits = w.weigh-level.type_inv }) ∙ w.weigh-level.ensures)
     (to_z-of_z {w = w64} {z = get_or (set zeros axis read) 7 (pos 0)} (record { sfits = c.result-1.given }))
 
 pub way_spec : {M : Type 1} → statement M
 way_spec =
     tie.close
-    (tie.spec (λ c. omega (arith, few c, c.requires.1)) (λ c. omega (arith, few c, c.requires.1, c.requires.0.whole.all_strides)) (λ c. omega (arith, few c.before, c.requires.1)) (λ c. omega (arith, few c.before, c.requires.1)) (λ c. omega (arith, few c.before, c.requires.1, c.requires.0.whole.all_numbers))
-    (λ c. omega (arith, an_axis c.before.before)) (λ c. an_axis c.before.before) weigh_requires (λ c. search rules) returns)
+    (tie.spec (λ c. omega (arith, few c, c.requires.1)) (λ c. omega (arith, few c, c.requires.1, c.requires.0.whole.all_strides)) (λ c. omega (arith, few c.before, c.requires.1)) (λ c. omega (arith, few c.before, c.requires.1)) (λ c. omega (arith, few c.before.before, c.requires.1, c.requires.0.whole.all_numbers))
+    (λ c. omega (arith, an_axis c.before.before.before)) (λ c. an_axis c.before.before.before) weigh_requires (λ c. search rules) returns)

@@ -19,13 +19,13 @@ on_m_lem c =
     let s = start c in
     rw (to_z-of_z s.ranges.m) at c.swizzle_permitted-on_m.ensures ∙ on_m_is s.args.by s.args.m s.requires.on_m_lem s.requires.m_there
 
-adds_up : (c : tie.After-swizzle_permitted-on_m) → to_z w64 (of_z w64 (start c).args.level) +ℤ to_z w64 (of_z w64 c.swizzle_permitted-on_m.result) ≡ pos (start c).requires.cell
+adds_up : (c : tie.After-swizzle_permitted-on_m) → to_z w64 (of_z w64 (start c).args.level) +ℤ to_z w64 c.swizzle_permitted-on_m.result ≡ pos (start c).requires.cell
 adds_up c =
     let s = start c in
     ap₂ (λ (a b : ℤ). a +ℤ b) (to_z-of_z s.ranges.level) (to_z_pos w64 (omega (arith, on_m_lem c, s.requires.short)) ∙ ap pos (on_m_lem c)) ∙ sym s.requires.there
 
 cell_back : (c : tie.After-swizzle_permitted-on_m)
-    → to_z w64 (of_z w64 (to_z w64 (of_z w64 (start c).args.level) +ℤ to_z w64 (of_z w64 c.swizzle_permitted-on_m.result))) ≡ pos (start c).requires.cell
+    → to_z w64 (of_z w64 (to_z w64 (of_z w64 (start c).args.level) +ℤ to_z w64 c.swizzle_permitted-on_m.result)) ≡ pos (start c).requires.cell
 cell_back c = ap (λ (z : ℤ). to_z w64 (of_z w64 z)) (adds_up c) ∙ to_z-of_z (far_fits {x = pos (start c).requires.cell} (omega (arith, (start c).requires.few)))
 
 cast_swizzle_permitted : tie.Need-overflow_cast-m

@@ -92,11 +92,11 @@ module _ (f : tie.After-cell_at-cell invariant_loop decreases_loop) where
   m = (s d).args.m +ℤ get_or (s d).args.ms.now (k d) (pos 0)
 
   found : pos f.cell_at-cell.result.0 ≡ level +ℤ swizzled_z (swizzle_of (s d).args.numbers.now) m
-  found = rw (level_back d, m_back d) at f.cell_at-cell.ensures ∙ ap (λ (w : Swizzle). level +ℤ swizzled_z w m) (turn d).before.before.swizzle-of.ensures
+  found = rw (level_back d, m_back d) at f.cell_at-cell.ensures ∙ ap (λ (w : Swizzle). level +ℤ swizzled_z w m) (turn d).swizzle_of-by.ensures
 
   small : f.cell_at-cell.result.0 < 2 ^ 32
   small =
-      let c = (s d).pre.cells (k d) (below (turn d)) in
+      let c = (s d).requires.cells (k d) (below (turn d)) in
       let same : f.cell_at-cell.result.0 ≡ c.cell = ap nat_abs (found ∙ ap (λ (z : ℤ). level +ℤ z) c.m_there ∙ sym c.there) in
       omega (arith, same, c.few)
 
@@ -112,7 +112,7 @@ loop_again c =
     let m_is = to_z-of_z s.ranges.m in (
       omega (arith, below t.before.before.before.before),
       filled_more a.numbers.now (to_z w64 (of_z w64 a.level)) (to_z w64 (of_z w64 a.m)) a.levels.now a.ms.now a.row.now l.row l.combination f.cell_at-cell.result.0
-          (below t.before.before.before.before) l.invariant.1 (rw (level_is, m_is) (found f)),
+          (below t.before.before.before.before) l.invariant.1 (rw (level_is, m_is) (found f.before)),
     )
 
 returns : tie.Need-returns invariant_loop decreases_loop

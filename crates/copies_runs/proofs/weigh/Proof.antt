@@ -34,12 +34,12 @@ length_at s k h = slice_at s.args.numbers.now 32 40 0 k (omega arith)
 
 -- the weighing of a turn, with the axis that it passes apart
 turn : (t : tie.In-loop-axis invariant_loop decreases_loop) → let s = t in
-    let l = t.loop-axis in Weighing (lengths s.before.before.before.before) s.args.sums.now (l.axis - 1 + 1) l.weight (to_z w64 (of_z w64 l.sum))
+    let l = t.loop-axis in Weighing (lengths s.before.before.before.before) s.args.sums.now (l.axis - 1 + 1) l.weight (to_z w64 l.sum-bits)
 turn t =
     let s = t in
     let l = t.loop-axis in
     let back : l.axis ≡ l.axis - 1 + 1 = omega arith in
-    subst (λ (k : ℕ). Weighing (lengths s.before.before.before.before) s.args.sums.now k l.weight (to_z w64 (of_z w64 l.sum))) back l.invariant.1
+    subst (λ (k : ℕ). Weighing (lengths s.before.before.before.before) s.args.sums.now k l.weight (to_z w64 l.sum-bits)) back l.invariant.1
 
 loop_holds : tie.Need-loop-axis-init invariant_loop decreases_loop
 loop_holds c =
@@ -52,7 +52,7 @@ step_requires c κs =
     let s = t in
     let l = t.loop-axis in
     rw (to_z-of_z {w = w64} {z = get_or s.args.sums.now (l.axis - 1) (pos 0)} (record { sfits = c.step-arg-1.given }))
-    (steps (lengths s.before.before.before.before.before) s.args.sums.now (eight s.before.before.before.before.before) s.requires.2 s.requires.1 (l.axis - 1) l.weight (to_z w64 (of_z w64 l.sum)) (omega arith) (turn t.before))
+    (steps (lengths s.before.before.before.before.before) s.args.sums.now (eight s.before.before.before.before.before) s.requires.2 s.requires.1 (l.axis - 1) l.weight (to_z w64 l.sum-bits) (omega arith) (turn t.before))
 
 mul_weight_3 : tie.Need-overflow_mul-weight invariant_loop decreases_loop
 mul_weight_3 c =
@@ -60,7 +60,7 @@ mul_weight_3 c =
     let s = t in
     let l = t.loop-axis in
     let k = l.axis - 1 in
-    let few = light (lengths s.before.before.before.before.before.before.before.before) s.args.sums.now (eight s.before.before.before.before.before.before.before.before) s.requires.2 s.requires.1 k l.weight (to_z w64 (of_z w64 l.sum)) (omega arith) (turn t.before.before.before.before) in
+    let few = light (lengths s.before.before.before.before.before.before.before.before) s.args.sums.now (eight s.before.before.before.before.before.before.before.before) s.requires.2 s.requires.1 k l.weight (to_z w64 l.sum-bits) (omega arith) (turn t.before.before.before.before) in
     let short : get_or s.args.numbers.now (32 + k) 0 ≤ most_length = omega (arith, length_at s.before.before.before.before.before.before.before.before k (omega arith), length_short (lengths s.before.before.before.before.before.before.before.before) s.requires.1 k (omega (arith, eight s.before.before.before.before.before.before.before.before))) in
     record { fits = le_trans (suc-le-suc (mul-le-mul {n₂ = most_cells} {m₂ = most_length} few short)) (omega arith) }
 
@@ -75,7 +75,7 @@ loop_again c =
     let new = to_z-of_z {w = w64} {z = c.step-sum.result} (record { sfits = c.step-sum.type_inv }) ∙ rw back at c.step-sum.ensures in (
       omega arith,
       subst (λ (n : ℕ). Weighing (lengths s.before.before.before.before.before.before.before.before) s.args.sums.now k (l.weight * n) (to_z w64 (of_z w64 c.step-sum.result))) (length_at s.before.before.before.before.before.before.before.before k (omega arith))
-          (weighing_more (lengths s.before.before.before.before.before.before.before.before) s.args.sums.now (eight s.before.before.before.before.before.before.before.before) s.requires.2 s.requires.1 k l.weight (to_z w64 (of_z w64 l.sum)) (omega arith) (turn t.before.before.before.before) new),
+          (weighing_more (lengths s.before.before.before.before.before.before.before.before) s.args.sums.now (eight s.before.before.before.before.before.before.before.before) s.requires.2 s.requires.1 k l.weight (to_z w64 l.sum-bits) (omega arith) (turn t.before.before.before.before) new),
     )
 
 returns : tie.Need-returns invariant_loop decreases_loop

@@ -52,7 +52,7 @@ first_on_axis_requires c κs =
       to_z-of_z {w = w64} {z = get_or a.low.now axis (pos 0)} (record { sfits = c.first_on_axis-arg-1.given }),
       to_z-of_z {w = w64} {z = get_or a.high.now axis (pos 0)} (record { sfits = c.first_on_axis-arg-in-loop-axis-1.given }),
     )
-    (ended_on s.requires.0 axis (get_or a.numbers.now (32 + axis) 0) (omega (arith, t.loop-axis-test.taken)) (short_length s.requires.0 axis (omega (arith, t.loop-axis-test.taken))), t.loop-axis-test.taken)
+    (ended_on s.requires.0 axis (get_or a.numbers.now (32 + axis) 0) (omega (arith, t.loop-axis-test.true)) (short_length s.requires.0 axis (omega (arith, t.loop-axis-test.true))), t.loop-axis-test.true)
 
 small : (c : tie.After-first_on_axis-flat invariant_loop decreases_loop) → c.first_on_axis-flat.result.0 ≤ 65536
 small c = let s = start (turn c.before) in omega (arith, c.first_on_axis-flat.ensures.most, (sizes s.requires.0).most_elements_lem)
@@ -63,9 +63,9 @@ loop_again c =
     let t = turn f.before.before.before in
     let s = start t in
     let l = t.loop-axis in (
-      omega (arith, t.loop-axis-test.taken),
+      omega (arith, t.loop-axis-test.true),
       rw c.smaller-word.ensures
-          (word_more (card s) l.word f.first_on_axis-flat.result.0 l.axis (omega (arith, t.loop-axis-test.taken)) l.invariant.1 f.first_on_axis-flat.ensures),
+          (word_more (card s) l.word f.first_on_axis-flat.result.0 l.axis (omega (arith, t.loop-axis-test.true)) l.invariant.1 f.first_on_axis-flat.ensures),
     )
 
 returns : tie.Need-returns invariant_loop decreases_loop
@@ -78,5 +78,5 @@ returns c =
 pub first_on_axes_spec : {M : Type 1} → statement M
 first_on_axes_spec =
     tie.close
-    (tie.spec invariant_loop decreases_loop (λ c. search rules) (λ c. omega (arith, few c.before.before)) loop_holds (λ c. omega arith) (λ c. omega arith) (λ c. omega arith) (λ c. omega arith) first_on_axis_requires (λ c. omega (arith, small c.before)) (λ c. omega (arith, small c.before, (turn c.before.before).loop-axis-test.taken)) (λ c κs. search rules) (λ c. omega arith)
+    (tie.spec invariant_loop decreases_loop (λ c. search rules) (λ c. omega (arith, few c.before.before)) loop_holds (λ c. omega arith) (λ c. omega arith) (λ c. omega arith) (λ c. omega arith) first_on_axis_requires (λ c. omega (arith, small c.before)) (λ c. omega (arith, small c.before, (turn c.before.before).loop-axis-test.true)) (λ c κs. search rules) (λ c. omega arith)
     (λ c. omega arith) loop_again returns)

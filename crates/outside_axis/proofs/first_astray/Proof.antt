@@ -46,7 +46,7 @@ high_back s = to_z-of_z s.ranges.high
 low_back : (s : tie.Start) → to_z w64 (of_z w64 s.args.low) ≡ s.args.low
 low_back s = to_z-of_z s.ranges.low
 
-bound_back : (s : tie.Start) → to_z w64 (of_z w64 s.args.bound) ≡ pos s.args.bound
+bound_back : (s : tie.Start) → to_z w64 s.args.bound ≡ pos s.args.bound
 bound_back s = to_z_pos w64 (omega (arith, s.requires.short))
 
 first_over_requires : tie.Need-first_over-above-requires

@@ -15,7 +15,7 @@ use Rattle.outside_ends.proofs.Packed.{few_blocks}
 use Rattle.outside_ends.proofs.m_between.Statement.{statement}
 use Rattle.outside_ends.proofs.m_between.Tie as tie
 
-back : (c : tie.After-whole_blocks-whole) → to_z w64 (of_z w64 c.whole_blocks-whole.result) ≡ pos (blocks_of c.args.numbers.now)
+back : (c : tie.After-whole_blocks-whole) → to_z w64 c.whole_blocks-whole.result ≡ pos (blocks_of c.args.numbers.now)
 back c = to_z_pos w64 (omega (arith, c.whole_blocks-whole.ensures, few_blocks c.requires)) ∙ ap pos c.whole_blocks-whole.ensures
 
 returns : tie.Need-returns

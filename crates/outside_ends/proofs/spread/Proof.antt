@@ -97,7 +97,7 @@ abbrev at_axis : tie.After-axis-1 invariant_loop decreases_loop → tie.In-loop-
 at_axis a = a.before.before.before.before
 
 stride_back : (a : tie.After-axis-1 invariant_loop decreases_loop) → to_z w64 (of_z w64 (met (at_axis a)).stride) ≡ (met (at_axis a)).stride
-stride_back a = to_z-of_z (record { sfits = a.stride-1.given })
+stride_back a = to_z-of_z {w = w64} (record { sfits = a.stride-1.given })
 
 abbrev to_low : tie.After-far_end invariant_loop decreases_loop → tie.After-axis-1 invariant_loop decreases_loop
 to_low e = e.before.before
@@ -118,10 +118,10 @@ loop_holds c =
     )
 
 low_back : (e : tie.After-far_end invariant_loop decreases_loop) → let t = at_axis (to_low e) in let z = get_or t.loop-k.low (met t).axis (pos 0) in to_z w64 (of_z w64 z) ≡ z
-low_back e = to_z-of_z (record { sfits = e.step-arg-1.given })
+low_back e = to_z-of_z {w = w64} (record { sfits = e.step-arg-1.given })
 
 high_back : (e : tie.After-far_end-in-loop-k invariant_loop decreases_loop) → let t = at_axis (to_high e) in let z = get_or t.loop-k.high (met t).axis (pos 0) in to_z w64 (of_z w64 z) ≡ z
-high_back e = to_z-of_z (record { sfits = e.step-arg-in-loop-k-1.given })
+high_back e = to_z-of_z {w = w64} (record { sfits = e.step-arg-in-loop-k-1.given })
 
 step_requires : tie.Need-step-down-requires invariant_loop decreases_loop
 step_requires c κs =

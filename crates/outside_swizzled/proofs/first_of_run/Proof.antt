@@ -32,7 +32,7 @@ step_back : (s : tie.Start invariant_loop decreases_loop) → to_z w64 (of_z w64
 step_back s = to_z-of_z s.ranges.step
 
 -- m of the element that a turn looks at
-m_is : (t : tie.In-loop-c invariant_loop decreases_loop) → to_z w64 (of_z w64 t.loop-c.m) ≡ (start t).args.base +ℤ pos t.loop-c.c *ℤ (start t).args.step
+m_is : (t : tie.In-loop-c invariant_loop decreases_loop) → to_z w64 t.loop-c.m-bits ≡ (start t).args.base +ℤ pos t.loop-c.c *ℤ (start t).args.step
 m_is t = rw (base_back (start t), step_back (start t)) at t.loop-c.invariant.1
 
 none : (t : tie.In-loop-c invariant_loop decreases_loop) → (j : ℕ) → j < t.loop-c.c
@@ -72,7 +72,7 @@ returns : tie.Need-returns-then-m_leaves invariant_loop decreases_loop
 returns c = let t = c in sought_here t.loop-c-test.true ((told c.before).yes_holds c.if-m_leaves.true) (none t.before.before)
 
 next_is : (t : tie.In-loop-c invariant_loop decreases_loop)
-    → to_z w64 (of_z w64 (to_z w64 (of_z w64 t.loop-c.m) +ℤ to_z w64 (of_z w64 (start t).args.step))) ≡ (start t).args.base +ℤ pos (t.loop-c.c + 1) *ℤ (start t).args.step
+    → to_z w64 (of_z w64 (to_z w64 t.loop-c.m-bits +ℤ to_z w64 (of_z w64 (start t).args.step))) ≡ (start t).args.base +ℤ pos (t.loop-c.c + 1) *ℤ (start t).args.step
 next_is t =
     let a = (start t).args in rw (m_is t, step_back (start t)) (to_z-of_z (next_fits t)) ∙ run_more a.base a.step t.loop-c.c
 

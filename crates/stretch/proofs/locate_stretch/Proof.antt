@@ -66,13 +66,13 @@ returns_3 c =
 -- the asked coordinates are inside, and this is their number
 numbered : (c : tie.In-At) →
     let a = (start (fitting (located c))).args in
-    Numbered (asked a.axis a.t2) (asked a.axis a.t4) c.in-At.number
+    Numbered (asked a.axis a.lengths) (asked a.axis a.coordinates) c.in-At.number
 numbered c =
     let a = (start (fitting (located c))).args in
-    position_at (asked a.axis a.t2) (asked a.axis a.t4) _ (sym (located c).locate.ensures ∙ c.in-At.is)
+    position_at (asked a.axis a.lengths) (asked a.axis a.coordinates) _ (sym (located c).locate.ensures ∙ c.in-At.is)
 
 -- the cells
-cells_are : (c : tie.After-product-cells) → c.product-cells.result ≡ product (start (fitting (located c.before))).args.t2
+cells_are : (c : tie.After-product-cells) → c.product-cells.result ≡ product (start (fitting (located c.before))).args.lengths
 cells_are c =
     let two = fitting (located c.before) in
     let p = parts two in

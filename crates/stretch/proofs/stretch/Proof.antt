@@ -13,23 +13,23 @@ use Rattle.stretch.proofs.stretch.Tie as tie
 -- the answer, and that the stretch lies within the table
 found : (c : tie.In-Stretch) →
     let s = c in
-    let v = c.located-1.given.0 in
-    stretch_answer s.args.lengths s.args.axis s.args.coordinates (length s.args.table.now) ≡ Stretch v.0 v.1.0
+    let v = c.in-Stretch in
+    stretch_answer s.args.lengths s.args.axis s.args.coordinates (length s.args.table.now) ≡ Stretch v.first v.length
 found c = sym c.locate_stretch-located.ensures ∙ c.in-Stretch.is
 
 within : (c : tie.In-Stretch) →
     let s = c in
-    let v = c.located-1.given.0 in
-    StretchWithin s.args.lengths (length s.args.table.now) v.0.0 v.1.0
+    let v = c.in-Stretch in
+    StretchWithin s.args.lengths (length s.args.table.now) v.first.0 v.length
 within c =
     let s = c in
-    let v = c.located-1.given.0 in
-    answer_within s.args.lengths s.args.axis s.args.coordinates (length s.args.table.now) v.0 v.1.0 (found c)
+    let v = c.in-Stretch in
+    answer_within s.args.lengths s.args.axis s.args.coordinates (length s.args.table.now) v.first v.length (found c)
 
 returns : tie.Need-returns-in-Stretch
 returns c =
-    let v = c.located-1.given.0 in
-    rw (found c.before, add-sub_cancel_left v.0.0 v.1.0) (refl, (refl, omega arith))
+    let v = c.in-Stretch in
+    rw (found c.before, add-sub_cancel_left v.first.0 v.length) (refl, (refl, omega arith))
 
 returns_2 : tie.Need-returns-in-Refused
 returns_2 c = rw (sym c.locate_stretch-located.ensures ∙ c.in-Refused.is) (refl, (refl, omega arith))
