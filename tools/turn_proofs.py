@@ -152,7 +152,7 @@ class Function:
     def rest(self, where, rest):
         if rest and self.places[where][2][0].startswith("loop"):
             rest = self.parameter(["", *rest])[1:]
-        if rest and rest[0] in ("taken", "left") and self.places[where][2][0].startswith(("if", "loop")):
+        if rest and rest[0] in ("taken", "left") and re.match(r"if|.*-test$", self.places[where][2][0]):
             rest = [{"taken": "true", "left": "false"}[rest[0]]] + rest[1:]
         callee = self.places[where][3]
         params = self.e["params"].get(callee)

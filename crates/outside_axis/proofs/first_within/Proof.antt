@@ -48,7 +48,7 @@ abbrev weight : tie.In-loop-k invariant_loop decreases_loop → ℕ
 weight t = ahead (start t).args.upwards (start t).args.axis (met t)
 
 abbrev back : tie.In-loop-k invariant_loop decreases_loop → ℕ
-back t = steps_back (met t).extent (weight t) t.loop-k.false
+back t = steps_back (met t).extent (weight t) t.loop-k.left
 
 turn : (t : tie.In-loop-k invariant_loop decreases_loop) → Meets (met t)
 turn t =
@@ -60,12 +60,12 @@ numbering : (t : tie.In-loop-k invariant_loop decreases_loop)
     → let s = start t in
     let l = t.loop-k in
     Numbering (map extent_of (later s 0)) (first s s.args.spare (later s 0)) ((met t).extent ∷ map extent_of (later s (l.k + 1)))
-    (((met t).extent - 1 - back t) ∷ first s (l.false - back t * weight t) (later s (l.k + 1))) l.k l.index
+    (((met t).extent - 1 - back t) ∷ first s (l.left - back t * weight t) (later s (l.k + 1))) l.k l.index
 numbering t =
     let s = start t in
     let a = s.args in
     let l = t.loop-k in
-    subst (λ (m : List Iter). Numbering (map extent_of (later s 0)) (first s a.spare (later s 0)) (map extent_of m) (first s l.false m) l.k l.index)
+    subst (λ (m : List Iter). Numbering (map extent_of (later s 0)) (first s a.spare (later s 0)) (map extent_of m) (first s l.left m) l.k l.index)
     (iters_next a.numbers.now a.strides.now a.list s.requires.walkable l.k t.loop-k-test.true) l.invariant.2
 
 abbrev turned : tie.After-step_ahead-weight invariant_loop decreases_loop → tie.In-loop-k invariant_loop decreases_loop
@@ -80,16 +80,16 @@ weighed c =
     (to_z-of_z {w = w64} {z = (met t).stride} (record { sfits = c.step_ahead-arg-in-loop-k-1.given }))
 
 stayed : (c : tie.After-steps_back-back invariant_loop decreases_loop) → c.steps_back-back.result ≡ back (turned c.before)
-stayed c = let t = turned c.before in c.steps_back-back.ensures ∙ ap (λ (w : ℕ). steps_back (met t).extent w t.loop-k.false) (weighed c.before)
+stayed c = let t = turned c.before in c.steps_back-back.ensures ∙ ap (λ (w : ℕ). steps_back (met t).extent w t.loop-k.left) (weighed c.before)
 
 product : (c : tie.After-steps_back-back invariant_loop decreases_loop) → c.steps_back-back.result * c.step_ahead-weight.result ≡ back (turned c.before) * weight (turned c.before)
 product c = ap₂ ◌*◌ (stayed c) (weighed c.before)
 
-spared : (c : tie.After-steps_back-back invariant_loop decreases_loop) → c.steps_back-back.result * c.step_ahead-weight.result ≤ (turned c.before).loop-k.false
-spared c = let t = turned c.before in omega (arith, product c, back_spare (met t).extent (weight t) t.loop-k.false)
+spared : (c : tie.After-steps_back-back invariant_loop decreases_loop) → c.steps_back-back.result * c.step_ahead-weight.result ≤ (turned c.before).loop-k.left
+spared c = let t = turned c.before in omega (arith, product c, back_spare (met t).extent (weight t) t.loop-k.left)
 
 most : (c : tie.After-steps_back-back invariant_loop decreases_loop) → c.steps_back-back.result ≤ (met (turned c.before)).extent - 1
-most c = let t = turned c.before in omega (arith, stayed c, back_most (met t).extent (weight t) t.loop-k.false)
+most c = let t = turned c.before in omega (arith, stayed c, back_most (met t).extent (weight t) t.loop-k.left)
 
 room : (c : tie.After-steps_back-back invariant_loop decreases_loop) → let t = turned c.before in t.loop-k.index * (met t).extent + ((met t).extent - 1 - c.steps_back-back.result) < 2 ^ 32
 room c =
@@ -100,7 +100,7 @@ room c =
       arith,
       stayed c,
       (turn t).some_extent,
-      numbering_room (met t).extent (map extent_of (later s (l.k + 1))) ((met t).extent - 1 - back t) (first s (l.false - back t * weight t) (later s (l.k + 1))) l.k l.index (numbering t)
+      numbering_room (met t).extent (map extent_of (later s (l.k + 1))) ((met t).extent - 1 - back t) (first s (l.left - back t * weight t) (later s (l.k + 1))) l.k l.index (numbering t)
           (omega (arith, (turn t).some_extent)),
       s.requires.small,
     )
@@ -119,7 +119,7 @@ loop_again c =
       omega (arith, t.loop-k-test.true),
       omega (arith, l.invariant.1),
       rw (product c, stayed c)
-          (numbering_more (met t).extent (map extent_of (later s (l.k + 1))) ((met t).extent - 1 - back t) (first s (l.false - back t * weight t) (later s (l.k + 1))) l.k l.index
+          (numbering_more (met t).extent (map extent_of (later s (l.k + 1))) ((met t).extent - 1 - back t) (first s (l.left - back t * weight t) (later s (l.k + 1))) l.k l.index
           (numbering t) (omega (arith, (turn t).some_extent))),
     )
 
@@ -130,7 +130,7 @@ returns c =
     let l = c.loop-k in
     let end : l.k ≡ get_or a.numbers.now (40 + a.list) 0 = omega arith in
     let none : later s.before.before.before.before l.k ≡ [] = ap (later s.before.before.before.before) end ∙ slice_empty (get_or a.numbers.now (40 + a.list) 0) (map (iter_at a.numbers.now a.strides.now a.list) slots) in
-    let all = subst (λ (m : List Iter). Numbering (map extent_of (later s.before.before.before.before 0)) (first s.before.before.before.before a.spare (later s.before.before.before.before 0)) (map extent_of m) (first s.before.before.before.before l.false m) l.k l.index) none l.invariant.2 in
+    let all = subst (λ (m : List Iter). Numbering (map extent_of (later s.before.before.before.before 0)) (first s.before.before.before.before a.spare (later s.before.before.before.before 0)) (map extent_of m) (first s.before.before.before.before l.left m) l.k l.index) none l.invariant.2 in
     omega (arith, all.same_number)
 
 pub first_within_spec : {M : Type 1} → statement M

@@ -58,7 +58,7 @@ turn t =
     meets s.args.numbers.now s.args.strides.now s.args.list s.requires.0 (t.loop-k.k - 1) (omega arith)
 
 -- sums so far are not far from zero
-module _ (t : tie.In-loop-k invariant_loop decreases_loop) (up : Bool) (before sums : List ℤ) (small : Sums before) (s : Spread up (slots_of (start t)) (counted (start t)) before t.before.loop.k sums) where
+module _ (t : tie.In-loop-k invariant_loop decreases_loop) (up : Bool) (before sums : List ℤ) (small : Sums before) (s : Spread up (slots_of (start t)) (counted (start t)) before t.loop-k.k sums) where
   sum_so_far : nat_abs (get_or sums (met t).axis (pos 0)) ≤ 2 * roomy
   sum_so_far =
       let b = start t in
@@ -67,8 +67,8 @@ module _ (t : tie.In-loop-k invariant_loop decreases_loop) (up : Bool) (before s
       rw (s.sums_so_far axis (omega (arith, (turn t).an_axis)))
       (omega (
         arith,
-        sum_far (get_or before axis (pos 0)) (along (slice t.before.loop.k (counted b) (slots_of b)) (far up (slots_of b) (counted b)) axis),
-        along_room a.numbers.now a.strides.now a.list b.pre.0 t.before.loop.k (far up (slots_of b) (counted b)) axis,
+        sum_far (get_or before axis (pos 0)) (along (slice t.loop-k.k (counted b) (slots_of b)) (far up (slots_of b) (counted b)) axis),
+        along_room a.numbers.now a.strides.now a.list b.pre.0 t.loop-k.k (far up (slots_of b) (counted b)) axis,
         small.small axis,
       ))
 
@@ -83,12 +83,12 @@ module _ (t : tie.In-loop-k invariant_loop decreases_loop) (up : Bool) (before s
       }
 
   -- and is, by the turn
-  more : Spread up (slots_of (start t)) (counted (start t)) before (t.before.loop.k - 1) (set sums (met t).axis (get_or sums (met t).axis (pos 0) +ℤ pos (far_end up (met t)) *ℤ (met t).stride))
+  more : Spread up (slots_of (start t)) (counted (start t)) before (t.loop-k.k - 1) (set sums (met t).axis (get_or sums (met t).axis (pos 0) +ℤ pos (far_end up (met t)) *ℤ (met t).stride))
   more =
       let b = start t in
       let a = b.args in
-      let j = t.before.loop.k - 1 in
-      let back : t.before.loop.k ≡ j + 1 = omega arith in
+      let j = t.loop-k.k - 1 in
+      let back : t.loop-k.k ≡ j + 1 = omega arith in
       spread_more up (slots_of b) (counted b) (fits b) before j (met t) (iters_next a.numbers.now a.strides.now a.list b.pre.0 j (omega arith)) (omega (arith, (turn t).an_axis))
       (subst (λ (k : ℕ). Spread up (slots_of b) (counted b) before k sums) back s)
 

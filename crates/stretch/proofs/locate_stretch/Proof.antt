@@ -88,22 +88,22 @@ returns_4 c =
 -- the cells of the asked axes, and of those after them
 first_cells : (c : tie.After-product) →
     let a = (start (fitting (located (told c)))).args in
-    c.product.result ≡ product (take (a.axis + 1) a.t2)
+    c.product.result ≡ product (take (a.axis + 1) a.lengths)
 first_cells c = let p = parts (fitting (located (told c))) in c.product.ensures ∙ min-eq_left (omega arith)
 
 after_cells : (c : tie.After-product) →
     let a = (start (fitting (located (told c)))).args in
-    c.product-cells.result / c.product.result ≡ product (drop (a.axis + 1) a.t2)
+    c.product-cells.result / c.product.result ≡ product (drop (a.axis + 1) a.lengths)
 after_cells c = ap₂ ◌/◌ (cells_are c.before.before) (first_cells c) ∙ (parts (fitting (located (told c)))).after
 
 -- the first cell
 first : (c : tie.After-product) →
     let a = (start (fitting (located (told c)))).args in
     (told c).in-At.number * (c.product-cells.result / c.product.result)
-    ≡ row_major a.t2 (asked a.axis a.t4)
+    ≡ row_major a.lengths (asked a.axis a.coordinates)
 first c =
     let a = (start (fitting (located (told c)))).args in
-    ap₂ ◌*◌ (sym (numbered (told c)).number) (after_cells c) ∙ sym (row_major_prefix (a.axis + 1) a.t2 a.t4)
+    ap₂ ◌*◌ (sym (numbered (told c)).number) (after_cells c) ∙ sym (row_major_prefix (a.axis + 1) a.lengths a.coordinates)
 
 div_length : tie.Need-nonzero_div-length
 div_length c = let p = parts (fitting (located (told c))) in omega (arith, first_cells c)
