@@ -154,6 +154,8 @@ class Function:
             rest = self.parameter(["", *rest])[1:]
         if rest and rest[0] in ("taken", "left") and re.match(r"if|.*-test$", self.places[where][2][0]):
             rest = [{"taken": "true", "left": "false"}[rest[0]]] + rest[1:]
+        if rest and self.places[where][3]:
+            rest = [{"last": "new", "kept": "auto"}.get(rest[0], rest[0])] + rest[1:]
         callee = self.places[where][3]
         params = self.e["params"].get(callee)
         if rest and rest[0] in ("new", "auto") and params:
@@ -474,6 +476,7 @@ def turn(text, f, said):
     text = re.sub(rf"tie\.((?:In|At|After|Then|Else|Start)(?:[\w'\-]*))", lambda m: m[0] if m[1] in f.names else place(m), text)
     text = re.sub(rf"tie\.Need-({ID})", need, text)
     text = re.sub(r"\.inv\b", ".invariant", text)
+    text = re.sub(r"\.pre\b", ".requires", text)
     # a test of `!f(..)` now says what the call gave, and one of `!x.field` what it said before
     def tested(m):
         name = re.search(r"if-not-([A-Za-z]\w*)", m[1])

@@ -81,16 +81,16 @@ module _ (p : tie.After-put_copies) where
   n = length s.args.row.now
 
   abbrev levels : List ℤ
-  levels = p.put_copies.last.1.1.0
+  levels = p.put_copies.new.levels
 
   abbrev ms : List ℤ
-  ms = p.put_copies.last.1.1.1.0
+  ms = p.put_copies.new.ms
 
   levels_long : length levels ≡ n
-  levels_long = p.put_copies.kept.1.1.0 ∙ long s
+  levels_long = p.put_copies.auto.levels ∙ long s
 
   ms_long : length ms ≡ n
-  ms_long = p.put_copies.kept.1.1.1.0 ∙ long s
+  ms_long = p.put_copies.auto.ms ∙ long s
 
   filled : Rows (card s) levels ms s.args.row.now
   filled = record { adds = rw (long s ∙ s.requires.0.one_each) at p.put_copies.ensures; one_each = s.requires.0.one_each }

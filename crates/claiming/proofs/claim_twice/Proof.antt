@@ -33,10 +33,10 @@ module _ (q : tie.After-claim_quickly-occupied) where
   start = q.before.before.before.before
 
   abbrev after : List ℕ
-  after = q.claim_quickly-occupied.last.1.1.1.1.1.0
+  after = q.claim_quickly-occupied.new.table
 
   kept : length after ≡ cells (card start)
-  kept = q.claim_quickly-occupied.kept.1.1.1.1.1.0 ∙ exact start
+  kept = q.claim_quickly-occupied.auto.table ∙ exact start
 
 returns : tie.Need-returns-then-occupied-ne0
 returns c =

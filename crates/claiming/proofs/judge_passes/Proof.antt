@@ -46,7 +46,7 @@ returns_2 c =
     let m = c in
     let k = clearing m.before.before.before.before.before.before.before.before in
     let s = start k in
-    cells_anew (card s) s.args.table.now k.clear.last.0 s.requires.0.admitted s.requires.1 (k.clear.kept.0 ∙ s.requires.1) m.claim_all.ensures
+    cells_anew (card s) s.args.table.now k.clear.new.table s.requires.0.admitted s.requires.1 (k.clear.auto.table ∙ s.requires.1) m.claim_all.ensures
 
 pub judge_passes_spec : {M : Type 1} → statement M
 judge_passes_spec =

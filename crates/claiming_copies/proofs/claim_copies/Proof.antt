@@ -131,10 +131,10 @@ module _ (r : tie.After-claim_line invariant_loop decreases_loop) where
   turn = u e
 
   abbrev after : List ℕ
-  after = r.claim_line.last.1.1.1.1.1.0
+  after = r.claim_line.new.table
 
   kept : length after ≡ length (s turn).args.table.now
-  kept = r.claim_line.kept.1.1.1.1.1.0 ∙ turn.loop-copy.invariant.1
+  kept = r.claim_line.auto.table ∙ turn.loop-copy.invariant.1
 
   lined : r.claim_line.result ≡ true
       → Lined (line_cell (swizzle_of (s turn).args.numbers.now) (here turn) (s turn).args.step) (λ j. (s turn).args.run.first.0 + j) (s turn).args.run.length turn.loop-copy.table after

@@ -103,10 +103,10 @@ module _ (r : tie.After-claim_copies-claimed invariant_loop decreases_loop) wher
   turn = r.before.before
 
   abbrev after : List ℕ
-  after = r.claim_copies-claimed.last.1.1.1.1.1.1.1.1.0
+  after = r.claim_copies-claimed.new.table
 
   kept : length after ≡ cells (card (s turn))
-  kept = r.claim_copies-claimed.kept.1.1.1.1.1.1.1.1.0 ∙ turn.loop-first.invariant.3.size
+  kept = r.claim_copies-claimed.auto.table ∙ turn.loop-first.invariant.3.size
 
 abbrev claimed : tie.Else-claimed-eq0 invariant_loop decreases_loop → tie.After-claim_copies-claimed invariant_loop decreases_loop
 claimed c = c.before.before.before

@@ -128,13 +128,13 @@ module _ (m : tie.After-claim_element-newly invariant_loop decreases_loop) where
   turn = m.before.before.before
 
   abbrev after : List ℕ
-  after = m.claim_element-newly.last.1.1.1.1.1.1.1.1.0
+  after = m.claim_element-newly.new.table
 
   abbrev count : ℕ
   count = occupied (s turn).args.table.now + turn.loop-done.cells
 
   size : length after ≡ cells (card (s turn))
-  size = m.claim_element-newly.kept.1.1.1.1.1.1.1.1.0 ∙ turn.loop-done.invariant.2.size
+  size = m.claim_element-newly.auto.table ∙ turn.loop-done.invariant.2.size
 
   more : 0 < m.claim_element-newly.result → OwnedTable (placed (card (s turn))) (flat turn + 1) (cells (card (s turn))) after (count + m.claim_element-newly.result)
   more h =
@@ -176,7 +176,7 @@ loop_again c =
     let bits : ℤ → ℤ = λ z. to_z w64 (of_z w64 z) in
     let some : 0 < d.claim_element-newly.result = omega (arith, c.if-newly-eq0.false) in (
       omega (arith, below (turn d)),
-      d.claim_element-newly.kept.1.1.1.1.1.1.1.0 ∙ l.invariant.1,
+      d.claim_element-newly.auto.row ∙ l.invariant.1,
       owned_as (card (s (turn d))) (omega arith) (omega arith) (more d some),
       to_z-of_z (level_fits d) ∙ stepped (bits (a q).level) (bits (b q).level) (to_z w64 l.level-bits) l.done l.invariant.3,
       to_z-of_z (m_fits d) ∙ stepped (bits (a q).m) (bits (b q).m) (to_z w64 l.m-bits) l.done l.invariant.4,

@@ -87,7 +87,7 @@ module _ (r : tie.After-claim_run-claimed invariant_loop decreases_loop) where
   turn = start.before.before.before
 
   abbrev after : List ℕ
-  after = r.claim_run-claimed.last.1.1.1.1.1.1.1.1.0
+  after = r.claim_run-claimed.new.table
 
   abbrev claimed : ℕ
   claimed = r.claim_run-claimed.result.elements
@@ -104,8 +104,8 @@ module _ (r : tie.After-claim_run-claimed invariant_loop decreases_loop) where
     size = size;
   }
 
-  kept : length r.claim_run-claimed.last.1.1.1.1.1.1.1.0 ≡ length (s turn).args.row.now
-  kept = r.claim_run-claimed.kept.1.1.1.1.1.1.1.0 ∙ turn.loop-flat.invariant.3
+  kept : length r.claim_run-claimed.new.row ≡ length (s turn).args.row.now
+  kept = r.claim_run-claimed.auto.row ∙ turn.loop-flat.invariant.3
 
   counted : turn.loop-flat.occupied + r.claim_run-claimed.result.cells ≤ cells (card (s turn))
   counted = omega (arith, turn.loop-flat.invariant.4.counted, r.claim_run-claimed.ensures.owned.counted, occupied_most after, size)

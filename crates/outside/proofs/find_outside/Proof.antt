@@ -61,8 +61,8 @@ returns c =
     let both = (and-eq-true_iff (eqb f.first_axis-first.result 7) m.m_between.result).0 c.if-first-m_between.true in
     let axes = eqb-true f.first_axis-first.result 7 both.0 in
     let on_m_lem = rw (
-      to_z-of_z {w = w64} {z = get_or e.ends.last.1.1.0 7 (pos 0)} (record { sfits = m.m_between-arg-1.given }),
-      to_z-of_z {w = w64} {z = get_or e.ends.last.1.1.1.0 7 (pos 0)} (record { sfits = m.m_between-arg-2-1.given }),
+      to_z-of_z {w = w64} {z = get_or e.ends.new.low 7 (pos 0)} (record { sfits = m.m_between-arg-1.given }),
+      to_z-of_z {w = w64} {z = get_or e.ends.new.high 7 (pos 0)} (record { sfits = m.m_between-arg-2-1.given }),
     ) at (m.m_between.ensures both.1) in
     stays_inside (card s) s.requires.admitted (eight s)
     (ends_stay s.args.numbers.now s.args.strides.now s.requires e.ends.ensures.0 e.ends.ensures.1

@@ -68,7 +68,7 @@ module _ (t : tie.In-loop-k invariant_loop decreases_loop) (up : Bool) (before s
       (omega (
         arith,
         sum_far (get_or before axis (pos 0)) (along (slice t.loop-k.k (counted b) (slots_of b)) (far up (slots_of b) (counted b)) axis),
-        along_room a.numbers.now a.strides.now a.list b.pre.0 t.loop-k.k (far up (slots_of b) (counted b)) axis,
+        along_room a.numbers.now a.strides.now a.list b.requires.0 t.loop-k.k (far up (slots_of b) (counted b)) axis,
         small.small axis,
       ))
 
@@ -89,7 +89,7 @@ module _ (t : tie.In-loop-k invariant_loop decreases_loop) (up : Bool) (before s
       let a = b.args in
       let j = t.loop-k.k - 1 in
       let back : t.loop-k.k ≡ j + 1 = omega arith in
-      spread_more up (slots_of b) (counted b) (fits b) before j (met t) (iters_next a.numbers.now a.strides.now a.list b.pre.0 j (omega arith)) (omega (arith, (turn t).an_axis))
+      spread_more up (slots_of b) (counted b) (fits b) before j (met t) (iters_next a.numbers.now a.strides.now a.list b.requires.0 j (omega arith)) (omega (arith, (turn t).an_axis))
       (subst (λ (k : ℕ). Spread up (slots_of b) (counted b) before k sums) back s)
 
 -- what the machine reads of a sum and of the stride are these numbers

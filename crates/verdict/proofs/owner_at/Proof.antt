@@ -18,7 +18,7 @@ below : (k : tie.In-Approved) → (start (judged k)).args.cell.0 < length (judge
 below k =
     let j = judged k in
     let room = approved_room j.judge_admitted-verdict.ensures k.in-Approved.is in
-    omega (arith, (start j).requires.1, j.judge_admitted-verdict.kept.1.1.0)
+    omega (arith, (start j).requires.1, j.judge_admitted-verdict.auto.table)
 
 mul_t11 : tie.Need-offset_bounds-table-cell
 mul_t11 c = omega (arith, below c)
