@@ -258,7 +258,7 @@ def head_of(before):
             n += 1
         atoms.append(text[b:n])
     for j in reversed(range(len(atoms))):
-        if re.fullmatch(r"[^\w(\[{\"'_]+|in|let|=|elim|rw|λ", atoms[j]):
+        if re.fullmatch(r"[^\w(\[{\"'_]\S*|in|let|=|elim|rw|λ", atoms[j]):
             atoms = atoms[j + 1 :]
             break
     return (atoms[0], len(atoms) - 1) if atoms else (None, 0)

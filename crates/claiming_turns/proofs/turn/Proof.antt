@@ -74,7 +74,7 @@ module _ (t : tie.In-loop-k invariant_loop decreases_loop) where
   digit = get_or digits j 0
 
   abbrev here : LevelAndM
-  here = read t.loop-k.level t.loop-k.m
+  here = read t.loop-k.level-bits t.loop-k.m-bits
 
   abbrev way : LevelAndM
   way = record { level = get_or s.args.levels.now j (pos 0); m = get_or s.args.ms.now j (pos 0) }

@@ -43,7 +43,7 @@ fits c =
     let s = start c in
     far_fits (omega (arith, sum_far s.args.m (added c), s.requires.near, s.requires.near_adds c.loop-r.r))
 
-told : (c : tie.After-m_lies invariant_loop decreases_loop) → let p = c in Says (MLies (start p.before).args.numbers.now ((start p.before).args.m +ℤ added p)) c.m_lies.result
+told : (c : tie.After-m_lies invariant_loop decreases_loop) → let p = c in Says (MLies (start p.before).args.numbers.now ((start p.before).args.m +ℤ added p.before)) c.m_lies.result
 told c = let p = c in rw (m_back (start p.before), added_back p.before, to_z-of_z (fits p.before)) at c.m_lies.ensures
 
 returns : tie.Need-returns-then-not-m_lies invariant_loop decreases_loop
