@@ -20,7 +20,7 @@ returns c =
     let k = p in
     let a = k.args in
     let after = p.owner_packed.new.table in
-    (owner_exactly a.card a.t2 a.table.now after p.owner_packed.result).1
+    (owner_exactly a.card a.coordinates a.table.now after p.owner_packed.result).1
     (subst (λ (card : Card). OwnerPromise card a.coordinates a.table.now after p.owner_packed.result) k.pack-packed.ensures.same_card p.owner_packed.ensures)
 
 pub owner_of_spec : {M : Type 1} → statement M
