@@ -1,6 +1,8 @@
 // The program desk: questions in lines on standard input, answers in lines on standard output. It
 // reads numbers, asks the library and prints what came back. Each subject has a module of its own; here are those
 // that lend owner tables.
+#![tactic(auto)]
+
 mod carrying;
 mod encodings;
 mod tables;

@@ -1,5 +1,7 @@
 // The program lister: blocks of 512 bytes on standard input, a line for each, its index from 0 and the reader's number.
 // A last short block is 11; an empty input prints nothing.
+#![tactic(auto)]
+
 ghost use Rattle.std.specs.Prelude.{◌^◌, ◌≤◌};
 
 use libc::STDIN_FILENO;

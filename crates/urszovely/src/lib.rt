@@ -1,5 +1,7 @@
 // Every question for C: numbers in arrays, an answer as four numbers, lent memory as a pointer and a length. include/urszovely.h
 // declares them.
+#![tactic(auto)]
+
 ghost use Rattle.std.specs.Prelude.{◌≡◌, length};
 ghost use Rattle.swizzle.specs.Swizzle.{swizzle_answer, swizzle_numbers};
 ghost use Rattle.swizzle.specs.Mode.{mode_answer, mode_numbers};
