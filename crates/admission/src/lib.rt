@@ -1,4 +1,6 @@
 // The admission of a card: checks 1 to 6 in the document's order, for any numbers in any field.
+#![tactic(auto)]
+
 ghost use Rattle.std.specs.Prelude.{◌≡◌, true, List, ℕ, ◌≤◌, ℤ, length};
 ghost use Rattle.std.proofs.Math.Seq.{slice};
 ghost use Rattle.card.specs.Lists.{all, within, within_z};

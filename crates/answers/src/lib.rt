@@ -1,4 +1,6 @@
 // The vocabulary of answers: flat index and cell number as kinds of their own, the refusals, and the plain numbers in which an answer leaves the library.
+#![tactic(auto)]
+
 ghost use Rattle.std.specs.Prelude.{◌≡◌};
 ghost use Rattle.answers.specs.Refusals.{answer, refusal_numbers};
 

@@ -1,4 +1,6 @@
 // Banks of shared memory: the line and the bank in which an element begins.
+#![tactic(auto)]
+
 ghost use Rattle.std.specs.Prelude.{◌≡◌};
 ghost use Rattle.banks_judged.specs.Bank.{bank_answer, bank_numbers};
 

@@ -1,5 +1,7 @@
 // The layout book: the 512 bytes of a card with a note, what a block holds, and the orders of reading and writing; any changed byte is noticed.
 // Here are the answers and where the parts of a block stand; the definitions are in specs/. There are no functions.
+#![tactic(auto)]
+
 use answers::Refusal;
 use card::Card;
 

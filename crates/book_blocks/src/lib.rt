@@ -1,4 +1,6 @@
 // The block of a card with a note, its check, and the length of a block's note.
+#![tactic(auto)]
+
 ghost use Rattle.std.specs.Prelude.{◌≡◌, ◌++◌, ℕ, ◌<◌, ◌≤◌, length, get_or, take};
 ghost use Rattle.book.specs.Bytes.{bytes};
 ghost use Rattle.book.specs.Block.{most_note, check_of, block_of};

@@ -1,4 +1,6 @@
 // The card that a block of the layout book holds, field by field.
+#![tactic(auto)]
+
 ghost use Rattle.std.specs.Prelude.{◌≡◌, false, cond, map, ℕ, ◌+◌, ◌*◌, ◌^◌, ◌<◌, ◌≤◌, ltb, eqb, length};
 ghost use Rattle.card.specs.Lists.{slots};
 ghost use Rattle.card.specs.Card.{none, no_card};

@@ -1,4 +1,6 @@
 // Whether every unused byte of a block is zero and every mark 0 or 1, byte by byte and in place.
+#![tactic(auto)]
+
 ghost use Rattle.std.specs.Prelude.{◌≡◌, true, ◌↔◌, ◌+◌, ◌*◌, ◌≤◌, length};
 ghost use Rattle.book.specs.Bytes.{field};
 ghost use Rattle.book.specs.Book.{check_right, all_used};

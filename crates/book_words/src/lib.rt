@@ -1,5 +1,7 @@
 // The first 216 bytes of a card's block as 54 words of four bytes.
 // Every field of a card fills or shares an aligned word, so that one function goes by the word's place and one loop stores the bytes.
+#![tactic(auto)]
+
 ghost use Rattle.std.specs.Prelude.{◌≡◌, ℕ, ◌^◌, ◌<◌, ◌≤◌, length, get_or};
 ghost use Rattle.card.specs.Card.{mark_number};
 ghost use Rattle.book.specs.Bytes.{twos};

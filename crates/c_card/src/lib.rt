@@ -1,4 +1,6 @@
 // A card as plain numbers, for C and for desk: the card that 57 numbers and its marks are, and an answer as four numbers.
+#![tactic(auto)]
+
 ghost use Rattle.std.specs.Prelude.{◌≡◌, ◌+◌, ◌≤◌};
 ghost use Rattle.c_card.specs.Card.{signed64, iter_from, shard_from, replica_from, offset_from, lengths_from, marks_from, card_from, four};
 

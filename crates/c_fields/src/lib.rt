@@ -1,4 +1,6 @@
 // The fields of a descriptor as bytes, for C.
+#![tactic(auto)]
+
 ghost use Rattle.std.specs.Prelude.{◌≡◌, ◌<◌};
 ghost use Rattle.descriptor.specs.Descriptor.{bit};
 ghost use Rattle.c_fields.specs.Fields.{fields_from, bytes_of};

@@ -1,5 +1,7 @@
 // Holdings in a caller's array, four numbers of 64 bits to a lane: dealt and collected field by field, as bits. Public, with a requires, only
 // for the crate above, whose arrays are as long as said.
+#![tactic(auto)]
+
 ghost use Rattle.std.specs.Prelude.{◌≡◌, [], ◌/◌, ◌%◌, ◌<◌, length, get_or, set};
 ghost use Rattle.values.specs.Rows.{entry};
 ghost use Rattle.values.specs.Values.{dealt, collected};

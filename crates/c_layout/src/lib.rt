@@ -1,4 +1,6 @@
 // A layout that was read as plain numbers, for C and for desk: the first 46 of the 57 of a card, and its marks as one.
+#![tactic(auto)]
+
 ghost use Rattle.std.specs.Prelude.{◌≡◌, cond, ◌∷◌, length, take, ◌+◌, ◌*◌, ◌≤◌};
 ghost use Rattle.std.proofs.lemmas.List.Edits.{sets};
 ghost use Rattle.c_card.specs.Card.{eight};

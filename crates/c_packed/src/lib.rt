@@ -1,4 +1,6 @@
 // The card that 57 numbers and its marks are, packed straight from them, for C.
+#![tactic(auto)]
+
 ghost use Rattle.std.specs.Prelude.{◌≡◌, cond, map, ℕ, ◌+◌, ◌*◌, ◌<◌, min, ltb, pos, length, get_or, replicate};
 ghost use Rattle.descriptor.specs.Descriptor.{yes};
 ghost use Rattle.card.specs.Lists.{product, slots};

@@ -1,5 +1,7 @@
 // Registers in a caller's arrays: dealt and collected entry by entry, so that no array of registers is made, and moved as bits, so that a
 // not-a-number keeps its pattern. Public, with a requires, only for the crates above, whose arrays are as long as said.
+#![tactic(auto)]
+
 ghost use Rattle.std.specs.Prelude.{◌≡◌, ◌/◌, ◌%◌, ◌<◌, length, get_or, set};
 ghost use Rattle.values.specs.Rows.{entry};
 ghost use Rattle.values.specs.Values.{dealt, collected};

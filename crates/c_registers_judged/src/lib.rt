@@ -1,5 +1,7 @@
 // Registers in a caller's arrays judged: whether a tile can be dealt, or collected from the lanes, and the first register of the wrong sort. Public,
 // with a requires, only for the crate above, whose arrays are as long as said.
+#![tactic(auto)]
+
 ghost use Rattle.std.specs.Prelude.{◌≡◌, ◌<◌, length};
 ghost use Rattle.fragment.specs.Kinds.{place};
 ghost use Rattle.values.specs.declared.Register.TheVariants.{Empty};

@@ -1,4 +1,6 @@
 // A shape, or coordinates, as plain numbers, for C and for desk.
+#![tactic(auto)]
+
 ghost use Rattle.std.specs.Prelude.{◌≡◌};
 ghost use Rattle.c_tuple.specs.Tuple.{tuple_from};
 

@@ -1,5 +1,7 @@
 // The canonical shared-memory layouts of source document 001 by one rule: the numbers that name one, the card that is built for it, and what is reported.
 // There are no functions.
+#![tactic(auto)]
+
 use card::{Admission, Card};
 use judgement::Verdict;
 

@@ -1,4 +1,6 @@
 // The card of a canonical shared-memory layout, built from what is asked: the checks of request 7, then the iters of source document 001's table.
+#![tactic(auto)]
+
 ghost use Rattle.std.specs.Prelude.{◌≡◌, true, [], ◌∷◌, ◌*◌, ◌/◌, ◌≤◌, ◌<◌};
 ghost use Rattle.swizzle.specs.Mode.{known_bits, mode_answer};
 ghost use Rattle.swizzle.specs.declared.Chosen.TheVariants.{Parameters};

@@ -1,7 +1,7 @@
 -- A test of all of a list, and its product, as loops come to them, one more element of the part that is left, and what they say of each element;
 -- and lists that are the same.
 use mathlib.Core.Path.{◌≡◌, refl, sym, ap, ap₂, ◌∙◌}
-use mathlib.Core.Bool.{Bool, true, ◌&&◌, and_assoc, and_true, and-eq-true_iff, true≢false}
+use mathlib.Core.Bool.{Bool, true, ◌&&◌, and_assoc, and-true, and-eq-true_iff, true≢false}
 use mathlib.Core.List.{List, [], ◌∷◌}
 use Prim.Native.Nat.{ℕ, zero, suc, ◌+◌, ◌*◌, ◌≤◌, ◌<◌, min}
 use native.Mathlib.Nat.{mul_assoc, mul-one, min-eq_left, not-suc-le-zero, le_of_suc-le-suc, le_refl, one-le-mul}
@@ -30,7 +30,7 @@ module _ {A : Type 0} (p : A → Bool) (l : List A) (from n : ℕ) where
       ∙ e
 
   pub tested_all : (fit : Bool) → Tested n fit → fit ≡ all p (slice from n l)
-  tested_all fit e = sym (and_true fit) ∙ sym (ap (λ (s : List A). fit && all p s) (slice_empty n l)) ∙ e
+  tested_all fit e = sym (and-true fit) ∙ sym (ap (λ (s : List A). fit && all p s) (slice_empty n l)) ∙ e
 
 module _ (l : List ℕ) (n c : ℕ) where
   -- what a loop that has multiplied the first k numbers still owes, told apart below c

@@ -1,6 +1,6 @@
 -- Marks tested one after the other: with the marks from k on still owed, each turn of a loop tests one more.
 use mathlib.Core.Path.{◌≡◌, refl, sym, ap, ap₂, ◌∙◌}
-use mathlib.Core.Bool.{Bool, true, false, not, ◌&&◌, ◌||◌, and_assoc, and_true}
+use mathlib.Core.Bool.{Bool, true, false, not, ◌&&◌, ◌||◌, and_assoc, and-true}
 use mathlib.Core.List.{List, map}
 use Prim.Native.Nat.{ℕ, suc, ◌+◌, ◌≤◌, ◌<◌}
 use native.Mathlib.Numerals.{add-one}
@@ -33,7 +33,7 @@ module _ (marks : List Bool) (strides : List ℤ) where
 
   pub marked_all : (n : ℕ) (fit : Bool) → length marks ≤ n → Marked n fit → fit ≡ marks_fit marks strides
   marked_all n fit h e =
-      sym (and_true fit) ∙ sym (ap (λ (m : List Bool). fit && marks_fit m (drop n strides)) (drop_of_length-le marks {i = n} h)) ∙ e
+      sym (and-true fit) ∙ sym (ap (λ (m : List Bool). fit && marks_fit m (drop n strides)) (drop_of_length-le marks {i = n} h)) ∙ e
 
 -- the marks of a packed card's listed shard iters
 module _ (numbers : List ℕ) (strides : List ℤ) (of : ListOf numbers 0) where

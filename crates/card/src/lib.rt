@@ -1,4 +1,6 @@
 // The layout card and checks 1 to 6: the card by value, the answer of its admission, and where its numbers stand when it is packed. There are no functions.
+#![tactic(auto)]
+
 use answers::Refusal;
 use swizzle::Swizzle;
 

@@ -1,4 +1,6 @@
 // A card packed once into two arrays of numbers.
+#![tactic(auto)]
+
 ghost use Rattle.std.specs.Prelude.{◌≡◌, map, min};
 ghost use Rattle.card.specs.Card.{mark_number, extent_of, size};
 ghost use Rattle.card.specs.Packed.{beyond, last_column, Packs};

@@ -1,4 +1,6 @@
 // Whole products, told apart below a number above every limit.
+#![tactic(auto)]
+
 ghost use Rattle.std.specs.Prelude.{◌≡◌, ◌*◌, ◌≤◌, min, take};
 ghost use Rattle.card.specs.Lists.{product};
 ghost use Rattle.card.specs.Packed.{beyond};

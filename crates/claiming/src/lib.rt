@@ -4,6 +4,8 @@
 // nothing is said of why. So there is no law that a clash must be there, the first clash, its two elements and its cell are found by
 // `claiming_in_order` alone, and whatever the quick pass leaves out, cards with marks and those of one element with several copies, goes
 // that way from the start. A card that is refused 8 pays for both.
+#![tactic(auto)]
+
 ghost use Rattle.std.specs.Prelude.{◌≡◌, length, replicate};
 ghost use Rattle.card.specs.Card.{cells};
 ghost use Rattle.card.specs.Packed.{card_of};

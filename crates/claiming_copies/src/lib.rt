@@ -1,5 +1,7 @@
 // A packed card's elements claimed run by run, and each run copy by copy, a line of cells at a time. Where a cell has an owner
 // already it fails: which element meets it is for the crate above to find.
+#![tactic(auto)]
+
 ghost use Rattle.std.specs.Prelude.{◌≡◌, ◌+◌, ◌<◌, replicate};
 ghost use Rattle.card.specs.Card.{cells};
 ghost use Rattle.card.specs.Packed.{swizzle_of, card_of};

@@ -1,4 +1,6 @@
 // A run of a packed card's elements claimed element by element: the one that meets an owner is told.
+#![tactic(auto)]
+
 ghost use Rattle.std.specs.Prelude.{◌≡◌};
 ghost use Rattle.card.specs.Card.{copies, cells};
 ghost use Rattle.card.specs.Packed.{swizzle_of, card_of};

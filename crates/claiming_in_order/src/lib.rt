@@ -1,4 +1,6 @@
 // A packed card's runs claimed in the order of their elements, each element by element: the first that meets an owner is refused.
+#![tactic(auto)]
+
 ghost use Rattle.std.specs.Prelude.{◌≡◌, false, length, replicate};
 ghost use Rattle.card.specs.Card.{cells};
 ghost use Rattle.card.specs.Packed.{card_of, Admits};

@@ -5,6 +5,8 @@
 // and one look a cell. `Lined` says of every cell what became of it and knows no order: it is the cell of exactly one step, was nobody's and
 // has that step's element, or it is none of the line's and is as it was. So one law (`lined-more`) serves both loops, and copies claimed in
 // any order come to the owners of elements claimed in order (`Partly-more`, `partly-all`).
+#![tactic(auto)]
+
 ghost use Rattle.std.specs.Prelude.{◌≡◌, true, ℕ, ◌+◌, ◌<◌, get_or};
 ghost use Rattle.claiming_lines.specs.Lines.{Lined, line_cell, LineThere, StretchThere};
 

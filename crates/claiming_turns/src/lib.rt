@@ -4,6 +4,8 @@
 // and m, made once a card; so a run begins by some additions and not by a walk with divisions. Digits are any numbers below their extents,
 // and what they lack of the next index is one step of the digit that comes next (`index-forth`, `index_back`); that they are the components
 // of that index is the one law in which anything is divided (`digits-back`).
+#![tactic(auto)]
+
 ghost use Rattle.std.specs.Prelude.{◌≡◌, List, ◌<◌, ℤ, pos, ◌+ℤ◌, ◌*ℤ◌, length, get_or};
 ghost use Rattle.std.proofs.Math.Seq.{slice};
 ghost use Rattle.card.specs.Card.{none};

@@ -1,4 +1,6 @@
 // From element to cell on a packed card: one walk over the iters, the swizzle of m, the number among the lengths, and the row of an element's copies.
+#![tactic(auto)]
+
 ghost use Rattle.std.specs.Prelude.{◌≡◌, true, map, ◌+◌, min, length, take};
 ghost use Rattle.std.proofs.Math.Seq.{slice};
 ghost use Rattle.card.specs.Packed.{iters_of, swizzle_of, card_of, Admits};

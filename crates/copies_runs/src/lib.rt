@@ -1,5 +1,7 @@
 // The cells of a packed card's copies in runs, by level and m: what a step and each copy add, and a row filled by it.
 // An element begins at a level, the number of its sums without m, and at an m; in a run both grow by one step, and each copy adds its own.
+#![tactic(auto)]
+
 ghost use Rattle.std.specs.Prelude.{◌≡◌, true, List, ℤ, pos, ◌+ℤ◌, ◌≤◌, length};
 ghost use Rattle.std.proofs.Math.Seq.{slice};
 ghost use Rattle.card.specs.Card.{listed};

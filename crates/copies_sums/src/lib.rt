@@ -1,4 +1,6 @@
 // What a list of a packed card's iters adds to each axis at an index: one walk over the iters.
+#![tactic(auto)]
+
 ghost use Rattle.std.specs.Prelude.{◌≡◌, pos, ◌+ℤ◌, ◌*ℤ◌};
 ghost use Rattle.card.specs.Packed.{iters_of};
 ghost use Rattle.rules.specs.Walked.{walked};

@@ -1,4 +1,6 @@
 // Dealing a tile's values to the lanes of a warp and collecting them: which are of the wrong sort, the answer, and what is filled.
+#![tactic(auto)]
+
 ghost use Rattle.std.specs.Prelude.{◌≡◌, not, ◌&&◌, ◌/◌, ◌%◌, ◌<◌};
 ghost use Rattle.values.specs.Rows.{entry};
 ghost use Rattle.values.specs.Values.{is_own};

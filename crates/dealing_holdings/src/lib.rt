@@ -1,4 +1,6 @@
 // Dealing and collecting over the .f64 holdings of 32 lanes: a holding's registers for a kind, and the holding with them anew.
+#![tactic(auto)]
+
 ghost use Rattle.std.specs.Prelude.{◌≡◌, [], map, get_or};
 ghost use Rattle.values.specs.Rows.{each};
 ghost use Rattle.values.specs.Holdings.{registers_of, double_of, with_registers, deal_holdings_answer, collect_holdings_answer, dealt_holdings, collected_from_holdings};

@@ -1,5 +1,7 @@
 // The moves of dealing and collecting, register by register: values go from a tile to the lanes of a warp and back, and are never looked at.
 // Where a value comes from is one number, so that no array goes with it; a lane or a row is made whole and put once.
+#![tactic(auto)]
+
 ghost use Rattle.std.specs.Prelude.{◌≡◌, cond, ◌&&◌, ◌<◌, eqb, ltb};
 ghost use Rattle.values.specs.Rows.{each};
 ghost use Rattle.values.specs.Values.{dealt_entry, dealt, collected_entry, collected};

@@ -1,4 +1,6 @@
 // Descriptors of zero-column masks, their fields and their limits: descriptor to fields, and fields to descriptor. There are no functions.
+#![tactic(auto)]
+
 use answers::Refusal;
 
 // The fields of a descriptor; one start count and one first span for each of four sub-masks.

@@ -1,4 +1,6 @@
 // Descriptors of zero-column masks read and written, each field at its bits.
+#![tactic(auto)]
+
 ghost use Rattle.std.specs.Prelude.{◌≡◌, ◌+◌, ◌^◌, ◌<◌, ◌≤◌};
 ghost use Rattle.descriptor.specs.Descriptor.{fields_of, no_fields, reserved, fields_answer, bit, count_bits, span_bits, descriptor_of, shift_limit, descriptor_answer, fields_numbers, descriptor_numbers};
 

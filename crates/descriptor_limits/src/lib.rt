@@ -1,4 +1,6 @@
 // Which M a mask may have, and the largest shift for each.
+#![tactic(auto)]
+
 ghost use Rattle.std.specs.Prelude.{◌≡◌, ◌≤◌};
 ghost use Rattle.descriptor.specs.Descriptor.{mask_m, shift_limit};
 

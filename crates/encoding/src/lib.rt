@@ -1,4 +1,6 @@
 // The canonical shared-memory layouts: the card of what is asked, the verdict on it, and LBO and SBO as a descriptor has them.
+#![tactic(auto)]
+
 ghost use Rattle.std.specs.Prelude.{◌≡◌};
 ghost use Rattle.canonical.specs.Canonical.{encoded_lbo, reported, reported_numbers, CanonicalPromise};
 

@@ -1,4 +1,6 @@
 // Who holds what in a warp: the nine kinds of fragments of m8n8k4, both ways.
+#![tactic(auto)]
+
 mod accumulator;
 
 ghost use Rattle.std.specs.Prelude.{◌≡◌, true, ◌+◌, ◌*◌, ◌<◌};

@@ -5,6 +5,8 @@
 // by nine bits for each axis, so that small sums of different axes seldom meet. Sums are counted from 2^40, so that none is below zero and
 // each is a word as it stands. The search for a key ends at the second's own, so it asks for no bound. A card without replica is not
 // searched. What the functions promise is the record, so the quicker search moved no promise.
+#![tactic(auto)]
+
 ghost use Rattle.std.specs.Prelude.{◌≡◌, ◌+◌, ◌≤◌, ◌<◌, length};
 ghost use Rattle.card.specs.declared.Iters.{Iters};
 ghost use Rattle.card.specs.Packed.{iters_of, card_of, Whole, Admits};

@@ -1,4 +1,6 @@
 // What a layout card comes to, in the order of checks: the answers of the verdict and of the owner of a cell, and demand 3. There are no functions.
+#![tactic(auto)]
+
 use answers::Refusal;
 
 // The answer to the verdict: elements, occupied cells and cells of an approved card.

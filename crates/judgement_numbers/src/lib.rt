@@ -1,4 +1,6 @@
 // The answers of the verdict and of the owner of a cell as plain numbers.
+#![tactic(auto)]
+
 ghost use Rattle.std.specs.Prelude.{◌≡◌};
 ghost use Rattle.judgement.specs.Verdict.{verdict_numbers, owner_numbers};
 

@@ -79,7 +79,7 @@ shift_changes_nothing limit M N d e lent r h l same =
     record {
       counts = λ i b. ap (λ (f : Fields). get_or f.start_counts i 0) same;
       spans = λ i b. ap (λ (f : Fields). get_or f.first_spans i false) same;
-      non-zero = ap (λ (f : Fields). f.non_zero) same;
+      non_zero = ap (λ (f : Fields). f.non_zero) same;
       skip_span = ap (λ (f : Fields). f.skip_span) same;
       use_span = ap (λ (f : Fields). f.use_span) same;
     } in

@@ -1,4 +1,6 @@
 // Zero-column masks: the mask that M, N and a descriptor give.
+#![tactic(auto)]
+
 ghost use Rattle.std.specs.Prelude.{◌≡◌, ◌*◌, ◌/◌, ◌%◌, ◌≤◌, length, get_or};
 ghost use Rattle.descriptor.specs.Descriptor.{yes, shift_limit};
 ghost use Rattle.mask_pattern.specs.Pattern.{column, mask_bytes};

@@ -1,4 +1,6 @@
 // The columns of a zero-column mask as words of 64 bits, made from runs.
+#![tactic(auto)]
+
 ghost use Rattle.std.specs.Prelude.{◌≡◌, Bool, true, false, cond, ℕ, ◌+◌, ◌-◌, ◌*◌, ◌/◌, ◌%◌, ◌^◌, ◌<◌, ◌≤◌, min, eqb, get_or};
 ghost use Rattle.std.specs.Int.Count.{count_trailing_zeros};
 ghost use Rattle.mask_pattern.specs.Pattern.{endless, column, columns_number, zeroed, first_used};

@@ -1,4 +1,6 @@
 // The further kinds of warp fragments: what a register holds, which register holds a place, and a kind's layout as a card.
+#![tactic(auto)]
+
 mod rows;
 
 ghost use Rattle.std.specs.Prelude.{◌≡◌, ◌+◌, ◌*◌, ◌/◌, ◌%◌, ◌≤◌, ◌<◌};

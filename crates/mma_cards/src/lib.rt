@@ -1,4 +1,6 @@
 // The card of a further kind of fragment, from its six numbers: an iter of extent 1 does not stand.
+#![tactic(auto)]
+
 ghost use Rattle.std.specs.Prelude.{◌≡◌, List, [], ◌∷◌, ◌++◌, ◌+◌, ◌*◌, ◌≤◌, ◌<◌, pos, length};
 ghost use Rattle.card.specs.Card.{counted, none, no_card};
 ghost use Rattle.card.specs.declared.Iter.{Iter};

@@ -1,4 +1,6 @@
 // The further kinds of warp fragments, m16n8, wgmma and ldmatrix: a table of PTX's rules, each kind a layout. There are no functions.
+#![tactic(auto)]
+
 use answers::Refusal;
 use card::{Admission, Card};
 

@@ -1,5 +1,7 @@
 // The layout notation: its grammar, what a text says, how a card is written, and why a reader can find the longest beginning.
 // Here are what reading and writing answer, and where in a text the reader stands: types alone; the definitions are in specs/.
+#![tactic(auto)]
+
 use answers::Refusal;
 use card::Iters;
 

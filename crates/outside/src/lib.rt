@@ -1,4 +1,6 @@
 // The first element of which a copy lies outside the space, and the smallest axis for it, without a pass over the elements.
+#![tactic(auto)]
+
 ghost use Rattle.std.specs.Prelude.{◌+◌, ◌≤◌, ◌<◌, get_or};
 ghost use Rattle.card.specs.Card.{elements};
 ghost use Rattle.card.specs.Packed.{card_of, Admits};

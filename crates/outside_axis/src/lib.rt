@@ -3,6 +3,8 @@
 // shard's far end by no more than the card's far end lies beyond the length. So from the slowest iter on each stays back as many steps as
 // what is spare allows, and one walk serves both ways, without negative numbers.
 // An element and its axis are one number, 8 * flat + axis: the smallest is the first element, and of it the smallest axis.
+#![tactic(auto)]
+
 ghost use Rattle.std.specs.Prelude.{◌≤◌, min, ◌≡◌, nat_abs};
 ghost use Rattle.card.specs.Card.{elements};
 ghost use Rattle.card.specs.Packed.{farthest, iters_of, card_of};

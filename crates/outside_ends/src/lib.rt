@@ -3,6 +3,8 @@
 // that its sums are made by the walk that makes all sums, and that nothing lies beyond them is one law over the iters.
 // On m whole blocks are asked for, whatever B: with B = 0 and M = 0 a block is one address and the question is exact; with B = 0 and M above
 // 0 it asks for more than it must, and m is looked at from the first element on that reaches beyond the whole blocks.
+#![tactic(auto)]
+
 ghost use Rattle.std.specs.Prelude.{◌≡◌, true, false, ◌≤◌, length};
 ghost use Rattle.card.specs.Packed.{iters_of, card_of, Admits};
 ghost use Rattle.copies_sums.specs.Walks.{Walkable, Sums};

@@ -2,6 +2,8 @@
 // Only m is looked at element by element, where the blocks of its swizzle numbers are not whole at its length, from the first one that
 // reaches beyond the whole blocks to the first that leaves on another axis, in runs: one walk for each run, then one addition for an element
 // and one for each copy, what the copies add written once.
+#![tactic(auto)]
+
 ghost use Rattle.std.specs.Prelude.{◌+◌, ◌≤◌, ◌<◌, ◌≡◌, true, pos, ◌+ℤ◌, ◌*ℤ◌, length};
 ghost use Rattle.card.specs.Limits.{last_axis};
 ghost use Rattle.card.specs.Card.{listed, copies, elements};

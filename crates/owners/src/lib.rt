@@ -3,6 +3,8 @@
 // nothing is kept but the table.
 // A claim answers one word, the cells newly occupied, 0 exactly when an owner is met; x and the smallest shared cell are looked for only
 // then.
+#![tactic(auto)]
+
 ghost use Rattle.std.specs.Prelude.{◌≡◌, ◌+◌, ◌<◌, length, replicate};
 ghost use Rattle.claims.specs.Claims.{taken, occupied};
 ghost use Rattle.claims.specs.Rows.{RowWithin, min_some, entry_met, cell_with, cell_met, row_written, RowClaim};

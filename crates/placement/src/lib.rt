@@ -1,4 +1,6 @@
 // The placement of one element.
+#![tactic(auto)]
+
 ghost use Rattle.std.specs.Prelude.{◌≡◌, ◌≤◌, ◌<◌, length, take};
 ghost use Rattle.card.specs.Packed.{beyond, card_of, Whole, Admits};
 ghost use Rattle.card.specs.Card.{copies};

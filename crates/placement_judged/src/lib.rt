@@ -1,4 +1,6 @@
 // What the placement of one element comes to, in the order of checks: a shape, coordinates in it, and the answer. There are no functions.
+#![tactic(auto)]
+
 use answers::Refusal;
 
 // A counted list of numbers: a shape, or coordinates in one.

@@ -1,4 +1,6 @@
 // A carrier's plan checked between two cards, and a plain plan written.
+#![tactic(auto)]
+
 ghost use Rattle.plans_judged.specs.Endings.{CheckSays, PlanSays};
 
 use card::Card;

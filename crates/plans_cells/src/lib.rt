@@ -1,5 +1,7 @@
 // A carrier's plan checked, and a plain plan written, between two tables of owners that are each exactly the cells. Public for
 // the crate above.
+#![tactic(auto)]
+
 ghost use Rattle.std.specs.Prelude.{◌≡◌, length};
 ghost use Rattle.claims.specs.Claims.{occupied};
 ghost use Rattle.plans.specs.Plans.{Matched};

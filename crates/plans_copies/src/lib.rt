@@ -1,6 +1,8 @@
 // Plans over lent tables of one space: the first copy outside, the copies run, the first wrong cell and the first shared one.
 // Each table is of exactly its cells; a plan's numbers are two a copy, from cell and then to cell. Public, with a requires, only for the crates
 // above, which judge the two cards.
+#![tactic(auto)]
+
 ghost use Rattle.std.specs.Prelude.{◌≡◌, ltb, ◌&&◌, length};
 ghost use Rattle.plans.specs.Plans.{carried, first_outside, first_wrong, first_shared};
 ghost use Rattle.plans.specs.Passes.{sought, first_sought};

@@ -1,4 +1,6 @@
 // The answers to checking a carrier's plan and to writing one, as plain numbers.
+#![tactic(auto)]
+
 ghost use Rattle.std.specs.Prelude.{◌≡◌};
 ghost use Rattle.plans_judged.specs.Endings.{checked_numbers, planning_numbers};
 

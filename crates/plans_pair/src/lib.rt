@@ -1,5 +1,7 @@
 // Two cards of one space and two lent tables, before a plan between them is looked at: the space, the tables, both verdicts, reuse marks, elements.
 // Public for the crate above.
+#![tactic(auto)]
+
 ghost use Rattle.std.specs.Prelude.{◌≡◌, true, ◌≤◌, length};
 ghost use Rattle.card.specs.Card.{cells};
 ghost use Rattle.plans_judged.specs.Pair.{one_space};

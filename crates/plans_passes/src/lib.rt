@@ -1,6 +1,8 @@
 // The plain plan between two lent tables of one space, written in its own memory in three passes.
 // Each table is of exactly its cells; a plan's numbers are two a copy, from cell and then to cell. Public, with a requires, only for the crate
 // above, which judges the two cards.
+#![tactic(auto)]
+
 ghost use Rattle.std.specs.Prelude.{◌≡◌, ◌+◌, ◌*◌, ◌≤◌, length};
 ghost use Rattle.claims.specs.Claims.{taken, occupied};
 ghost use Rattle.plans.specs.Plans.{planned, Matched};

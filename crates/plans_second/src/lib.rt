@@ -1,5 +1,7 @@
 // What the second card is asked beside the first, before a plan is looked at: the same lengths, its verdict, no reuse mark on either, as many elements.
 // Public for the crates above.
+#![tactic(auto)]
+
 ghost use Rattle.std.specs.Prelude.{◌≡◌, take};
 ghost use Rattle.card.specs.Lists.{same};
 ghost use Rattle.plans_judged.specs.Pair.{any_mark, marked};

@@ -1,5 +1,7 @@
 // Two lent tables of one space, beside each other: whether both have room for the cells, and the cells of both emptied.
 // Public for the crate above.
+#![tactic(auto)]
+
 ghost use Rattle.std.specs.Prelude.{◌≡◌, ◌||◌, ◌++◌, ◌≤◌, ltb, length, drop, replicate};
 
 // Whether one of two tables of these lengths has no room for so many cells.

@@ -1,4 +1,6 @@
 // Reading a text of the layout notation: a shard, then a replica, then offsets, each by its tokens. Only whole lists are put into the layout.
+#![tactic(auto)]
+
 ghost use Rattle.std.specs.Prelude.{◌≡◌, pos, replicate};
 ghost use Rattle.notation.specs.declared.Read.TheVariants.{Done};
 ghost use Rattle.notation.specs.Promise.{no_iters, no_layout, ReadSays, read_numbers};

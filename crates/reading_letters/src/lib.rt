@@ -1,5 +1,7 @@
 // The bytes of the layout notation: digits, the beginnings of names, and the letters that have to follow. Public only for the crates above, which
 // read texts and lines of lengths.
+#![tactic(auto)]
+
 ghost use Rattle.std.specs.Prelude.{◌≡◌, true, ◌+◌, ◌*◌};
 ghost use Rattle.notation.specs.Text.{axis_meant};
 ghost use Rattle.notation.specs.Machine.{digit_of, continues, initial_of, rest_of, letter};

@@ -1,5 +1,7 @@
 // The lists of a text of the layout notation: extents, strides, offsets. What they promise is a run of the notation's machine, as the tokens' promises are.
 // Public only for the crate above, which reads texts.
+#![tactic(auto)]
+
 ghost use Rattle.std.specs.Prelude.{◌≡◌, cond, false, ◌<◌, ◌≤◌, pos, neg_ℤ, replicate};
 ghost use Rattle.notation.specs.Text.{axis_meant, is_marked};
 ghost use Rattle.card.specs.Card.{none};

@@ -1,6 +1,8 @@
 // Tokens of the layout notation: numbers, words, axes, strides and offsets, each read in one go. What a token promises is a run of the notation's machine
 // over its bytes: where the machine stands at its beginning it comes to stand at its end, or the text goes wrong where the token says. Public only for
 // the crates above, which read lists and texts.
+#![tactic(auto)]
+
 ghost use Rattle.std.specs.Prelude.{◌≡◌, true, false, ◌&&◌, ◌≤◌, ltb, eqb, length, get_or};
 ghost use Rattle.notation.specs.declared.Phase.TheVariants.{At, Tee};
 ghost use Rattle.reading_tokens.specs.Run.{Digits, Numbered, Worded, Axised, Sized, AxisRead, Strided};

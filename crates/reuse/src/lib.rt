@@ -1,4 +1,6 @@
 // Which elements lead, on a packed card: of those that differ only in marked components, the smallest.
+#![tactic(auto)]
+
 ghost use Rattle.std.specs.Prelude.{◌≡◌, false, List, eqb, ℤ};
 ghost use Rattle.card.specs.Packed.{card_of, ListOf};
 ghost use Rattle.rules.specs.Reuse.{leader, Unmarked};

@@ -1,4 +1,6 @@
 // From element to cell: the rules 1 to 5 and the copies of an element as definitions, with the types that they speak of.
+#![tactic(auto)]
+
 use answers::Cell;
 
 // Where coordinates are: at a number, row-major, or past a size, the smallest such place.

@@ -19,11 +19,11 @@ q is r = record { question = q; stated = r }
 
 -- the start counts and first spans, from sub-mask 0 on, the non-zero mask, skip span, use span and shift
 abbrev pub fields : List ℕ → List Bool → Bool → ℕ → ℕ → ℕ → Fields
-fields counts spans non-zero skip used shift =
+fields counts spans non_zero skip used shift =
     record {
       start_counts = counts;
       first_spans = spans;
-      non_zero = non-zero;
+      non_zero = non_zero;
       skip_span = skip;
       use_span = used;
       shift = shift;
@@ -31,7 +31,7 @@ fields counts spans non-zero skip used shift =
 
 -- no start count, and first span 0 as given
 abbrev pub plain_fields : Bool → Bool → ℕ → ℕ → ℕ → Fields
-plain_fields span non-zero = fields (0 ∷ 0 ∷ 0 ∷ 0 ∷ []) (span ∷ false ∷ false ∷ false ∷ []) non-zero
+plain_fields span non_zero = fields (0 ∷ 0 ∷ 0 ∷ 0 ∷ []) (span ∷ false ∷ false ∷ false ∷ []) non_zero
 
 -- two and four lent bytes
 abbrev pub two : List ℕ

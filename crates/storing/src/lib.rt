@@ -1,4 +1,6 @@
 // Reading and writing a block of the layout book, the note a part of the block.
+#![tactic(auto)]
+
 ghost use Rattle.std.specs.Prelude.{◌≡◌, length};
 ghost use Rattle.card.specs.Card.{no_card};
 ghost use Rattle.book.specs.Book.{read_answer, page_of, note_read, NoteBegins, write_answer, lent_after, answer_numbers};

@@ -1,6 +1,8 @@
 // A stretch of a lent owner table: the cells under one prefix of axis coordinates.
 // A stretch is pinned by its place too: the block and the byte at which the part begins, against those of the lent table. Equal entries
 // elsewhere would not do: the caller asked for these cells of its own table, not for their values.
+#![tactic(auto)]
+
 ghost use Rattle.std.specs.Prelude.{◌≡◌, length};
 ghost use Rattle.stretch_judged.specs.Stretch.{stretch_answer, stretch_of, StretchBegins, stretch_numbers};
 

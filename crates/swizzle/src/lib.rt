@@ -1,4 +1,6 @@
 // Swizzles: the swizzle of an address, and M, B, S from element bits and mode.
+#![tactic(auto)]
+
 ghost use Rattle.std.specs.Prelude.{◌≡◌, true, ◌-◌, ◌/◌};
 ghost use Rattle.swizzle.specs.Swizzle.{permitted, swizzled, swizzle_answer, swizzle_numbers};
 ghost use Rattle.swizzle.specs.Mode.{known_bits, known, bit_length, mode_answer, mode_numbers};

@@ -1,4 +1,6 @@
 // Where each byte of memory goes in 128B mode, by a table: one for elements of every width.
+#![tactic(auto)]
+
 mod table;
 
 ghost use Rattle.std.specs.Prelude.{◌≡◌};

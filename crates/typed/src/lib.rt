@@ -1,4 +1,6 @@
 // Two lines as they are typed, eight lengths and a notation, and the verdict on them.
+#![tactic(auto)]
+
 ghost use Rattle.std.specs.Prelude.{◌≡◌};
 ghost use Rattle.typed_judged.specs.Judge.{card_for, TypedOutcome, JudgePromise};
 

@@ -1,4 +1,6 @@
 // A line of eight lengths as it is typed: eight of the notation's numbers, parted by single spaces.
+#![tactic(auto)]
+
 ghost use Rattle.std.specs.Prelude.{◌≡◌};
 ghost use Rattle.typed_lengths.specs.Line.{LengthsAnswered};
 ghost use Rattle.typed_lengths.specs.Machine.{line_at, halted, before_move, inside_move, line_phase_move, is_inside, line_start, line_concluded};

@@ -1,4 +1,6 @@
 // Values dealt to the lanes of a warp and collected from them, document 02's request 1: types, definitions and theorems.
+#![tactic(auto)]
+
 use answers::Refusal;
 
 // What a register reads as: empty, one single or one double.

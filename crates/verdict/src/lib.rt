@@ -1,6 +1,8 @@
 // The verdict on a layout card, and the owner of a cell.
 // The verdict on an admitted card is a function of its own, `judge_admitted`, which both questions call after their own checks, so that the
 // owner does not admit its card twice.
+#![tactic(auto)]
+
 ghost use Rattle.std.specs.Prelude.{◌≡◌, ◌<◌, length};
 ghost use Rattle.card.specs.Card.{cells};
 ghost use Rattle.card.specs.Packed.{card_of, Whole};

@@ -1,5 +1,7 @@
 // Writing a card in the layout notation.
 // A text is spelled into a buffer of 512 bytes and then copied, since 11 needs its length first and leaves the lent bytes untouched.
+#![tactic(auto)]
+
 ghost use Rattle.std.specs.Prelude.{◌≡◌, false, cond, [], ◌∷◌, ◌++◌, map, ◌+◌, ◌≤◌, nat_abs, eqb, length, take, drop};
 ghost use Rattle.card.specs.Card.{listed, extent_of};
 ghost use Rattle.card.specs.Admission.{field_checks};

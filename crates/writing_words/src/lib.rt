@@ -1,4 +1,6 @@
 // What of a text in the layout notation is one piece: a byte, a number, an axis' name, a stride or an offset, put into a buffer of 512 bytes.
+#![tactic(auto)]
+
 ghost use Rattle.std.specs.Prelude.{◌≡◌, [], ◌∷◌, ◌+◌, ◌%◌, ◌≤◌, nat_abs};
 ghost use Rattle.std.proofs.Math.Seq.{slice};
 ghost use Rattle.notation.specs.Text.{digits, decimal, name, spell_signed, spell_step};

@@ -5,11 +5,11 @@ use Rattle.card.specs.Admission.{admission}
 use Rattle.admission.proofs.admit.Statement.{statement}
 use Rattle.admission.proofs.admit.Tie as tie
 
-admit_packed_requires : tie.Need-admit-packed-requires
-admit_packed_requires c κs = c.before.before.before.before.pack.ensures.whole
+admit_packed_requires : tie.Need-admit_packed-requires
+admit_packed_requires c κs = c.pack-packed.ensures.whole
 
 returns : tie.Need-returns
-returns c = c.admit-packed.ensures ∙ ap admission c.before.before.before.before.before.pack.ensures.same_card
+returns c = c.admit_packed.ensures ∙ ap admission c.pack-packed.ensures.same_card
 
 pub admit_spec : {M : Type 1} → statement M
 admit_spec = tie.close (tie.spec (λ c κs. search rules) admit_packed_requires returns)

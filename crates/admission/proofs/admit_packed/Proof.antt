@@ -11,59 +11,59 @@ use Rattle.card.proofs.Admitted.{fields_refused, fields_passed}
 use Rattle.admission.proofs.admit_packed.Statement.{statement}
 use Rattle.admission.proofs.admit_packed.Tie as tie
 
-abbrev start : tie.After-enum-told → tie.Start
-start e = e.before.before.before
+abbrev start : tie.In_default → tie.Start
+start e = e.before.before
 
 abbrev asked : tie.Start → Card
 asked s = card_of s.args.numbers.now s.args.strides.now
 
 -- what each check that was passed says
-fields : (e : tie.After-enum-told) → field_checks (asked (start e)) Admitted ≡ Admitted
-fields e = sym e.before.before.check-fields.ensures ∙ e.enum_told.given.1
+fields : (e : tie.In_default) → field_checks (asked (start e)) Admitted ≡ Admitted
+fields e = sym e.check_fields-fields.ensures ∙ e.in_default.is
 
-space : (c : tie.After-lengths-fit) → space_fits (asked (start c.before)).lengths ≡ c.lengths-fit.result
-space c = let s = start c.before in sym (c.lengths-fit.ensures s.args.strides.now s.pre)
+space : (c : tie.After-lengths_fit) → space_fits (asked (start c.before)).lengths ≡ c.lengths_fit.result
+space c = let s = start c.before in sym (c.lengths_fit.ensures s.args.strides.now s.requires)
 
-few : (c : tie.After-few-enough) → few_enough (asked (start c.before.before.before)) ≡ c.few-enough.result
-few c = let s = start c.before.before.before in sym (c.few-enough.ensures s.args.strides.now s.pre)
+few : (c : tie.After-few_enough) → few_enough (asked (start c.before.before.before)) ≡ c.few_enough.result
+few c = let s = start c.before.before.before in sym (c.few_enough.ensures s.args.strides.now s.requires)
 
-returns : tie.Need-returns
+returns : tie.Need-returns-in-Refused
 unfolding admission
 returns c =
-    let f = c.before.before.before in sym (fields_refused (asked f.before) _ (sym f.check-fields.ensures ∙ c.before.fields.given.1))
+    let f = c in sym (fields_refused (asked f.before.before) _ (sym f.check_fields-fields.ensures ∙ c.in-Refused.is))
 
-returns_2 : tie.Need-returns-2
+returns_2 : tie.Need-returns-then-not-lengths_fit
 unfolding admission
-returns_2 c = rw (fields_passed _ _ (fields c.before.before), space c.before ∙ not-true _ c.if1.true)
+returns_2 c = rw (fields_passed _ _ (fields c.before.before), space c.before ∙ c.if-not-lengths_fit.true)
 
-returns_3 : tie.Need-returns-3
+returns_3 : tie.Need-returns-then-not-few_enough
 unfolding admission
 returns_3 c =
-    let one = c.before.before in
-    rw (fields_passed _ _ (fields one.before.before), space one.before ∙ not-false _ one.if1.false, few c.before ∙ not-true _ c.if2.true)
+    let one = c in
+    rw (fields_passed _ _ (fields one.before.before.before.before), space one.before.before.before ∙ one.if-not-lengths_fit.false, few c.before ∙ c.if-not-few_enough.true)
 
-returns_4 : tie.Need-returns-4
+returns_4 : tie.Need-returns-then-not-is_permitted
 unfolding admission
 returns_4 c =
-    let two = c.before.before.before.before.before in
-    let one = two.before.before in
+    let two = c in
+    let one = two in
     rw (
-      fields_passed _ _ (fields one.before.before),
-      space one.before ∙ not-false _ one.if1.false,
-      few two.before ∙ not-false _ two.if2.false,
-      sym c.before.is-permitted.ensures ∙ not-true _ c.if3.true,
+      fields_passed _ _ (fields one.before.before.before.before.before.before.before.before.before.before),
+      space one.before.before.before.before.before.before.before.before.before ∙ one.if-not-lengths_fit.false,
+      few two.before.before.before.before.before.before.before ∙ two.if-not-few_enough.false,
+      sym c.is_permitted.ensures ∙ c.if-not-is_permitted.true,
     )
 
-returns_5 : tie.Need-returns-5
+returns_5 : tie.Need-returns
 unfolding admission
 returns_5 c =
-    let two = c.before.before.before.before.before in
-    let one = two.before.before in
+    let two = c in
+    let one = two in
     rw (
-      fields_passed _ _ (fields one.before.before),
-      space one.before ∙ not-false _ one.if1.false,
-      few two.before ∙ not-false _ two.if2.false,
-      sym c.before.is-permitted.ensures ∙ not-false _ c.if3.false,
+      fields_passed _ _ (fields one.before.before.before.before.before.before.before.before.before.before),
+      space one.before.before.before.before.before.before.before.before.before ∙ one.if-not-lengths_fit.false,
+      few two.before.before.before.before.before.before.before ∙ two.if-not-few_enough.false,
+      sym c.is_permitted.ensures ∙ c.if-not-is_permitted.false,
     )
 
 pub admit_packed_spec : {M : Type 1} → statement M

@@ -14,61 +14,61 @@ abbrev asked : tie.Start → Card
 asked s = card_of s.args.numbers.now s.args.strides.now
 
 -- what each check that was passed says
-counts : (c : tie.Else1) → counts_fit (asked c.before.before) ≡ true
-counts c = sym (c.before.counts-fit.ensures c.before.before.args.strides.now) ∙ not-false _ c.if1.false
+counts : (c : tie.Else-not-counts_fit) → counts_fit (asked c.before.before) ≡ true
+counts c = sym (c.counts_fit.ensures c.args.strides.now) ∙ c.if-not-counts_fit.false
 
 -- what the walks over both lists, the marks and the offset say of checks 2 and 3
-abbrev passed : tie.After-list-fits2 → tie.Else1
+abbrev passed : tie.After-list_fits-replica → tie.Else-not-counts_fit
 passed w = w.before.before
 
-abbrev marked : tie.After-offset-fits → tie.After-marks-fit
+abbrev marked : tie.After-offset_fits → tie.After-marks_fit
 marked c = c.before.before.before
 
-abbrev walked : tie.After-offset-fits → tie.After-list-fits2
+abbrev walked : tie.After-offset_fits → tie.After-list_fits-replica
 walked c = (marked c).before.before
 
-numbers : (c : tie.After-offset-fits) → let w = walked c in
+numbers : (c : tie.After-offset_fits) → let w = walked c in
     numbers_fit (asked (passed w).before.before)
-    ≡ (w.before.list_fits.result.limits && (marked c).marks-fit.result && w.list-fits2.result.limits && c.offset-fits.result)
+    ≡ (w.list_fits-shard.result.limits && (marked c).marks_fit.result && w.list_fits-replica.result.limits && c.offset_fits.result)
 numbers c =
     let w = walked c in
-    sym (ap₂ ◌&&◌ (ap₂ ◌&&◌ (ap₂ ◌&&◌ w.before.list_fits.ensures.0 (marked c).marks-fit.ensures) w.list-fits2.ensures.0)
-    (c.offset-fits.ensures (passed w).before.before.args.numbers.now))
+    sym (ap₂ ◌&&◌ (ap₂ ◌&&◌ (ap₂ ◌&&◌ w.list_fits-shard.ensures.0 (marked c).marks_fit.ensures) w.list_fits-replica.ensures.0)
+    (c.offset_fits.ensures (passed w).args.numbers.now))
 
-axes : (w : tie.After-list-fits2) → axes_fit (asked (passed w).before.before) ≡ (w.before.list_fits.result.axes && w.list-fits2.result.axes)
-axes w = sym (ap₂ ◌&&◌ w.before.list_fits.ensures.1 w.list-fits2.ensures.1)
+axes : (w : tie.After-list_fits-replica) → axes_fit (asked (passed w).before.before) ≡ (w.list_fits-shard.result.axes && w.list_fits-replica.result.axes)
+axes w = sym (ap₂ ◌&&◌ w.list_fits-shard.ensures.1 w.list_fits-replica.ensures.1)
 
-returns : tie.Need-returns
-returns c = rw (sym (c.before.counts-fit.ensures c.before.before.args.strides.now) ∙ not-true _ c.if1.true)
+returns : tie.Need-returns-then-not-counts_fit
+returns c = rw (sym (c.counts_fit.ensures c.args.strides.now) ∙ c.if-not-counts_fit.true)
 
-list_fits_requires : tie.Need-list-fits-requires
-list_fits_requires c κs = let a = c.before.before.args in shard_list a.numbers.now a.strides.now (counts c)
+list_fits_requires : tie.Need-list_fits-shard-requires
+list_fits_requires c κs = let a = c.args in shard_list a.numbers.now a.strides.now (counts c)
 
-list_fits_requires_2 : tie.Need-list-fits-requires-2
-list_fits_requires_2 c κs = let a = c.before.before.before.args in replica_list a.numbers.now a.strides.now (counts c.before)
+list_fits_requires_2 : tie.Need-list_fits-replica-requires
+list_fits_requires_2 c κs = let a = c.args in replica_list a.numbers.now a.strides.now (counts c.before)
 
-marks_fit_requires : tie.Need-marks-fit-requires
+marks_fit_requires : tie.Need-marks_fit-requires
 marks_fit_requires c κs =
     let e = passed c.before in
-    let a = e.before.before.args in
+    let a = e.args in
     (shard_list a.numbers.now a.strides.now (counts e), search rules)
 
-returns_2 : tie.Need-returns-2
-returns_2 c = let o = c.before in rw (counts (passed (walked o)), numbers o ∙ not-true _ c.if2.true)
+returns_2 : tie.Need-returns-then-not-shard-marks_fit
+returns_2 c = let o = c in rw (counts (passed (walked o.before)), numbers o.before ∙ c.if-not-shard-marks_fit.true)
 
-returns_3 : tie.Need-returns-3
+returns_3 : tie.Need-returns-then-not-shard-replica
 returns_3 c =
-    let e = c.before.before.before in
-    let o = e.before in
-    let w = walked o in
-    rw (counts (passed w), numbers o ∙ not-false _ e.if2.false, axes w ∙ not-true _ c.if3.true)
+    let e = c in
+    let o = e in
+    let w = walked o.before.before.before.before in
+    rw (counts (passed w), numbers o.before.before.before.before ∙ e.if-not-shard-marks_fit.false, axes w ∙ c.if-not-shard-replica.true)
 
-returns_4 : tie.Need-returns-4
+returns_4 : tie.Need-returns
 returns_4 c =
-    let e = c.before.before.before in
-    let o = e.before in
-    let w = walked o in
-    rw (counts (passed w), numbers o ∙ not-false _ e.if2.false, axes w ∙ not-false _ c.if3.false)
+    let e = c in
+    let o = e in
+    let w = walked o.before.before.before.before in
+    rw (counts (passed w), numbers o.before.before.before.before ∙ e.if-not-shard-marks_fit.false, axes w ∙ c.if-not-shard-replica.false)
 
 pub check_fields_spec : {M : Type 1} → statement M
 check_fields_spec =

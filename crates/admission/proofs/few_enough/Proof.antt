@@ -13,7 +13,7 @@ use Rattle.admission.proofs.few_enough.Tie as tie
 returns : tie.Need-returns
 returns c =
     λ strides whole.
-    let card = card_of c.before.before.args.numbers.now strides in
+    let card = card_of c.args.numbers.now strides in
     ap₂ ◌&&◌ (capped_test (elements card) most_elements (omega arith) whole.elements_there) (capped_test (copies card) most_copies (omega arith) whole.copies_there)
 
 pub few_enough_spec : {M : Type 1} → statement M

@@ -12,7 +12,7 @@ use Rattle.admission.proofs.lengths_fit.Tie as tie
 
 returns : tie.Need-returns
 returns c =
-    λ strides whole. ap₂ ◌&&◌ c.before.all_within.ensures (capped_test (cells (card_of c.before.before.before.args.numbers.now strides)) most_cells (omega arith) whole.cells_there)
+    λ strides whole. ap₂ ◌&&◌ c.all_within.ensures (capped_test (cells (card_of c.args.numbers.now strides)) most_cells (omega arith) whole.cells_there)
 
 pub lengths_fit_spec : {M : Type 1} → statement M
 lengths_fit_spec = tie.close (tie.spec (λ c. search rules) (λ c κs. search rules) (λ c. search rules) returns)

@@ -32,18 +32,18 @@ module _ {A : Type 0} (p : A → Bool) (column : ℕ → A) (count : ℕ) where
       subst (λ (x : A). Upto (k + 1) (fit && p x)) (eight_at column (column 0) k (omega arith))
       (tested_more p (map column slots) 0 count k (column 0) fit h few e)
 
-abbrev invariant_loop : tie.invariant_loop
+abbrev invariant_loop : tie.invariant-loop-k
 invariant_loop numbers strides list count extents₀ steps₀ axes₀ k₀ extents steps axes k =
     (k ≤ count)
     × Upto (within 1 most_extent) (λ j. (iter_at numbers strides list j).extent) count k extents
     × Upto (within_z least_stride most_stride) (λ j. (iter_at numbers strides list j).stride) count k steps
     × Upto (within 0 last_axis) (λ j. (iter_at numbers strides list j).axis) count k axes
 
-abbrev decreases_loop : tie.decreases_loop
+abbrev decreases_loop : tie.decreases-loop-k
 decreases_loop numbers strides list count extents₀ steps₀ axes₀ k₀ extents steps axes k = count - k
 
-abbrev start : tie.In-loop invariant_loop decreases_loop → tie.Start invariant_loop decreases_loop
-start t = t.before.before.before
+abbrev start : tie.In-loop-k invariant_loop decreases_loop → tie.Start invariant_loop decreases_loop
+start t = t.before.before.before.before
 
 -- the list's iters, slot by slot
 abbrev at : tie.Start invariant_loop decreases_loop → ℕ → Iter
@@ -52,17 +52,17 @@ at s = iter_at s.args.numbers.now s.args.strides.now s.args.list
 abbrev counted : tie.Start invariant_loop decreases_loop → ℕ
 counted s = get_or s.args.numbers.now (40 + s.args.list) 0
 
-loop_holds : tie.Need-loop-init invariant_loop decreases_loop
+loop_holds : tie.Need-loop-k-init invariant_loop decreases_loop
 loop_holds c = (omega arith, refl, refl, refl)
 
-loop_again : tie.Need-loop-preserved invariant_loop decreases_loop
+loop_again : tie.Need-loop-k-preserved invariant_loop decreases_loop
 loop_again c =
-    let t = c.before.before.before in
-    let s = start t in
-    let l = t.before.loop in
-    let h = t.loop-test.true in
-    let few = s.pre.few in
-    let back = to_z-of_z {w = w64} {z = (at s l.k).stride} (record { sfits = c.before.stride.given }) in (
+    let t = c in
+    let s = start t.before.before.before.before in
+    let l = t.loop-k in
+    let h = t.loop-k-test.true in
+    let few = s.requires.few in
+    let back = to_z-of_z {w = w64} {z = (at s l.k).stride} (record { sfits = c.stride-1.given }) in (
       omega arith,
       upto_more (within 1 most_extent) (λ j. (at s j).extent) (counted s) l.k l.extents h few l.invariant.1,
       rw back (upto_more (within_z least_stride most_stride) (λ j. (at s j).stride) (counted s) l.k l.steps h few l.invariant.2),
@@ -78,12 +78,12 @@ all_tested p f iter count k fit end e =
 
 returns : tie.Need-returns invariant_loop decreases_loop
 returns c =
-    let s = c.before.before.before in
-    let l = c.before.loop in
-    let end : l.k ≡ counted s = omega arith in (
-      ap₂ ◌&&◌ (all_tested (within 1 most_extent) extent_of (at s) (counted s) l.k l.extents end l.invariant.1)
-          (all_tested (within_z least_stride most_stride) stride_of (at s) (counted s) l.k l.steps end l.invariant.2),
-      all_tested (within 0 last_axis) axis_of (at s) (counted s) l.k l.axes end l.invariant.3,
+    let s = c in
+    let l = c.loop-k in
+    let end : l.k ≡ counted s.before.before.before.before = omega arith in (
+      ap₂ ◌&&◌ (all_tested (within 1 most_extent) extent_of (at s.before.before.before.before) (counted s.before.before.before.before) l.k l.extents end l.invariant.1)
+          (all_tested (within_z least_stride most_stride) stride_of (at s.before.before.before.before) (counted s.before.before.before.before) l.k l.steps end l.invariant.2),
+      all_tested (within 0 last_axis) axis_of (at s.before.before.before.before) (counted s.before.before.before.before) l.k l.axes end l.invariant.3,
     )
 
 pub list_fits_spec : {M : Type 1} → statement M

@@ -13,25 +13,25 @@ use Rattle.card.proofs.Marks.{mark_fits, Marked, marked_more, marked_all, as_man
 use Rattle.admission.proofs.marks_fit.Statement.{statement}
 use Rattle.admission.proofs.marks_fit.Tie as tie
 
-abbrev invariant_loop : tie.invariant_loop
+abbrev invariant_loop : tie.invariant-loop-k
 invariant_loop numbers strides count fit₀ k₀ fit k = (k ≤ count) × Marked (marks_there numbers strides) (strides_there numbers strides) k fit
 
-abbrev decreases_loop : tie.decreases_loop
+abbrev decreases_loop : tie.decreases-loop-k
 decreases_loop numbers strides count fit₀ k₀ fit k = count - k
 
-loop_holds : tie.Need-loop-init invariant_loop decreases_loop
+loop_holds : tie.Need-loop-k-init invariant_loop decreases_loop
 loop_holds c = (omega arith, refl)
 
-loop_again : tie.Need-loop-preserved invariant_loop decreases_loop
+loop_again : tie.Need-loop-k-preserved invariant_loop decreases_loop
 loop_again c =
-    let s = c.before.before.before.before.before in
-    let l = c.before.before.before.loop in
+    let s = c in
+    let l = c.loop-k in
     let numbers = s.args.numbers.now in
     let strides = s.args.strides.now in
     let marks = marks_there numbers strides in
     let there = strides_there numbers strides in
-    let h : l.k < get_or numbers 40 0 = c.before.before.loop-test.true in
-    let back = to_z-of_z {w = w64} {z = get_or strides l.k (pos 0)} (record { sfits = c.before.stride.given }) in
+    let h : l.k < get_or numbers 40 0 = c.loop-k-test.true in
+    let back = to_z-of_z {w = w64} {z = get_or strides l.k (pos 0)} (record { sfits = c.stride-1.given }) in
     let test = ap₂ mark_fits (mark_there numbers strides s.requires.0 l.k h) (stride_there numbers strides s.requires.1 s.requires.0 l.k h) in (
       omega arith,
       rw back
@@ -42,8 +42,8 @@ loop_again c =
 
 returns : tie.Need-returns invariant_loop decreases_loop
 returns c =
-    let s = c.before.before.before in
-    let l = c.before.loop in
+    let s = c in
+    let l = c.loop-k in
     let numbers = s.args.numbers.now in
     let strides = s.args.strides.now in
     marked_all (marks_there numbers strides) (strides_there numbers strides) l.k l.fit
@@ -52,5 +52,5 @@ returns c =
 pub marks_fit_spec : {M : Type 1} → statement M
 marks_fit_spec =
     tie.close
-    (tie.spec invariant_loop decreases_loop (λ c. search rules) (λ c. search rules) (λ c. search rules) loop_holds (λ c. omega arith) (λ c. omega (arith, c.before.before.before.requires.0.few))
+    (tie.spec invariant_loop decreases_loop (λ c. search rules) (λ c. search rules) (λ c. search rules) loop_holds (λ c. omega arith) (λ c. omega (arith, c.requires.0.few))
     (λ c. omega arith) (λ c. omega arith) (λ c. omega arith) (λ c. omega arith) (λ c. omega arith) loop_again returns)

@@ -15,15 +15,15 @@ use Rattle.card.specs.Packed.{beyond}
 use Rattle.admission.proofs.space_fits.Statement.{statement}
 use Rattle.admission.proofs.space_fits.Tie as tie
 
-whole : (s : tie.Start) → take 8 s.args.t1 ≡ s.args.t1
-whole s = take_whole 8 s.args.t1 (search rules)
+whole : (s : tie.Start) → take 8 s.args.lengths ≡ s.args.lengths
+whole s = take_whole 8 s.args.lengths (search rules)
 
 returns : tie.Need-returns
 returns c =
-    let s = c.before.before.before in
-    ap₂ ◌&&◌ (c.before.all_within.ensures ∙ ap (all (within 1 most_length)) (whole s))
-    (ap (λ (n : ℕ). leb n most_cells) (c.product.ensures ∙ ap (λ (l : List ℕ). min (product l) beyond) (whole s))
-    ∙ capped_leb beyond (product s.args.t1) most_cells (omega arith))
+    let s = c in
+    ap₂ ◌&&◌ (c.all_within.ensures ∙ ap (all (within 1 most_length)) (whole s.before.before.before))
+    (ap (λ (n : ℕ). leb n most_cells) (c.product.ensures ∙ ap (λ (l : List ℕ). min (product l) beyond) (whole s.before.before.before))
+    ∙ capped_leb beyond (product s.args.lengths) most_cells (omega arith))
 
 pub space_fits_spec : {M : Type 1} → statement M
 space_fits_spec = tie.close (tie.spec (λ c. search rules) (λ c κs. search rules) (λ c κs. search rules) returns)

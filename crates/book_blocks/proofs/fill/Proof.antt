@@ -17,13 +17,13 @@ eight s = record { shard = search (rules, length_of); marks = search rules; repl
 
 returns : tie.Need-returns
 returns c =
-    let p = c.before.before in
-    let g = p.before.before in
-    let f = g.before.before.before.before in
-    let w = f.before.before.before in
-    let s = w.before.before.before in
-    let body = body_is s.args.card s.args.note.now w.words_of.result f.fill-body.new.1.1.0 (eight s) s.requires.1 f.fill-body.ensures.0 w.words_of.ensures.1 f.fill-body.ensures.1 in
-    p.put-check.ensures ∙ ap₂ (λ (x : List ℕ) (y : ℕ). x ++ bytes 4 y) body (g.weigh.ensures ∙ ap check_of body)
+    let p = c in
+    let g = p in
+    let f = g in
+    let w = f in
+    let s = w in
+    let body = body_is s.args.card s.args.note.now w.words_of-words.result f.fill_body.new.block (eight s.before.before.before.before.before.before.before.before.before.before.before.before.before) s.requires.1 f.fill_body.ensures.0 w.words_of-words.ensures.1 f.fill_body.ensures.1 in
+    p.put_check.ensures ∙ ap₂ (λ (x : List ℕ) (y : ℕ). x ++ bytes 4 y) body (g.weigh-check.ensures ∙ ap check_of body)
 
 pub fill_spec : {M : Type 1} → statement M
 fill_spec = tie.close (tie.spec (λ c κs. search rules) (λ c κs. search rules) (λ c κs. search rules) (λ c κs. search rules) (λ c. search rules) returns)

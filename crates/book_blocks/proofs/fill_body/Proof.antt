@@ -10,31 +10,31 @@ use borrow.Author.Rules.{rules}
 use Rattle.book_blocks.proofs.fill_body.Statement.{statement}
 use Rattle.book_blocks.proofs.fill_body.Tie as tie
 
-abbrev invariant_loop : tie.invariant_loop
+abbrev invariant_loop : tie.invariant-loop-j
 invariant_loop words note block₀ j₀ block j = (j ≤ 508) × (length block ≡ 512) × ((i : ℕ) → i < j → get_or block i 0 ≡ body_byte words note i)
 
-abbrev decreases_loop : tie.decreases_loop
+abbrev decreases_loop : tie.decreases-loop-j
 decreases_loop words note block₀ j₀ block j = 508 - j
 
-loop_holds : tie.Need-loop-init invariant_loop decreases_loop
-loop_holds c = (omega arith, c.before.before.requires, λ i h. absurd (not-suc-le-zero h))
+loop_holds : tie.Need-loop-j-init invariant_loop decreases_loop
+loop_holds c = (omega arith, c.requires, λ i h. absurd (not-suc-le-zero h))
 
-loop_again : tie.Need-loop-preserved invariant_loop decreases_loop
+loop_again : tie.Need-loop-j-preserved invariant_loop decreases_loop
 loop_again c =
-    let l = c.before.before in
-    let s = l.before.before.before in (
+    let l = c in
+    let s = l in (
       omega arith,
-      length-set l.loop.block l.loop.j c.body-byte.result ∙ l.loop.invariant.1,
-      filled_more (body_byte s.args.words.now s.args.note.now) 0 l.loop.block l.loop.j c.body-byte.result (omega (arith, l.loop.invariant.1)) c.body-byte.ensures l.loop.invariant.2,
+      length-set l.loop-j.block l.loop-j.j c.body_byte.result ∙ l.loop-j.invariant.1,
+      filled_more (body_byte s.args.words.now s.args.note.now) 0 l.loop-j.block l.loop-j.j c.body_byte.result (omega (arith, l.loop-j.invariant.1)) c.body_byte.ensures l.loop-j.invariant.2,
     )
 
-same_length : tie.Need-same-length invariant_loop decreases_loop
-same_length c = let l = c.before in l.loop.invariant.1 ∙ sym l.before.before.before.requires
+same_length : tie.Need-shape_of-block invariant_loop decreases_loop
+same_length c = let l = c in l.loop-j.invariant.1 ∙ sym l.requires
 
 returns : tie.Need-returns invariant_loop decreases_loop
 returns c =
-    let l = c.before in
-    (l.loop.invariant.1, λ i h. l.loop.invariant.2 i (omega (arith, l.loop.invariant.0)))
+    let l = c in
+    (l.loop-j.invariant.1, λ i h. l.loop-j.invariant.2 i (omega (arith, l.loop-j.invariant.0)))
 
 pub fill_body_spec : {M : Type 1} → statement M
-fill_body_spec = tie.close (tie.spec invariant_loop decreases_loop loop_holds (λ c κs. search rules) (λ c. omega (arith, c.before.before.loop.invariant.1)) (λ c. omega arith) (λ c. omega arith) loop_again same_length returns)
+fill_body_spec = tie.close (tie.spec invariant_loop decreases_loop loop_holds (λ c κs. search rules) (λ c. omega (arith, c.loop-j.invariant.1)) (λ c. omega arith) (λ c. omega arith) loop_again same_length returns)

@@ -5,7 +5,7 @@ use Rattle.book_blocks.proofs.is_check_right.Statement.{statement}
 use Rattle.book_blocks.proofs.is_check_right.Tie as tie
 
 returns : tie.Need-returns
-returns c = rw (c.weigh.ensures, c.before.four.ensures.0)
+returns c = rw (c.weigh.ensures, c.four.ensures.0)
 
 pub is_check_right_spec : {M : Type 1} → statement M
 is_check_right_spec = tie.close (tie.spec (λ c κs. search rules) (λ c κs. search rules) returns)

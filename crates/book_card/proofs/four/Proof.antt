@@ -8,12 +8,12 @@ use Rattle.book_card.proofs.four.Tie as tie
 
 returns : tie.Need-returns
 returns c =
-    let d = c.before.before in
-    let e = d.before.before in
-    let f = e.before.before in
-    let s = f.before.before.before in (
-      rw (c.wide4.ensures.0, d.wide3.ensures.0, e.wide2.ensures.0, f.wide.ensures.0) (sym (field_four s.args.at s.args.block.now s.requires)),
-      omega (arith, c.wide4.ensures.1, d.wide3.ensures.1, e.wide2.ensures.1, f.wide.ensures.1),
+    let d = c in
+    let e = d in
+    let f = e in
+    let s = f in (
+      rw (c.wide-4.ensures.0, d.wide-3.ensures.0, e.wide-2.ensures.0, f.wide.ensures.0) (sym (field_four s.args.at s.args.block.now s.requires)),
+      omega (arith, c.wide-4.ensures.1, d.wide-3.ensures.1, e.wide-2.ensures.1, f.wide.ensures.1),
     )
 
 pub four_spec : {M : Type 1} → statement M

@@ -6,7 +6,7 @@ use Rattle.book_card.proofs.iter_in.Statement.{statement}
 use Rattle.book_card.proofs.iter_in.Tie as tie
 
 returns : tie.Need-returns
-returns c = rw (c.before.before.four.ensures.0, stored_signed c.before.signed-in.ensures, c.one.ensures.0)
+returns c = rw (c.four-extent.ensures.0, stored_signed c.signed_in-stride.ensures, c.one-axis.ensures.0)
 
 pub iter_in_spec : {M : Type 1} → statement M
 iter_in_spec = tie.close (tie.spec (λ c κs. search rules) (λ c. search rules) (λ c κs. search rules) (λ c. search rules) (λ c κs. search rules) returns)

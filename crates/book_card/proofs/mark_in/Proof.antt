@@ -5,15 +5,15 @@ use borrow.Author.Rules.{rules}
 use Rattle.book_card.proofs.mark_in.Statement.{statement}
 use Rattle.book_card.proofs.mark_in.Tie as tie
 
-returns : tie.Need-returns
+returns : tie.Need-returns-then-k-count
 returns c =
-    let s = c.before.before.before in
-    rw (lt-ltb s.args.k s.args.count c.before.if1.true, c.one.ensures.0)
+    let s = c in
+    rw (lt-ltb s.args.k s.args.count c.if-k-count.true, c.one.ensures.0)
 
-returns_2 : tie.Need-returns-2
+returns_2 : tie.Need-returns
 returns_2 c =
-    let s = c.before.before in
-    rw (le-ltb s.args.k s.args.count c.if1.false)
+    let s = c in
+    rw (le-ltb s.args.k s.args.count c.if-k-count.false)
 
 pub mark_in_spec : {M : Type 1} → statement M
 mark_in_spec = tie.close (tie.spec (λ c. search rules) (λ c. search rules) (λ c. search rules) (λ c κs. search rules) returns returns_2)

@@ -5,7 +5,7 @@ use Rattle.book_card.proofs.no_card.Statement.{statement}
 use Rattle.book_card.proofs.no_card.Tie as tie
 
 returns : tie.Need-returns
-returns c = rw c.no-iter.ensures
+returns c = rw c.no_iter-iter.ensures
 
 pub no_card_spec : {M : Type 1} → statement M
 no_card_spec = tie.close (tie.spec (λ c κs. search rules) returns)

@@ -8,7 +8,7 @@ use Rattle.book_card.proofs.one.Statement.{statement}
 use Rattle.book_card.proofs.one.Tie as tie
 
 returns : tie.Need-returns
-returns c = let s = c.before.before.before in (c.wide.ensures.0 ∙ sym (field_one s.args.at s.args.block.now (omega (arith, s.requires))), c.wide.ensures.1)
+returns c = let s = c in (c.wide.ensures.0 ∙ sym (field_one s.args.at s.args.block.now (omega (arith, s.requires))), c.wide.ensures.1)
 
 pub one_spec : {M : Type 1} → statement M
 one_spec = tie.close (tie.spec (λ c. search rules) (λ c κs. search rules) returns)

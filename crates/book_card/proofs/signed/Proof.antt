@@ -22,20 +22,20 @@ less n h = ap (λ (z : ℤ). negsuc 0 -ℤ z) (to_z_pos w64 {n = 4294967295 - n}
 fits : (n : ℕ) → n < 2 ^ 32 → SFits w64 (negsuc (2 ^ 32 - 1 - n))
 fits n h = far_fits (omega arith)
 
-returns : tie.Need-returns
+returns : tie.Need-returns-then-n-lt2147483648
 returns c =
-    let n = c.before.args.n in
-    let small : n < 2 ^ 31 = c.if1.true in
+    let n = c.args.n in
+    let small : n < 2 ^ 31 = c.if-n-lt2147483648.true in
     to_z_pos w64 {n = n} (omega arith) ∙ rw (lt-ltb n (2 ^ 31) small)
 
-sub_result_2 : tie.Need-overflow-sub-result-2
-sub_result_2 c = rw (less c.before.args.n c.before.requires) (fits c.before.args.n c.before.requires)
+sub_result_2 : tie.Need-overflow_sub-result-2
+sub_result_2 c = rw (less c.args.n c.requires) (fits c.args.n c.requires)
 
-returns_2 : tie.Need-returns-2
+returns_2 : tie.Need-returns
 returns_2 c =
-    let n = c.before.args.n in
-    let large : 2 ^ 31 ≤ n = c.if1.false in
-    ap (λ (z : ℤ). to_z w64 (of_z w64 z)) (less n c.before.requires) ∙ to_z-of_z (fits n c.before.requires) ∙ rw (le-ltb n (2 ^ 31) large)
+    let n = c.args.n in
+    let large : 2 ^ 31 ≤ n = c.if-n-lt2147483648.false in
+    ap (λ (z : ℤ). to_z w64 (of_z w64 z)) (less n c.requires) ∙ to_z-of_z (fits n c.requires) ∙ rw (le-ltb n (2 ^ 31) large)
 
 pub signed_spec : {M : Type 1} → statement M
 signed_spec = tie.close (tie.spec (λ c. search rules) returns (λ c. search rules) (λ c. search rules) sub_result_2 returns_2)

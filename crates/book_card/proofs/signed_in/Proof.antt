@@ -9,7 +9,7 @@ use Rattle.book_card.proofs.signed_in.Tie as tie
 
 returns : tie.Need-returns
 returns c =
-    let f = c.before in
+    let f = c in
     let few = rw f.four.ensures.0 at f.four.ensures.1 in
     (stored_signed (c.signed.ensures ∙ ap signed32 f.four.ensures.0, few), few)
 

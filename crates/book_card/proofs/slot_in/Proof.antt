@@ -5,15 +5,15 @@ use borrow.Author.Rules.{rules}
 use Rattle.book_card.proofs.slot_in.Statement.{statement}
 use Rattle.book_card.proofs.slot_in.Tie as tie
 
-returns : tie.Need-returns
+returns : tie.Need-returns-then-k-count
 returns c =
-    let s = c.before.before.before in
-    rw (lt-ltb s.args.k s.args.count c.before.if1.true) c.iter-in.ensures
+    let s = c in
+    rw (lt-ltb s.args.k s.args.count c.if-k-count.true) c.iter_in.ensures
 
-returns_2 : tie.Need-returns-2
+returns_2 : tie.Need-returns
 returns_2 c =
-    let s = c.before.before.before in
-    rw (le-ltb s.args.k s.args.count c.before.if1.false) c.no-iter.ensures
+    let s = c in
+    rw (le-ltb s.args.k s.args.count c.if-k-count.false) c.no_iter.ensures
 
 pub slot_in_spec : {M : Type 1} → statement M
 slot_in_spec = tie.close (tie.spec (λ c. search rules) (λ c. search rules) (λ c κs. search rules) returns (λ c κs. search rules) returns_2)

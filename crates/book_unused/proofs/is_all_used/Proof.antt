@@ -11,31 +11,31 @@ use Rattle.book_unused.proofs.Laws.{both, is_zero, used_is}
 use Rattle.book_unused.proofs.is_all_used.Statement.{statement}
 use Rattle.book_unused.proofs.is_all_used.Tie as tie
 
-returns : tie.Need-returns
+returns : tie.Need-returns-then-noted-gt-MOST_NOTE
 returns c =
-    let n = c.before in
-    let block = n.before.before.args.block.now in
-    let long : most_note < noted_in block = rw n.noted_in.ensures.0 at c.if1.true in
+    let n = c in
+    let block = n.args.block.now in
+    let long : most_note < noted_in block = rw n.noted_in-noted.ensures.0 at c.if-noted-gt-MOST_NOTE.true in
     rw (lt-leb (noted_in block) most_note long)
 
-returns_2 : tie.Need-returns-2
+returns_2 : tie.Need-returns
 returns_2 c =
-    let past = c.before in
-    let shard_past = past.before in
-    let replica = shard_past.before in
-    let shard = replica.before in
-    let second = shard.before.before in
-    let first = second.before in
-    let short = first.before in
-    let n = short.before in
-    let known = n.before in
-    let s = known.before in
+    let past = c in
+    let shard_past = past in
+    let replica = shard_past in
+    let shard = replica in
+    let second = shard in
+    let first = second in
+    let short = first in
+    let n = short in
+    let known = n in
+    let s = known in
     let block = s.args.block.now in
-    let few : noted_in block ≤ most_note = rw n.noted_in.ensures.0 at short.if1.false in
-    used_is block first.one.result second.one2.result n.noted_in.result (λ i. omega (arith, known.shared-slice-known.given i)) s.requires.0 s.requires.1 s.requires.2
-    s.requires.3 first.one.ensures.0 second.one2.ensures.0 n.noted_in.ensures.0 few _
-    (both (both (both (both (both (is_zero (get_or block 5 0)) shard.are-ends.ensures) replica.are-ends2.ensures) shard_past.are-zeros.ensures) past.are-zeros2.ensures)
-    c.are-zeros3.ensures)
+    let few : noted_in block ≤ most_note = rw n.noted_in-noted.ensures.0 at short.if-noted-gt-MOST_NOTE.false in
+    used_is block first.one-shard_count.result second.one-replica_count.result n.noted_in-noted.result (λ i. omega (arith, known.shared_slice_known-1.given i)) s.requires.0 s.requires.1 s.requires.2
+    s.requires.3 first.one-shard_count.ensures.0 second.one-replica_count.ensures.0 n.noted_in-noted.ensures.0 few _
+    (both (both (both (both (both (is_zero (get_or block 5 0)) shard.are_ends.ensures) replica.are_ends-2.ensures) shard_past.are_zeros.ensures) past.are_zeros-2.ensures)
+    c.are_zeros-3.ensures)
 
 pub is_all_used_spec : {M : Type 1} → statement M
 is_all_used_spec =

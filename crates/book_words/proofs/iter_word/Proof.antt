@@ -9,23 +9,23 @@ use borrow.Author.Rules.{rules}
 use Rattle.book_words.proofs.iter_word.Statement.{statement}
 use Rattle.book_words.proofs.iter_word.Tie as tie
 
-returns : tie.Need-returns
-returns c = rw (eq-eqb c.before.args.j 0 c.if1.true)
+returns : tie.Need-returns-then-j-eq0
+returns c = rw (eq-eqb c.args.j 0 c.if-j-eq0.true)
 
-returns_2 : tie.Need-returns-2
+returns_2 : tie.Need-returns-then-j-eq1
 returns_2 c =
-    let t = c.before.before in
-    let u = t.before in
-    let j = u.before.args.j in
-    rw (ne_eqb j 0 u.if1.false, eq-eqb j 1 t.if2.true)
-    (c.twos.ensures.0 ∙ ap twos (to_z-of_z {w = w64} {z = u.before.args.iter.stride} (record { sfits = c.before.struct_told.given.1.0.1 })))
+    let t = c in
+    let u = t in
+    let j = u.args.j in
+    rw (ne_eqb j 0 u.if-j-eq0.false, eq-eqb j 1 t.if-j-eq1.true)
+    (c.twos.ensures.0 ∙ ap twos (to_z-of_z {w = w64} {z = u.args.iter.stride} (record { sfits = c.struct_told-1.given.1.0.1 })))
 
-returns_3 : tie.Need-returns-3
+returns_3 : tie.Need-returns
 returns_3 c =
-    let t = c.before.before in
-    let u = t.before in
-    let j = u.before.args.j in
-    rw (ne_eqb j 0 u.if1.false, ne_eqb j 1 t.if2.false, c.mark-number.ensures.0)
+    let t = c in
+    let u = t in
+    let j = u.args.j in
+    rw (ne_eqb j 0 u.if-j-eq0.false, ne_eqb j 1 t.if-j-eq1.false, c.mark_number.ensures.0)
 
 pub iter_word_spec : {M : Type 1} → statement M
 iter_word_spec = tie.close (tie.spec returns (λ c κs. search rules) returns_2 (λ c κs. search rules) (λ c. search rules) (λ c. search rules) returns_3)

@@ -7,16 +7,16 @@ use borrow.Author.Rules.{rules}
 use Rattle.book_words.proofs.slot_word.Statement.{statement}
 use Rattle.book_words.proofs.slot_word.Tie as tie
 
-returns : tie.Need-returns
+returns : tie.Need-returns-then-k-iters
 returns c =
-    let t = c.before.before.before in
-    let s = t.before.before in
-    rw (lt-ltb (s.args.i / 3) s.args.iters.count t.if1.true) c.iter-word.ensures
+    let t = c in
+    let s = t in
+    rw (lt-ltb (s.args.i / 3) s.args.iters.count t.if-k-iters.true) c.iter_word.ensures
 
-returns_2 : tie.Need-returns-2
+returns_2 : tie.Need-returns
 returns_2 c =
-    let s = c.before.before in
-    rw (le-ltb (s.args.i / 3) s.args.iters.count c.if1.false)
+    let s = c in
+    rw (le-ltb (s.args.i / 3) s.args.iters.count c.if-k-iters.false)
 
 pub slot_word_spec : {M : Type 1} → statement M
 slot_word_spec = tie.close (tie.spec (λ c. omega arith) (λ c. search (rules, length_of)) (λ c. search rules) (λ c κs. search rules) returns returns_2)

@@ -6,7 +6,7 @@ use Rattle.c_card.proofs.iter.Statement.{statement}
 use Rattle.c_card.proofs.iter.Tie as tie
 
 returns : tie.Need-returns
-returns c = let s = c.before in rw (to_z-of_z {w = w64} {z = s.signed.result} (record { sfits = s.signed.type-inv }), s.signed.ensures)
+returns c = let s = c in rw (to_z-of_z {w = w64} {z = s.signed.result} (record { sfits = s.signed.type_inv }), s.signed.ensures)
 
 pub iter_spec : {M : Type 1} → statement M
 iter_spec = tie.close (tie.spec (λ c. search rules) (λ c. search rules) (λ c. search rules) (λ c. search rules) (λ c. search rules) (λ c κs. search rules) (λ c. search rules) (λ c. search rules) (λ c. search rules) returns)

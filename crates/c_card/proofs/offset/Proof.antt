@@ -9,14 +9,14 @@ use Rattle.c_card.proofs.offset.Tie as tie
 returns : tie.Need-returns
 returns c =
     rw (
-      to_z-of_z {w = w64} {z = c.before.before.before.before.before.before.before.before.before.before.before.before.before.before.signed.result} (record { sfits = c.before.before.before.before.before.before.before.before.before.before.before.before.before.before.signed.type-inv }) ∙ c.before.before.before.before.before.before.before.before.before.before.before.before.before.before.signed.ensures,
-      to_z-of_z {w = w64} {z = c.before.before.before.before.before.before.before.before.before.before.before.before.signed2.result} (record { sfits = c.before.before.before.before.before.before.before.before.before.before.before.before.signed2.type-inv }) ∙ c.before.before.before.before.before.before.before.before.before.before.before.before.signed2.ensures,
-      to_z-of_z {w = w64} {z = c.before.before.before.before.before.before.before.before.before.before.signed3.result} (record { sfits = c.before.before.before.before.before.before.before.before.before.before.signed3.type-inv }) ∙ c.before.before.before.before.before.before.before.before.before.before.signed3.ensures,
-      to_z-of_z {w = w64} {z = c.before.before.before.before.before.before.before.before.signed4.result} (record { sfits = c.before.before.before.before.before.before.before.before.signed4.type-inv }) ∙ c.before.before.before.before.before.before.before.before.signed4.ensures,
-      to_z-of_z {w = w64} {z = c.before.before.before.before.before.before.signed5.result} (record { sfits = c.before.before.before.before.before.before.signed5.type-inv }) ∙ c.before.before.before.before.before.before.signed5.ensures,
-      to_z-of_z {w = w64} {z = c.before.before.before.before.signed6.result} (record { sfits = c.before.before.before.before.signed6.type-inv }) ∙ c.before.before.before.before.signed6.ensures,
-      to_z-of_z {w = w64} {z = c.before.before.signed7.result} (record { sfits = c.before.before.signed7.type-inv }) ∙ c.before.before.signed7.ensures,
-      to_z-of_z {w = w64} {z = c.signed8.result} (record { sfits = c.signed8.type-inv }) ∙ c.signed8.ensures,
+      to_z-of_z {w = w64} {z = c.signed.result} (record { sfits = c.signed.type_inv }) ∙ c.signed.ensures,
+      to_z-of_z {w = w64} {z = c.signed-2.result} (record { sfits = c.signed-2.type_inv }) ∙ c.signed-2.ensures,
+      to_z-of_z {w = w64} {z = c.signed-3.result} (record { sfits = c.signed-3.type_inv }) ∙ c.signed-3.ensures,
+      to_z-of_z {w = w64} {z = c.signed-4.result} (record { sfits = c.signed-4.type_inv }) ∙ c.signed-4.ensures,
+      to_z-of_z {w = w64} {z = c.signed-5.result} (record { sfits = c.signed-5.type_inv }) ∙ c.signed-5.ensures,
+      to_z-of_z {w = w64} {z = c.signed-6.result} (record { sfits = c.signed-6.type_inv }) ∙ c.signed-6.ensures,
+      to_z-of_z {w = w64} {z = c.signed-7.result} (record { sfits = c.signed-7.type_inv }) ∙ c.signed-7.ensures,
+      to_z-of_z {w = w64} {z = c.signed-8.result} (record { sfits = c.signed-8.type_inv }) ∙ c.signed-8.ensures,
     )
 
 pub offset_spec : {M : Type 1} → statement M

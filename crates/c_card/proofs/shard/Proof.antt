@@ -4,7 +4,7 @@ use Rattle.c_card.proofs.shard.Statement.{statement}
 use Rattle.c_card.proofs.shard.Tie as tie
 
 returns : tie.Need-returns
-returns c = rw (c.before.before.before.before.before.before.before.before.iter.ensures, c.before.before.before.before.before.before.before.iter2.ensures, c.before.before.before.before.before.before.iter3.ensures, c.before.before.before.before.before.iter4.ensures, c.before.before.before.before.iter5.ensures, c.before.before.before.iter6.ensures, c.before.before.iter7.ensures, c.before.iter8.ensures)
+returns c = rw (c.iter.ensures, c.iter-2.ensures, c.iter-3.ensures, c.iter-4.ensures, c.iter-5.ensures, c.iter-6.ensures, c.iter-7.ensures, c.iter-8.ensures)
 
 pub shard_spec : {M : Type 1} → statement M
 shard_spec = tie.close (tie.spec (λ c κs. search rules) (λ c κs. search rules) (λ c κs. search rules) (λ c κs. search rules) (λ c κs. search rules) (λ c κs. search rules) (λ c κs. search rules) (λ c κs. search rules) (λ c. search rules) returns)

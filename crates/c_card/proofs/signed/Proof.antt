@@ -19,25 +19,25 @@ fits : (k : ℕ) → k < 2 ^ 63 → SFits w64 (negsuc k)
 fits k h = record { sfits = h }
 
 -- how far below -1
-abbrev far : tie.Else1 → ℕ
-far c = 18446744073709551615 - c.before.args.n
+abbrev far : tie.Else-n-lt-HALF → ℕ
+far c = 18446744073709551615 - c.args.n
 
-read : (c : tie.Else1) → negsuc 0 -ℤ to_z w64 (far c) ≡ negsuc (far c)
-read c = ap (λ (z : ℤ). negsuc 0 -ℤ z) (to_z_pos w64 {n = far c} (omega (arith, c.if1.false))) ∙ less (far c)
+read : (c : tie.Else-n-lt-HALF) → negsuc 0 -ℤ to_z w64 (far c) ≡ negsuc (far c)
+read c = ap (λ (z : ℤ). negsuc 0 -ℤ z) (to_z_pos w64 {n = far c} (omega (arith, c.if-n-lt-HALF.false))) ∙ less (far c)
 
-sub_result_2 : tie.Need-overflow-sub-result-2
-sub_result_2 c = rw (read c) (fits (far c) (omega (arith, c.if1.false)))
+sub_result_2 : tie.Need-overflow_sub-result-else-n-lt-HALF
+sub_result_2 c = rw (read c) (fits (far c) (omega (arith, c.if-n-lt-HALF.false)))
 
-returns : tie.Need-returns
-returns c = rw (lt-ltb c.before.args.n (2 ^ 63) c.if1.true)
+returns : tie.Need-returns-then-n-lt-HALF
+returns c = rw (lt-ltb c.args.n (2 ^ 63) c.if-n-lt-HALF.true)
 
-returns_2 : tie.Need-returns-2
+returns_2 : tie.Need-returns-else-n-lt-HALF
 returns_2 c =
-    let n = c.before.args.n in
+    let n = c.args.n in
     let same : far c ≡ 2 ^ 64 - (n + 1) = omega arith in
     ap (λ (z : ℤ). to_z w64 (of_z w64 z)) (read c)
-    ∙ to_z-of_z (fits (far c) (omega (arith, c.if1.false)))
-    ∙ rw (le-ltb n (2 ^ 63) c.if1.false) (ap negsuc same)
+    ∙ to_z-of_z (fits (far c) (omega (arith, c.if-n-lt-HALF.false)))
+    ∙ rw (le-ltb n (2 ^ 63) c.if-n-lt-HALF.false) (ap negsuc same)
 
 pub signed_spec : {M : Type 1} → statement M
 signed_spec = tie.close (tie.spec (λ c. search rules) (λ c. search rules) (λ c. search rules) sub_result_2 returns returns_2)

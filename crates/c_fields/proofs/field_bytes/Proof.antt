@@ -4,7 +4,7 @@ use Rattle.c_fields.proofs.field_bytes.Statement.{statement}
 use Rattle.c_fields.proofs.field_bytes.Tie as tie
 
 returns : tie.Need-returns
-returns c = rw (c.before.before.before.before.before.before.before.byte.ensures, c.before.before.before.before.before.byte2.ensures, c.before.before.before.byte3.ensures, c.before.byte4.ensures, c.byte5.ensures)
+returns c = rw (c.byte.ensures, c.byte-2.ensures, c.byte-3.ensures, c.byte-4.ensures, c.byte-5.ensures)
 
 pub field_bytes_spec : {M : Type 1} → statement M
 field_bytes_spec = tie.close (tie.spec (λ c. search rules) (λ c. search rules) (λ c. search rules) (λ c. search rules) (λ c. search rules) (λ c κs. search rules) (λ c. search rules) (λ c κs. search rules) (λ c. search rules) (λ c κs. search rules) (λ c. search rules) (λ c κs. search rules) (λ c κs. search rules) (λ c. search rules) returns)

@@ -17,18 +17,18 @@ use Rattle.c_holdings.proofs.collect_holdings.Tie as tie
 abbrev rows : ℕ → ℕ → List ℕ → List (List Bits)
 rows kind c numbers = collected Empty kind c (lanes_from kind numbers) (empties 8)
 
-abbrev invariant_loop : tie.invariant_loop
+abbrev invariant_loop : tie.invariant-loop-j
 invariant_loop kind computation numbers sorts₀ singles₀ doubles₀ j₀ sorts singles doubles j =
     Anew 64 (written sort_after (rows kind computation numbers)) sorts₀ sorts j
     × Anew 64 (written single_after (rows kind computation numbers)) singles₀ singles j
     × Anew 64 (written double_after (rows kind computation numbers)) doubles₀ doubles j
 
-abbrev decreases_loop : tie.decreases_loop
+abbrev decreases_loop : tie.decreases-loop-j
 decreases_loop kind computation numbers sorts₀ singles₀ doubles₀ j₀ sorts singles doubles j = 64 - j
 
-loop_holds : tie.Need-loop-init invariant_loop decreases_loop
+loop_holds : tie.Need-loop-j-init invariant_loop decreases_loop
 loop_holds c =
-    let s = c.before.before.before.before in
+    let s = c in
     let a = s.args in
     let p = s.requires.1 in
     let w = rows a.kind a.computation a.numbers.now in (
@@ -37,16 +37,16 @@ loop_holds c =
       anew_none 0 64 (written double_after w) a.doubles.now p.2,
     )
 
-loop_again : tie.Need-loop-preserved invariant_loop decreases_loop
+loop_again : tie.Need-loop-j-preserved invariant_loop decreases_loop
 loop_again c =
-    let p = c.before.before.before.before.before.before in
-    let d = p.before.before.before.before in
-    let t = d.before in
-    let l = t.before.loop in
-    let a = t.before.before.before.before.before.before.args in
-    let h = t.loop-test.true in
+    let p = c in
+    let d = p in
+    let t = d in
+    let l = t.loop-j in
+    let a = t.args in
+    let h = t.loop-j-test.true in
     let e = p.put.ensures in
-    let r = d.collected_from.ensures in
+    let r = d.collected_from-register.ensures in
     let i = l.invariant in
     let w = rows a.kind a.computation a.numbers.now in (
       anew_turn 0 64 (written sort_after w) a.sorts.now l.sorts _ l.j i.0 h
@@ -59,9 +59,9 @@ loop_again c =
 
 returns : tie.Need-returns invariant_loop decreases_loop
 returns c =
-    let a = c.before.before.before.before.before.before.args in
-    let l = c.before.loop in
-    let h = c.loop-test.false in
+    let a = c.args in
+    let l = c.loop-j in
+    let h = c.loop-j-test.false in
     let i = l.invariant in
     let w = rows a.kind a.computation a.numbers.now in (
       anew_all 0 64 (written sort_after w) a.sorts.now l.sorts l.j i.0 h,

@@ -10,23 +10,23 @@ use Rattle.c_holdings.proofs.Fields.{held_entry}
 use Rattle.c_holdings.proofs.collected_from.Statement.{statement}
 use Rattle.c_holdings.proofs.collected_from.Tie as tie
 
-returns : tie.Need-returns
+returns : tie.Need-returns-then-from-lt256
 returns c =
-    let m = c.before.before in
-    let s = m.before.before in
+    let m = c in
+    let s = m in
     let a = s.args in
     let lanes : List (List Bits) = lanes_from a.kind a.numbers.now in
-    c.register-held.ensures
-    ∙ sym (collected_there a.kind a.computation lanes a.j m.holder.result s.requires.0 m.holder.ensures c.before.if1.true
-    ∙ held_entry a.kind a.numbers.now _ _ (omega (arith, c.before.if1.true)))
+    c.register_held.ensures
+    ∙ sym (collected_there a.kind a.computation lanes a.j m.holder-from.result s.requires.0 m.holder-from.ensures c.if-from-lt256.true
+    ∙ held_entry a.kind a.numbers.now _ _ (omega (arith, c.if-from-lt256.true)))
 
-returns_2 : tie.Need-returns-2
+returns_2 : tie.Need-returns
 returns_2 c =
-    let m = c.before in
-    let s = m.before.before in
+    let m = c in
+    let s = m in
     let a = s.args in
     let lanes : List (List Bits) = lanes_from a.kind a.numbers.now in
-    sym (collected_nothing a.kind a.computation lanes a.j m.holder.result s.requires.0 m.holder.ensures c.if1.false)
+    sym (collected_nothing a.kind a.computation lanes a.j m.holder-from.result s.requires.0 m.holder-from.ensures c.if-from-lt256.false)
 
 pub collected_from_spec : {M : Type 1} → statement M
 collected_from_spec = tie.close (tie.spec (λ c κs. search rules) (λ c κs. (omega arith, omega arith)) returns returns_2)

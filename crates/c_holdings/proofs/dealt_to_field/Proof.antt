@@ -13,21 +13,21 @@ use Rattle.c_holdings.proofs.Fields.{field_there, field_nothing, counted}
 use Rattle.c_holdings.proofs.dealt_to_field.Statement.{statement}
 use Rattle.c_holdings.proofs.dealt_to_field.Tie as tie
 
-returns : tie.Need-returns
+returns : tie.Need-returns-then-i-lt8
 returns c =
-    let m = c.before.before in
-    let a = m.before.before.before.before.args in
+    let m = c in
+    let a = m.args in
     let bare : List (List Bits) = dealt Empty a.kind a.computation (rows_from 8 a.sorts.now a.singles.now a.doubles.now) (empties 32) in
-    c.dealt-at.ensures
-    ∙ counted bare (a.j / 4) m.register-for.result c.before.if1.true
-    ∙ sym (field_there a.kind (get_or bare (a.j / 4) []) (a.j % 4) m.register-for.result m.register-for.ensures c.before.if1.true)
+    c.dealt_at.ensures
+    ∙ counted bare (a.j / 4) m.register_for-i.result c.if-i-lt8.true
+    ∙ sym (field_there a.kind (get_or bare (a.j / 4) []) (a.j % 4) m.register_for-i.result m.register_for-i.ensures c.if-i-lt8.true)
 
-returns_2 : tie.Need-returns-2
+returns_2 : tie.Need-returns
 returns_2 c =
-    let m = c.before in
-    let a = m.before.before.before.before.args in
+    let m = c in
+    let a = m.args in
     let bare : List (List Bits) = dealt Empty a.kind a.computation (rows_from 8 a.sorts.now a.singles.now a.doubles.now) (empties 32) in
-    sym (field_nothing a.kind (get_or bare (a.j / 4) []) (a.j % 4) m.register-for.result m.register-for.ensures c.if1.false)
+    sym (field_nothing a.kind (get_or bare (a.j / 4) []) (a.j % 4) m.register_for-i.result m.register_for-i.ensures c.if-i-lt8.false)
 
 pub dealt_to_field_spec : {M : Type 1} → statement M
 dealt_to_field_spec =

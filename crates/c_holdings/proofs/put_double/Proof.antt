@@ -9,6 +9,6 @@ pub put_double_spec : {M : Type 1} → statement M
 put_double_spec =
     tie.close
     (tie.spec (λ c. search rules) (λ c. search rules) (λ c. search rules) (λ c. search rules) (λ c. search rules)
-    (λ c. let a = c.before.before.args in rw c.enum_told.given.1 (sym (set-get_or a.numbers.now a.j 0)))
-    (λ c. let a = c.before.before.args in rw c.enum-told2.given.1 (sym (set-get_or a.numbers.now a.j 0)))
-    (λ c. search rules) (λ c. rw c.before.register.given.1 refl))
+    (λ c. let a = c.args in rw c.in-Empty.is (sym (set-get_or a.numbers.now a.j 0)))
+    (λ c. let a = c.args in rw c.in-Single.is (sym (set-get_or a.numbers.now a.j 0)))
+    (λ c. search rules) (λ c. rw c.in-Double.is refl))

@@ -6,11 +6,11 @@ use Rattle.c_holdings.proofs.register_for.Tie as tie
 pub register_for_spec : {M : Type 1} → statement M
 register_for_spec =
     tie.close
-    (tie.spec (λ c. rw (eq-eqb _ _ c.before.if1.true, eq-eqb _ _ c.if2.true))
-    (λ c. rw (eq-eqb _ _ c.before.if1.true, ne_eqb _ _ c.if2.false))
-    (λ c. rw (ne_eqb _ _ c.before.before.if1.false, eq-eqb _ _ c.before.if3.true, eq-eqb _ _ c.if4.true))
-    (λ c. rw (ne_eqb _ _ c.before.before.if1.false, eq-eqb _ _ c.before.if3.true, ne_eqb _ _ c.if4.false))
-    (λ c. rw (ne_eqb _ _ c.before.before.if1.false, ne_eqb _ _ c.before.if3.false, eq-eqb _ _ c.if5.true))
+    (tie.spec (λ c. rw (eq-eqb _ _ c.if-kind-eq6.true, eq-eqb _ _ c.if-k-eq0.true))
+    (λ c. rw (eq-eqb _ _ c.if-kind-eq6.true, ne_eqb _ _ c.if-k-eq0.false))
+    (λ c. rw (ne_eqb _ _ c.if-kind-eq6.false, eq-eqb _ _ c.if-kind-eq7.true, eq-eqb _ _ c.if-k-eq1.true))
+    (λ c. rw (ne_eqb _ _ c.if-kind-eq6.false, eq-eqb _ _ c.if-kind-eq7.true, ne_eqb _ _ c.if-k-eq1.false))
+    (λ c. rw (ne_eqb _ _ c.if-kind-eq6.false, ne_eqb _ _ c.if-kind-eq7.false, eq-eqb _ _ c.if-k-eq2.true))
     (λ c.
     rw (
       ne_eqb _ _ c.before.before.before.if1.false,

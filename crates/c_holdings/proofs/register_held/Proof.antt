@@ -11,15 +11,15 @@ pub register_held_spec : {M : Type 1} → statement M
 register_held_spec =
     tie.close
     (tie.spec (λ c. search rules) (λ c. search rules) (λ c. search rules)
-    (λ c. rw (eq-eqb _ _ c.before.before.if1.true, c.before.if2.true))
-    (λ c. rw (eq-eqb _ _ c.before.if1.true) (sym (but_first_empty _ _ c.if2.false)))
+    (λ c. rw (eq-eqb _ _ c.if-kind-eq6.true, c.if-i-eq0.true))
+    (λ c. rw (eq-eqb _ _ c.if-kind-eq6.true) (sym (but_first_empty _ _ c.if-i-eq0.false)))
     (λ c. search rules) (λ c. search rules) (λ c. search rules) (λ c. search rules)
-    (λ c. rw (ne_eqb _ _ c.before.before.before.if1.false, eq-eqb _ _ c.before.before.if3.true, c.before.if4.true))
-    (λ c. rw (ne_eqb _ _ c.before.before.if1.false, eq-eqb _ _ c.before.if3.true) (sym (but_first_empty _ _ c.if4.false)))
+    (λ c. rw (ne_eqb _ _ c.if-kind-eq6.false, eq-eqb _ _ c.if-kind-eq7.true, c.if-i-eq0-2.true))
+    (λ c. rw (ne_eqb _ _ c.if-kind-eq6.false, eq-eqb _ _ c.if-kind-eq7.true) (sym (but_first_empty _ _ c.if-i-eq0-2.false)))
     (λ c. search rules) (λ c. search rules) (λ c. search rules) (λ c. search rules)
-    (λ c. rw (ne_eqb _ _ c.before.before.before.if1.false, ne_eqb _ _ c.before.before.if3.false, c.before.if5.true))
+    (λ c. rw (ne_eqb _ _ c.if-kind-eq6.false, ne_eqb _ _ c.if-kind-eq7.false, c.if-i-eq0-3.true))
     (λ c. search rules) (λ c. search rules) (λ c. search rules) (λ c. search rules)
-    (λ c. rw (ne_eqb _ _ c.before.before.before.before.if1.false, ne_eqb _ _ c.before.before.before.if3.false, c.before.if6.true))
+    (λ c. rw (ne_eqb _ _ c.if-kind-eq6.false, ne_eqb _ _ c.if-kind-eq7.false, c.if-i-eq1.true))
     (λ c.
     rw (ne_eqb _ _ c.before.before.before.if1.false, ne_eqb _ _ c.before.before.if3.false)
     (sym (others_empty _ _ c.before.before.before.before.args.i (omega (arith, c.before.if5.false, c.if6.false))))))

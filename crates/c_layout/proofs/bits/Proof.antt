@@ -38,29 +38,29 @@ not_below : (z : ℤ) → lt_z z (pos 0) ≡ false → nat_abs z ≡ bits_of z
 not_below (pos n) t = refl
 not_below (negsuc n) t = absurd (apart (cc))
 
-is_below_lem : (c : tie.Then1) → Below c.before.args.z
-is_below_lem c = let s = c.before in below s.args.z (rw (to_z-of_z s.ranges.z) at c.if1.true) s.ranges.z
+is_below_lem : (c : tie.Then-z-lt0) → Below c.args.z
+is_below_lem c = let s = c in below s.args.z (rw (to_z-of_z s.ranges.z) at c.if-z-lt0.true) s.ranges.z
 
-sub_fits : (c : tie.Then1) → SFits w64 (pos (nat_abs c.before.args.z - 1))
+sub_fits : (c : tie.Then-z-lt0) → SFits w64 (pos (nat_abs c.args.z - 1))
 sub_fits c = far_fits (omega (arith, (is_below_lem c).near, (is_below_lem c).some))
 
-sub_result : tie.Need-overflow-sub-result
-sub_result c = rw (to_z-of_z c.before.ranges.z, (is_below_lem c).less) (sub_fits c)
+sub_result : tie.Need-overflow_sub-result
+sub_result c = rw (to_z-of_z c.ranges.z, (is_below_lem c).less) (sub_fits c)
 
-cast_result : tie.Need-overflow-cast-result
-cast_result c = rw (to_z-of_z c.before.ranges.z, (is_below_lem c).less, to_z-of_z (sub_fits c)) (tt, Fits-nat_abs {w = w64} tt (sub_fits c))
+cast_result : tie.Need-overflow_cast-result
+cast_result c = rw (to_z-of_z c.ranges.z, (is_below_lem c).less, to_z-of_z (sub_fits c)) (tt, Fits-nat_abs {w = w64} tt (sub_fits c))
 
-sub_result_2 : tie.Need-overflow-sub-result-2
-sub_result_2 c = rw (to_z-of_z c.before.ranges.z, (is_below_lem c).less, to_z-of_z (sub_fits c)) (omega (arith, (is_below_lem c).near, (is_below_lem c).some))
+sub_result_2 : tie.Need-overflow_sub-result-then-z-lt0
+sub_result_2 c = rw (to_z-of_z c.ranges.z, (is_below_lem c).less, to_z-of_z (sub_fits c)) (omega (arith, (is_below_lem c).near, (is_below_lem c).some))
 
-returns : tie.Need-returns
-returns c = rw (to_z-of_z c.before.ranges.z, (is_below_lem c).less, to_z-of_z (sub_fits c)) (is_below_lem c).all
+returns : tie.Need-returns-then-z-lt0
+returns c = rw (to_z-of_z c.ranges.z, (is_below_lem c).less, to_z-of_z (sub_fits c)) (is_below_lem c).all
 
-cast_result_2 : tie.Need-overflow-cast-result-2
-cast_result_2 c = let s = c.before in rw (to_z-of_z s.ranges.z) (from_zero s.args.z (rw (to_z-of_z s.ranges.z) at c.if1.false), Fits-nat_abs {w = w64} tt s.ranges.z)
+cast_result_2 : tie.Need-overflow_cast-result-2
+cast_result_2 c = let s = c in rw (to_z-of_z s.ranges.z) (from_zero s.args.z (rw (to_z-of_z s.ranges.z) at c.if-z-lt0.false), Fits-nat_abs {w = w64} tt s.ranges.z)
 
-returns_2 : tie.Need-returns-2
-returns_2 c = let s = c.before in rw (to_z-of_z s.ranges.z) (not_below s.args.z (rw (to_z-of_z s.ranges.z) at c.if1.false))
+returns_2 : tie.Need-returns
+returns_2 c = let s = c in rw (to_z-of_z s.ranges.z) (not_below s.args.z (rw (to_z-of_z s.ranges.z) at c.if-z-lt0.false))
 
 pub bits_spec : {M : Type 1} → statement M
 bits_spec = tie.close (tie.spec sub_result cast_result sub_result_2 returns cast_result_2 returns_2)

@@ -16,16 +16,16 @@ use Rattle.c_layout.proofs.Laws.{three, written, slots_more, of_iter, iters_writ
 use Rattle.c_layout.proofs.put_iters.Statement.{statement}
 use Rattle.c_layout.proofs.put_iters.Tie as tie
 
-abbrev invariant_loop : tie.invariant_loop
+abbrev invariant_loop : tie.invariant-loop-k
 invariant_loop slots card₀ from at count k₀ card k =
     (k ≤ slots) × (slots ≤ 8) × (from + 1 + 3 * slots ≤ 57) × (length at ≡ 8) × (length card ≡ 57) × (card ≡ sets card₀ (from + 1) (written (of_iter at) (take k eight)))
 
-abbrev decreases_loop : tie.decreases_loop
+abbrev decreases_loop : tie.decreases-loop-k
 decreases_loop slots card₀ from at count k₀ card k = slots - k
 
-loop_holds : tie.Need-loop-init invariant_loop decreases_loop
+loop_holds : tie.Need-loop-k-init invariant_loop decreases_loop
 loop_holds c =
-    let s = c.before.before in (
+    let s = c in (
       omega arith,
       omega arith,
       omega arith,
@@ -34,19 +34,19 @@ loop_holds c =
       refl,
     )
 
-loop_again : tie.Need-loop-preserved invariant_loop decreases_loop
+loop_again : tie.Need-loop-k-preserved invariant_loop decreases_loop
 loop_again c =
-    let told = c.before in
-    let t = told.before.before in
-    let l = t.before.loop in
-    let s = t.before.before.before.before in
+    let told = c in
+    let t = told in
+    let l = t.loop-k in
+    let s = t in
     let at = s.args.iters.at in
     let place = s.args.from + 1 + 3 * l.k in
     let iter = get_or at l.k none in
-    let small : l.k < 8 = omega (arith, t.loop-test.true) in
+    let small : l.k < 8 = omega (arith, t.loop-k-test.true) in
     let put = three l.card place iter.extent (bits_of iter.stride) iter.axis in
-    let back = to_z-of_z {w = w64} {z = iter.stride} (record { sfits = told.struct_told.given.1.0.1 }) in
-    rw (c.bits.ensures, back) (
+    let back = to_z-of_z {w = w64} {z = iter.stride} (record { sfits = told.struct_told-1.given.1.0.1 }) in
+    rw (c.bits-stride.ensures, back) (
       omega arith,
       l.invariant.1,
       l.invariant.2,
@@ -59,8 +59,8 @@ loop_again c =
 
 returns : tie.Need-returns invariant_loop decreases_loop
 returns c =
-    let l = c.before.loop in
-    let s = c.before.before.before.before in
+    let l = c.loop-k in
+    let s = c in
     let iters = s.args.iters in
     let counted = set s.args.card.now s.args.from iters.count in
     let next : s.args.from + 1 ≡ suc s.args.from = omega arith in

@@ -7,12 +7,12 @@ use Rattle.c_layout.proofs.put_layout.Tie as tie
 
 returns : tie.Need-returns
 returns c =
-    let two = c.before.before.before in
-    let one = two.before.before.before.before in
-    let n = one.before.before in
-    let s = n.before.before.before.before in
-    rw (c.put-offset.ensures, two.put-iters2.ensures, one.put-iters.ensures)
-    (all_written s.args.layout s.args.card.now (omega (arith, n.numbers.given)))
+    let two = c in
+    let one = two in
+    let n = one in
+    let s = n in
+    rw (c.put_offset.ensures, two.put_iters-2.ensures, one.put_iters.ensures)
+    (all_written s.args.layout s.args.card.now (omega (arith, n.numbers-1.given)))
 
 pub put_layout_spec : {M : Type 1} → statement M
 put_layout_spec = tie.close (tie.spec (λ c κs. search rules) (λ c κs. search rules) (λ c κs. search rules) returns)

@@ -14,25 +14,25 @@ use Rattle.c_layout.proofs.Laws.{written, slots_more, of_offset}
 use Rattle.c_layout.proofs.put_offset.Statement.{statement}
 use Rattle.c_layout.proofs.put_offset.Tie as tie
 
-abbrev invariant_loop : tie.invariant_loop
+abbrev invariant_loop : tie.invariant-loop-k
 invariant_loop card₀ offset k₀ card k =
     (k ≤ 8) × (length offset ≡ 8) × (length card ≡ 57) × (card ≡ sets card₀ 38 (written (of_offset offset) (take k eight)))
 
-abbrev decreases_loop : tie.decreases_loop
+abbrev decreases_loop : tie.decreases-loop-k
 decreases_loop card₀ offset k₀ card k = 8 - k
 
-loop_holds : tie.Need-loop-init invariant_loop decreases_loop
-loop_holds c = (omega arith, search rules, c.before.requires, refl)
+loop_holds : tie.Need-loop-k-init invariant_loop decreases_loop
+loop_holds c = (omega arith, search rules, c.requires, refl)
 
-loop_again : tie.Need-loop-preserved invariant_loop decreases_loop
+loop_again : tie.Need-loop-k-preserved invariant_loop decreases_loop
 loop_again c =
-    let t = c.before.before in
-    let l = t.before.loop in
-    let s = t.before.before.before in
-    let offset = s.args.t1 in
+    let t = c in
+    let l = t.loop-k in
+    let s = t in
+    let offset = s.args.offset in
     let z = get_or offset l.k (pos 0) in
-    let small : l.k < 8 = omega (arith, t.loop-test.true) in
-    let back = to_z-of_z {w = w64} {z = z} (record { sfits = c.before.bits-arg.given }) in
+    let small : l.k < 8 = omega (arith, t.loop-k-test.true) in
+    let back = to_z-of_z {w = w64} {z = z} (record { sfits = c.bits-arg-1.given }) in
     let place : 38 + l.k ≡ 38 + 1 * l.k = omega arith in
     rw (c.bits.ensures, back) (
       omega arith,
@@ -43,7 +43,7 @@ loop_again c =
 
 returns : tie.Need-returns invariant_loop decreases_loop
 returns c =
-    let l = c.before.loop in
+    let l = c.loop-k in
     let done : l.k ≡ 8 = omega (arith, l.invariant.0) in
     rw done at l.invariant.3
 

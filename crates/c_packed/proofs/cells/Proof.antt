@@ -10,7 +10,7 @@ use Rattle.c_packed.proofs.cells.Statement.{statement}
 use Rattle.c_packed.proofs.cells.Tie as tie
 
 returns : tie.Need-returns
-returns c = c.product.ensures ∙ ap (λ (l : List ℕ). min (product (take 8 l)) beyond) c.before.of-axes.ensures
+returns c = c.product.ensures ∙ ap (λ (l : List ℕ). min (product (take 8 l)) beyond) c.of_axes.ensures
 
 pub cells_spec : {M : Type 1} → statement M
 cells_spec = tie.close (tie.spec (λ c κs. search rules) (λ c κs. search rules) returns)

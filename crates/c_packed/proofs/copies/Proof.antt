@@ -20,9 +20,9 @@ product_requires c κs = omega (arith, c.named.ensures)
 
 returns : tie.Need-returns
 returns c =
-    let n = c.before in
-    let o = n.before.before in
-    let iters : Iters = replica_from o.before.args.card.now in
+    let n = c in
+    let o = n in
+    let iters : Iters = replica_from o.args.card.now in
     let extents = map extent_of iters.at in
     c.product.ensures
     ∙ ap₂ (λ (k : ℕ) (l : List ℕ). min (product (take k l)) beyond) n.named.ensures o.of_replica.ensures

@@ -7,7 +7,7 @@ use Rattle.c_packed.proofs.of_shard.Statement.{statement}
 use Rattle.c_packed.proofs.of_shard.Tie as tie
 
 returns : tie.Need-returns
-returns c = let a = c.before.before.before.before.before.before.before.before.args in first_at (λ (n : ℕ). get_or a.card.now n 0) a.at _
+returns c = let a = c.args in first_at (λ (n : ℕ). get_or a.card.now n 0) a.at _
 
 pub of_shard_spec : {M : Type 1} → statement M
 of_shard_spec = tie.close (tie.spec (λ c. search rules) (λ c. search rules) (λ c. search rules) (λ c. search rules) (λ c. search rules) (λ c. search rules) (λ c. search rules) (λ c. search rules) (λ c. search rules) (λ c. search rules) (λ c. search rules) (λ c. search rules) (λ c. search rules) (λ c. search rules) (λ c. search rules) (λ c. search rules) (λ c. search rules) (λ c. search rules) (λ c. search rules) (λ c. search rules) (λ c. search rules) (λ c. search rules) (λ c. search rules) returns)

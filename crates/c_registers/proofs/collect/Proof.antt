@@ -17,38 +17,38 @@ use Rattle.c_registers.proofs.collect.Tie as tie
 abbrev rows : ℕ → ℕ → List ℕ → List ℕ → List ℕ → List (List Bits)
 rows kind c sorts singles doubles = collected Empty kind c (rows_from 32 sorts singles doubles) (empties 8)
 
-abbrev invariant_loop : tie.invariant_loop
+abbrev invariant_loop : tie.invariant-loop-j
 invariant_loop kind computation lane-sorts lane-singles lane-doubles sorts₀ singles₀ doubles₀ j₀ sorts singles doubles j =
     Anew 64 (written sort_after (rows kind computation lane-sorts lane-singles lane-doubles)) sorts₀ sorts j
     × Anew 64 (written single_after (rows kind computation lane-sorts lane-singles lane-doubles)) singles₀ singles j
     × Anew 64 (written double_after (rows kind computation lane-sorts lane-singles lane-doubles)) doubles₀ doubles j
 
-abbrev decreases_loop : tie.decreases_loop
+abbrev decreases_loop : tie.decreases-loop-j
 decreases_loop kind computation lane-sorts lane-singles lane-doubles sorts₀ singles₀ doubles₀ j₀ sorts singles doubles j = 64 - j
 
-loop_holds : tie.Need-loop-init invariant_loop decreases_loop
+loop_holds : tie.Need-loop-j-init invariant_loop decreases_loop
 loop_holds c =
-    let s = c.before.before.before.before.before.before in
+    let s = c in
     let a = s.args in
     let p = s.requires.1 in
-    let w = rows a.kind a.computation a.lane-sorts.now a.lane-singles.now a.lane-doubles.now in (
+    let w = rows a.kind a.computation a.lane_sorts.now a.lane_singles.now a.lane_doubles.now in (
       anew_none 0 64 (written sort_after w) a.sorts.now p.0,
       anew_none 0 64 (written single_after w) a.singles.now p.1,
       anew_none 0 64 (written double_after w) a.doubles.now p.2,
     )
 
-loop_again : tie.Need-loop-preserved invariant_loop decreases_loop
+loop_again : tie.Need-loop-j-preserved invariant_loop decreases_loop
 loop_again c =
-    let p = c.before.before.before.before.before.before in
-    let d = p.before.before.before.before in
-    let t = d.before in
-    let l = t.before.loop in
-    let a = t.before.before.before.before.before.before.before.before.args in
-    let h = t.loop-test.true in
+    let p = c in
+    let d = p in
+    let t = d in
+    let l = t.loop-j in
+    let a = t.args in
+    let h = t.loop-j-test.true in
     let e = p.put.ensures in
-    let r = d.collected-at.ensures in
+    let r = d.collected_at-register.ensures in
     let i = l.invariant in
-    let w = rows a.kind a.computation a.lane-sorts.now a.lane-singles.now a.lane-doubles.now in (
+    let w = rows a.kind a.computation a.lane_sorts.now a.lane_singles.now a.lane_doubles.now in (
       anew_turn 0 64 (written sort_after w) a.sorts.now l.sorts _ l.j i.0 h
           (e.0 ∙ ap (λ (x : Bits). set l.sorts l.j (sort_after x (get_or l.sorts l.j 0))) r),
       anew_turn 0 64 (written single_after w) a.singles.now l.singles _ l.j i.1 h
@@ -59,11 +59,11 @@ loop_again c =
 
 returns : tie.Need-returns invariant_loop decreases_loop
 returns c =
-    let a = c.before.before.before.before.before.before.before.before.args in
-    let l = c.before.loop in
-    let h = c.loop-test.false in
+    let a = c.args in
+    let l = c.loop-j in
+    let h = c.loop-j-test.false in
     let i = l.invariant in
-    let w = rows a.kind a.computation a.lane-sorts.now a.lane-singles.now a.lane-doubles.now in (
+    let w = rows a.kind a.computation a.lane_sorts.now a.lane_singles.now a.lane_doubles.now in (
       anew_all 0 64 (written sort_after w) a.sorts.now l.sorts l.j i.0 h,
       (
         anew_all 0 64 (written single_after w) a.singles.now l.singles l.j i.1 h,

@@ -10,23 +10,23 @@ use Rattle.c_registers.proofs.Entries.{collected_there, collected_nothing}
 use Rattle.c_registers.proofs.collected_at.Statement.{statement}
 use Rattle.c_registers.proofs.collected_at.Tie as tie
 
-returns : tie.Need-returns
+returns : tie.Need-returns-then-s-lt256
 returns c =
-    let m = c.before.before in
-    let s = m.before.before.before.before in
+    let m = c in
+    let s = m in
     let a = s.args in
     let rows : List (List Bits) = rows_from 32 a.sorts.now a.singles.now a.doubles.now in
-    c.register-at.ensures
-    ∙ sym (collected_there a.kind a.computation rows a.j m.holder.result s.requires.0 m.holder.ensures c.before.if1.true
-    ∙ entry_at 32 a.sorts.now a.singles.now a.doubles.now m.holder.result (omega (arith, c.before.if1.true)))
+    c.register_at.ensures
+    ∙ sym (collected_there a.kind a.computation rows a.j m.holder-s.result s.requires.0 m.holder-s.ensures c.if-s-lt256.true
+    ∙ entry_at 32 a.sorts.now a.singles.now a.doubles.now m.holder-s.result (omega (arith, c.if-s-lt256.true)))
 
-returns_2 : tie.Need-returns-2
+returns_2 : tie.Need-returns
 returns_2 c =
-    let m = c.before in
-    let s = m.before.before.before.before in
+    let m = c in
+    let s = m in
     let a = s.args in
     let rows : List (List Bits) = rows_from 32 a.sorts.now a.singles.now a.doubles.now in
-    sym (collected_nothing a.kind a.computation rows a.j m.holder.result s.requires.0 m.holder.ensures c.if1.false)
+    sym (collected_nothing a.kind a.computation rows a.j m.holder-s.result s.requires.0 m.holder-s.ensures c.if-s-lt256.false)
 
 pub collected_at_spec : {M : Type 1} → statement M
 collected_at_spec = tie.close (tie.spec (λ c κs. search rules) (λ c κs. (omega arith, omega arith, omega arith)) returns returns_2)

@@ -17,38 +17,38 @@ use Rattle.c_registers.proofs.deal.Tie as tie
 abbrev rows : ℕ → ℕ → List ℕ → List ℕ → List ℕ → List (List Bits)
 rows kind c sorts singles doubles = dealt Empty kind c (rows_from 8 sorts singles doubles) (empties 32)
 
-abbrev invariant_loop : tie.invariant_loop
+abbrev invariant_loop : tie.invariant-loop-n
 invariant_loop kind computation tile-sorts tile-singles tile-doubles sorts₀ singles₀ doubles₀ n₀ sorts singles doubles n =
     Anew 256 (written sort_after (rows kind computation tile-sorts tile-singles tile-doubles)) sorts₀ sorts n
     × Anew 256 (written single_after (rows kind computation tile-sorts tile-singles tile-doubles)) singles₀ singles n
     × Anew 256 (written double_after (rows kind computation tile-sorts tile-singles tile-doubles)) doubles₀ doubles n
 
-abbrev decreases_loop : tie.decreases_loop
+abbrev decreases_loop : tie.decreases-loop-n
 decreases_loop kind computation tile-sorts tile-singles tile-doubles sorts₀ singles₀ doubles₀ n₀ sorts singles doubles n = 256 - n
 
-loop_holds : tie.Need-loop-init invariant_loop decreases_loop
+loop_holds : tie.Need-loop-n-init invariant_loop decreases_loop
 loop_holds c =
-    let s = c.before.before.before.before.before.before in
+    let s = c in
     let a = s.args in
     let p = s.requires.1.1 in
-    let w = rows a.kind a.computation a.tile-sorts.now a.tile-singles.now a.tile-doubles.now in (
+    let w = rows a.kind a.computation a.tile_sorts.now a.tile_singles.now a.tile_doubles.now in (
       anew_none 0 256 (written sort_after w) a.sorts.now p.0,
       anew_none 0 256 (written single_after w) a.singles.now p.1,
       anew_none 0 256 (written double_after w) a.doubles.now p.2,
     )
 
-loop_again : tie.Need-loop-preserved invariant_loop decreases_loop
+loop_again : tie.Need-loop-n-preserved invariant_loop decreases_loop
 loop_again c =
-    let p = c.before.before.before.before.before.before in
-    let d = p.before.before.before.before in
-    let t = d.before in
-    let l = t.before.loop in
-    let a = t.before.before.before.before.before.before.before.before.args in
-    let h = t.loop-test.true in
+    let p = c in
+    let d = p in
+    let t = d in
+    let l = t.loop-n in
+    let a = t.args in
+    let h = t.loop-n-test.true in
     let e = p.put.ensures in
-    let r = d.dealt-at.ensures in
+    let r = d.dealt_at-register.ensures in
     let i = l.invariant in
-    let w = rows a.kind a.computation a.tile-sorts.now a.tile-singles.now a.tile-doubles.now in (
+    let w = rows a.kind a.computation a.tile_sorts.now a.tile_singles.now a.tile_doubles.now in (
       anew_turn 0 256 (written sort_after w) a.sorts.now l.sorts _ l.n i.0 h
           (e.0 ∙ ap (λ (x : Bits). set l.sorts l.n (sort_after x (get_or l.sorts l.n 0))) r),
       anew_turn 0 256 (written single_after w) a.singles.now l.singles _ l.n i.1 h
@@ -59,11 +59,11 @@ loop_again c =
 
 returns : tie.Need-returns invariant_loop decreases_loop
 returns c =
-    let a = c.before.before.before.before.before.before.before.before.args in
-    let l = c.before.loop in
-    let h = c.loop-test.false in
+    let a = c.args in
+    let l = c.loop-n in
+    let h = c.loop-n-test.false in
     let i = l.invariant in
-    let w = rows a.kind a.computation a.tile-sorts.now a.tile-singles.now a.tile-doubles.now in (
+    let w = rows a.kind a.computation a.tile_sorts.now a.tile_singles.now a.tile_doubles.now in (
       anew_all 0 256 (written sort_after w) a.sorts.now l.sorts l.n i.0 h,
       (
         anew_all 0 256 (written single_after w) a.singles.now l.singles l.n i.1 h,

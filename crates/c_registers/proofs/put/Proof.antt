@@ -5,23 +5,23 @@ use lib.Seq.{set-get_or}
 use Rattle.c_registers.proofs.put.Statement.{statement}
 use Rattle.c_registers.proofs.put.Tie as tie
 
-returns : tie.Need-returns
+returns : tie.Need-returns-in-Empty
 returns c =
-    let a = c.before.before.args in
-    rw c.enum_told.given.1 (
+    let a = c.args in
+    rw c.in-Empty.is (
       sym (set-get_or a.sorts.now a.j 0),
       (sym (set-get_or a.singles.now a.j 0), sym (set-get_or a.doubles.now a.j 0)),
     )
 
-returns_2 : tie.Need-returns-2
+returns_2 : tie.Need-returns-in-Single
 returns_2 c =
-    let a = c.before.before.before.args in
-    rw c.before.register.given.1 (refl, (refl, sym (set-get_or a.doubles.now a.j 0)))
+    let a = c.args in
+    rw c.in-Single.is (refl, (refl, sym (set-get_or a.doubles.now a.j 0)))
 
-returns_3 : tie.Need-returns-3
+returns_3 : tie.Need-returns-in-Double
 returns_3 c =
-    let a = c.before.before.before.args in
-    rw c.before.register2.given.1 (refl, (sym (set-get_or a.singles.now a.j 0), refl))
+    let a = c.args in
+    rw c.in-Double.is (refl, (sym (set-get_or a.singles.now a.j 0), refl))
 
 pub put_spec : {M : Type 1} → statement M
 put_spec =

@@ -8,6 +8,6 @@ use Rattle.c_registers.proofs.register_at.Tie as tie
 pub register_at_spec : {M : Type 1} → statement M
 register_at_spec =
     tie.close
-    (tie.spec (λ c. search rules) (λ c. omega arith) (λ c. search rules) (λ c. rw (eq-eqb _ _ c.before.if1.true)) (λ c. omega arith) (λ c. search rules)
-    (λ c. rw (ne_eqb _ _ c.before.before.if1.false, eq-eqb _ _ c.before.if2.true))
-    (λ c. rw (ne_eqb _ _ c.before.if1.false, ne_eqb _ _ c.if2.false)))
+    (tie.spec (λ c. search rules) (λ c. omega arith) (λ c. search rules) (λ c. rw (eq-eqb _ _ c.if-sort-eq1.true)) (λ c. omega arith) (λ c. search rules)
+    (λ c. rw (ne_eqb _ _ c.if-sort-eq1.false, eq-eqb _ _ c.if-sort-eq2.true))
+    (λ c. rw (ne_eqb _ _ c.if-sort-eq1.false, ne_eqb _ _ c.if-sort-eq2.false)))

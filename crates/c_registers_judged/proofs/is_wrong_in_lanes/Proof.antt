@@ -16,27 +16,27 @@ use Rattle.c_registers_judged.proofs.Wrong.{not_wrong, wrong_own}
 use Rattle.c_registers_judged.proofs.is_wrong_in_lanes.Statement.{statement}
 use Rattle.c_registers_judged.proofs.is_wrong_in_lanes.Tie as tie
 
-returns : tie.Need-returns
+returns : tie.Need-returns-then-matrix_source-lt64
 returns c =
-    let g = c.before in
-    let m = g.before.before in
-    let s = m.before.before.before.before in
+    let g = c in
+    let m = g in
+    let s = m in
     let a = s.args in
-    let p : ℕ = m.matrix-source.result in
-    let e = m.matrix-source.ensures in
-    let k = g.before.if1.true in
+    let p : ℕ = m.matrix_source.result in
+    let e = m.matrix_source.ensures in
+    let k = g.if-matrix_source-lt64.true in
     let rows : List (List Register) = registers_held (rows_from 32 a.sorts.now a.singles.now a.doubles.now) in
-    ap not (c.is-of-sort.ensures ∙ ap (λ (b : Bits). is_of_sort a.kind (read_as b)) g.register-at.ensures)
+    ap not (c.is_of_sort.ensures ∙ ap (λ (b : Bits). is_of_sort a.kind (read_as b)) g.register_at.ensures)
     ∙ sym (wrong_own a.kind a.computation a.n p (entry Empty rows) (read_as (register_at a.sorts.now a.singles.now a.doubles.now a.n)) e k
     (read_at 32 a.sorts.now a.singles.now a.doubles.now a.n (omega (arith, k, s.requires.0.1))))
 
-returns_2 : tie.Need-returns-2
+returns_2 : tie.Need-returns
 returns_2 c =
-    let m = c.before in
-    let s = m.before.before.before.before in
+    let m = c in
+    let s = m in
     let a = s.args in
     let rows : List (List Register) = registers_held (rows_from 32 a.sorts.now a.singles.now a.doubles.now) in
-    sym (not_wrong a.kind a.computation a.n m.matrix-source.result (entry Empty rows) m.matrix-source.ensures c.if1.false)
+    sym (not_wrong a.kind a.computation a.n m.matrix_source.result (entry Empty rows) m.matrix_source.ensures c.if-matrix_source-lt64.false)
 
 pub is_wrong_in_lanes_spec : {M : Type 1} → statement M
 is_wrong_in_lanes_spec =

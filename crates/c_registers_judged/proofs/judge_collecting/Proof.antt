@@ -11,7 +11,7 @@ pub judge_collecting_spec : {M : Type 1} → statement M
 judge_collecting_spec =
     tie.close
     (tie.spec (λ c κs. search rules)
-    (λ c κs. (matrix_kind _ _ (sym c.before.is-matrix.ensures ∙ c.if1.true), (omega arith, omega arith, omega arith)))
+    (λ c κs. (matrix_kind _ _ (sym c.is_matrix.ensures ∙ c.if-is_matrix.true), (omega arith, omega arith, omega arith)))
     (λ c κs. search rules)
-    (λ c. rw (sym c.before.before.is-matrix.ensures ∙ c.before.if1.true) c.judge-lanes.ensures)
-    (λ c. rw (sym c.before.before.is-matrix.ensures ∙ c.before.if1.false) (ap Refused c.outside.ensures)))
+    (λ c. rw (sym c.is_matrix.ensures ∙ c.if-is_matrix.true) c.judge_lanes.ensures)
+    (λ c. rw (sym c.is_matrix.ensures ∙ c.if-is_matrix.false) (ap Refused c.outside.ensures)))

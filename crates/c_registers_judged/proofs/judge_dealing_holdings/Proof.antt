@@ -11,5 +11,5 @@ pub judge_dealing_holdings_spec : {M : Type 1} → statement M
 judge_dealing_holdings_spec =
     tie.close
     (tie.spec (λ c κs. (omega arith, omega arith, omega arith)) (λ c κs. search rules)
-    (λ c. rw (lt-ltb 5 _ c.before.if1.true) c.judge-dealing.ensures)
-    (λ c. rw (le-ltb 5 _ c.before.if1.false) (ap Refused c.outside.ensures)))
+    (λ c. rw (lt-ltb 5 _ c.if-kind-gt5.true) c.judge_dealing.ensures)
+    (λ c. rw (le-ltb 5 _ c.if-kind-gt5.false) (ap Refused c.outside.ensures)))

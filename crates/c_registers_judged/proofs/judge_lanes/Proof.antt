@@ -17,32 +17,32 @@ use Rattle.c_registers_judged.proofs.judge_lanes.Tie as tie
 abbrev value : ℕ → List ℕ → List ℕ → List ℕ → ℕ → ℕ → Register
 value kind sorts singles doubles = entry Empty (registers_held (rows_from 32 sorts singles doubles))
 
-abbrev invariant_loop : tie.invariant_loop
+abbrev invariant_loop : tie.invariant-loop-n
 invariant_loop kind computation sorts singles doubles n₀ n = (n ≤ 256) × NoneBefore (is_wrong kind computation (value kind sorts singles doubles)) n
 
-abbrev decreases_loop : tie.decreases_loop
+abbrev decreases_loop : tie.decreases-loop-n
 decreases_loop kind computation sorts singles doubles n₀ n = 256 - n
 
-returns : tie.Need-returns invariant_loop decreases_loop
+returns : tie.Need-returns-then-is_wrong_in_lanes invariant_loop decreases_loop
 returns c =
-    let l = c.before.before.before.loop in
-    let a = c.before.before.before.before.before.before.before.args in
-    sym (judged_at a.kind a.computation (value a.kind a.sorts.now a.singles.now a.doubles.now) l.n c.before.before.loop-test.true l.invariant.1
-    (sym c.before.is-wrong-in-lanes.ensures ∙ c.if1.true))
+    let l = c.loop-n in
+    let a = c.args in
+    sym (judged_at a.kind a.computation (value a.kind a.sorts.now a.singles.now a.doubles.now) l.n c.loop-n-test.true l.invariant.1
+    (sym c.is_wrong_in_lanes.ensures ∙ c.if-is_wrong_in_lanes.true))
 
-loop_again : tie.Need-loop-preserved invariant_loop decreases_loop
+loop_again : tie.Need-loop-n-preserved invariant_loop decreases_loop
 loop_again c =
-    let l = c.before.before.before.loop in
-    let a = c.before.before.before.before.before.before.before.args in (
+    let l = c.loop-n in
+    let a = c.args in (
       omega arith,
-      none_next (is_wrong a.kind a.computation (value a.kind a.sorts.now a.singles.now a.doubles.now)) l.n l.invariant.1 (sym c.before.is-wrong-in-lanes.ensures ∙ c.if1.false),
+      none_next (is_wrong a.kind a.computation (value a.kind a.sorts.now a.singles.now a.doubles.now)) l.n l.invariant.1 (sym c.is_wrong_in_lanes.ensures ∙ c.if-is_wrong_in_lanes.false),
     )
 
-returns_2 : tie.Need-returns-2 invariant_loop decreases_loop
+returns_2 : tie.Need-returns invariant_loop decreases_loop
 returns_2 c =
-    let l = c.before.loop in
-    let a = c.before.before.before.before.before.args in
-    let end : l.n ≡ 256 = omega (arith, l.invariant.0, c.loop-test.false) in
+    let l = c.loop-n in
+    let a = c.args in
+    let end : l.n ≡ 256 = omega (arith, l.invariant.0, c.loop-n-test.false) in
     sym (judged_done a.kind a.computation (value a.kind a.sorts.now a.singles.now a.doubles.now) (rw end at l.invariant.1))
 
 pub judge_lanes_spec : {M : Type 1} → statement M

@@ -11,46 +11,46 @@ use Rattle.canonical_build.proofs.Laws.{sound, not_chosen}
 use Rattle.canonical_build.proofs.build.Statement.{statement}
 use Rattle.canonical_build.proofs.build.Tie as tie
 
-returns : tie.Need-returns
+returns : tie.Need-returns-then-not-is_fit
 returns c =
-    let f = c.before.before in
-    let m = f.before.before in
-    let s = m.before.before.before in
+    let f = c in
+    let m = f in
+    let s = m in
     let a = s.args.a in
-    let chosen = sym m.before.before.swizzle-of-mode.ensures ∙ m.chosen.given.1 in
-    let told : known a.bits a.mode ≡ true = (mode_told a.bits a.mode m.chosen.given.0.0 chosen).0 in
-    let unfit : fits a ≡ false = sym f.is-fit.ensures ∙ not-true f.is-fit.result c.before.if1.true in
+    let chosen = sym m.swizzle_of_mode-chosen.ensures ∙ m.in-Parameters.is in
+    let told : known a.bits a.mode ≡ true = (mode_told a.bits a.mode m.in-Parameters.swizzle chosen).0 in
+    let unfit : fits a ≡ false = sym f.is_fit.ensures ∙ c.if-not-is_fit.true in
     rw (told, unfit) c.refuse.ensures
 
-card_of_requires : tie.Need-card-of-requires
+card_of_requires : tie.Need-card_of-card-requires
 card_of_requires c κs =
-    let f = c.before in
-    let m = f.before.before in
-    let s = m.before.before.before in
+    let f = c in
+    let m = f in
+    let s = m in
     let a = s.args.a in
-    let chosen = sym m.before.before.swizzle-of-mode.ensures ∙ m.chosen.given.1 in
-    let told : known a.bits a.mode ≡ true = (mode_told a.bits a.mode m.chosen.given.0.0 chosen).0 in
-    let fit : fits a ≡ true = sym f.is-fit.ensures ∙ not-false f.is-fit.result c.if1.false in
+    let chosen = sym m.swizzle_of_mode-chosen.ensures ∙ m.in-Parameters.is in
+    let told : known a.bits a.mode ≡ true = (mode_told a.bits a.mode m.in-Parameters.swizzle chosen).0 in
+    let fit : fits a ≡ true = sym f.is_fit.ensures ∙ c.if-not-is_fit.false in
     (sound a told fit, chosen)
 
-returns_2 : tie.Need-returns-2
+returns_2 : tie.Need-returns-else-not-is_fit
 returns_2 c =
-    let f = c.before.before in
-    let m = f.before.before in
-    let s = m.before.before.before in
+    let f = c in
+    let m = f in
+    let s = m in
     let a = s.args.a in
-    let chosen = sym m.before.before.swizzle-of-mode.ensures ∙ m.chosen.given.1 in
-    let told : known a.bits a.mode ≡ true = (mode_told a.bits a.mode m.chosen.given.0.0 chosen).0 in
-    let fit : fits a ≡ true = sym f.is-fit.ensures ∙ not-false f.is-fit.result c.before.if1.false in
-    rw (told, fit, c.card-of.ensures)
+    let chosen = sym m.swizzle_of_mode-chosen.ensures ∙ m.in-Parameters.is in
+    let told : known a.bits a.mode ≡ true = (mode_told a.bits a.mode m.in-Parameters.swizzle chosen).0 in
+    let fit : fits a ≡ true = sym f.is_fit.ensures ∙ c.if-not-is_fit.false in
+    rw (told, fit, c.card_of-card.ensures)
 
-returns_3 : tie.Need-returns-3
+returns_3 : tie.Need-returns-in-Refused
 returns_3 c =
-    let m = c.before.before in
-    let s = m.before.before.before in
+    let m = c in
+    let s = m in
     let a = s.args.a in
-    let told = not_chosen a.bits a.mode m.chosen2.given.0.0 (sym m.before.before.swizzle-of-mode.ensures ∙ m.chosen2.given.1) in
-    rw told.0 (rw told.1 at c.refuse2.ensures)
+    let told = not_chosen a.bits a.mode m.in-Refused.refusal (sym m.swizzle_of_mode-chosen.ensures ∙ m.in-Refused.is) in
+    rw told.0 (rw told.1 at c.refuse-in-Refused.ensures)
 
 pub build_spec : {M : Type 1} → statement M
 build_spec = tie.close (tie.spec (λ c κs. search rules) (λ c. search rules) (λ c κs. search rules) (λ c κs. search rules) returns card_of_requires (λ c. search rules) (λ c κs. search rules) returns_2 returns_3)

@@ -6,8 +6,8 @@ use Rattle.canonical_build.proofs.card_of.Tie as tie
 
 returns : tie.Need-returns
 returns c =
-    let s = c.before.before in
-    rw (c.shard.ensures, c.before.empty.ensures, (mode_told s.args.a.bits s.args.a.mode s.args.swizzle s.requires.1).1)
+    let s = c in
+    rw (c.shard.ensures, c.empty-none.ensures, (mode_told s.args.a.bits s.args.a.mode s.args.swizzle s.requires.1).1)
 
 pub card_of_spec : {M : Type 1} → statement M
-card_of_spec = tie.close (tie.spec (λ c κs. search rules) (λ c κs. c.before.requires.0) returns)
+card_of_spec = tie.close (tie.spec (λ c κs. search rules) (λ c κs. c.requires.0) returns)

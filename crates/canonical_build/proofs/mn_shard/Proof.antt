@@ -5,4 +5,4 @@ use Rattle.canonical_build.proofs.mn_shard.Statement.{statement}
 use Rattle.canonical_build.proofs.mn_shard.Tie as tie
 
 pub mn_shard_spec : {M : Type 1} → statement M
-mn_shard_spec = tie.close (tie.spec (λ c κs. search rules) (λ c κs. search rules) (λ c κs. search rules) (λ c κs. search rules) (λ c κs. search rules) (λ c κs. search rules) (λ c κs. search rules) (λ c κs. search rules) (λ c. rw (c.before.before.before.before.before.before.before.iter.ensures, c.before.before.before.before.before.before.iter2.ensures, c.before.before.before.before.before.iter3.ensures, c.before.before.before.before.iter4.ensures, c.before.before.before.iter5.ensures, c.before.before.empty.ensures, c.before.empty2.ensures, c.empty3.ensures)))
+mn_shard_spec = tie.close (tie.spec (λ c κs. search rules) (λ c κs. search rules) (λ c κs. search rules) (λ c κs. search rules) (λ c κs. search rules) (λ c κs. search rules) (λ c κs. search rules) (λ c κs. search rules) (λ c. rw (c.iter.ensures, c.iter-2.ensures, c.iter-3.ensures, c.iter-4.ensures, c.iter-5.ensures, c.empty.ensures, c.empty-2.ensures, c.empty-3.ensures)))

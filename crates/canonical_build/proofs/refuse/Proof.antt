@@ -4,4 +4,4 @@ use Rattle.canonical_build.proofs.refuse.Statement.{statement}
 use Rattle.canonical_build.proofs.refuse.Tie as tie
 
 pub refuse_spec : {M : Type 1} → statement M
-refuse_spec = tie.close (tie.spec (λ c κs. search rules) (λ c. rw c.empty.ensures))
+refuse_spec = tie.close (tie.spec (λ c κs. search rules) (λ c. rw c.empty-none.ensures))

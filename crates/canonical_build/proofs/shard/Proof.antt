@@ -14,7 +14,7 @@ use Rattle.canonical_build.proofs.shard.Tie as tie
 wide : (c : tie.Start) → (1 * 2 ^ c.args.a.mode % 2 ^ 64) * (128 / c.args.a.bits) ≤ 256
 wide c = rw (pieces_few c.args.a.mode c.requires.its_mode) (wide_short c.args.a.bits c.args.a.mode c.requires.its_bits c.requires.its_mode)
 
-mul_wide : tie.Need-overflow-mul-wide
+mul_wide : tie.Need-overflow_mul-wide
 mul_wide c = omega (arith, wide c.before.before)
 
 short : (s : tie.Start) (rows columns : ℕ) → rows ≤ longest → columns ≤ longest
@@ -28,33 +28,33 @@ short s rows columns r c =
       short_columns = c;
     }
 
-k_shard_requires : tie.Need-k-shard-requires
+k_shard_requires : tie.Need-k_shard-requires
 k_shard_requires c κs =
-    let o = c.before.before in
-    let r = o.before in
-    short r.before.before.before r.across-rows.result o.across-columns.result r.across-rows.ensures.1 o.across-columns.ensures.1
+    let o = c in
+    let r = o in
+    short r.before.before.before.before.before.before r.across_rows-rows.result o.across_columns-columns.result r.across_rows-rows.ensures.1 o.across_columns-columns.ensures.1
 
-mn_shard_requires : tie.Need-mn-shard-requires
+mn_shard_requires : tie.Need-mn_shard-requires
 mn_shard_requires c κs =
-    let o = c.before.before in
-    let r = o.before in
-    short r.before.before.before r.across-rows.result o.across-columns.result r.across-rows.ensures.1 o.across-columns.ensures.1
+    let o = c in
+    let r = o in
+    short r.before.before.before.before.before.before r.across_rows-rows.result o.across_columns-columns.result r.across_rows-rows.ensures.1 o.across_columns-columns.ensures.1
 
-returns : tie.Need-returns
+returns : tie.Need-returns-then-a-eq0
 returns c =
-    let o = c.before.before.before in
-    let r = o.before in
-    let s = r.before.before.before in
-    let is_k = eq-eqb s.args.a.major 0 c.before.if1.true in
-    rw is_k (rw (pieces_few s.args.a.mode s.requires.its_mode, r.across-rows.ensures.0, o.across-columns.ensures.0, is_k) at c.k-shard.ensures)
+    let o = c in
+    let r = o in
+    let s = r in
+    let is_k = eq-eqb s.args.a.major 0 c.if-a-eq0.true in
+    rw is_k (rw (pieces_few s.args.a.mode s.requires.its_mode, r.across_rows-rows.ensures.0, o.across_columns-columns.ensures.0, is_k) at c.k_shard.ensures)
 
-returns_2 : tie.Need-returns-2
+returns_2 : tie.Need-returns-else-a-eq0
 returns_2 c =
-    let o = c.before.before.before in
-    let r = o.before in
-    let s = r.before.before.before in
-    let isMN = ne_eqb s.args.a.major 0 c.before.if1.false in
-    rw isMN (rw (pieces_few s.args.a.mode s.requires.its_mode, r.across-rows.ensures.0, o.across-columns.ensures.0, isMN) at c.mn-shard.ensures)
+    let o = c in
+    let r = o in
+    let s = r in
+    let isMN = ne_eqb s.args.a.major 0 c.if-a-eq0.false in
+    rw isMN (rw (pieces_few s.args.a.mode s.requires.its_mode, r.across_rows-rows.ensures.0, o.across_columns-columns.ensures.0, isMN) at c.mn_shard.ensures)
 
 pub shard_spec : {M : Type 1} → statement M
-shard_spec = tie.close (tie.spec (λ c. bits_positive c.before.args.a.bits c.before.requires.its_bits) (λ c. search rules) mul_wide (λ c κs. search rules) (λ c κs. search rules) k_shard_requires mn_shard_requires returns returns_2)
+shard_spec = tie.close (tie.spec (λ c. bits_positive c.args.a.bits c.requires.its_bits) (λ c. search rules) mul_wide (λ c κs. search rules) (λ c κs. search rules) k_shard_requires mn_shard_requires returns returns_2)

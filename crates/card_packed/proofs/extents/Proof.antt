@@ -11,7 +11,7 @@ use Rattle.card_packed.proofs.extents.Tie as tie
 
 returns : tie.Need-returns
 returns c =
-    let at = c.before.args.iters.at in
+    let at = c.args.iters.at in
     let eight : length at ≡ 8 = search (rules, length_of) in
     sym (eight_slots (λ k. (get_or at k none).extent) 0 (map extent_of at) (length-map at extent_of ∙ eight) (λ k h. get_or-map extent_of at k none))
 

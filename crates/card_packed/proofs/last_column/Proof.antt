@@ -15,9 +15,9 @@ whole s = take_whole 8 s.args.card.lengths (search rules)
 
 returns : tie.Need-returns
 returns c =
-    let t = c.before in
-    let s = t.before in
-    rw (s.size.ensures, t.size2.ensures, c.product.ensures ∙ ap (λ l. min (product l) beyond) (whole s.before.before.before.before))
+    let t = c in
+    let s = t in
+    rw (s.size.ensures, t.size-2.ensures, c.product.ensures ∙ ap (λ l. min (product l) beyond) (whole s.before.before.before.before.before.before))
 
 pub last_column_spec : {M : Type 1} → statement M
 last_column_spec = tie.close (tie.spec (λ c κs. search rules) (λ c κs. search rules) (λ c κs. search rules) returns)

@@ -18,14 +18,14 @@ product_requires c κs = omega (arith, c.named.ensures)
 
 returns : tie.Need-returns
 returns c =
-    let n = c.before in
-    let e = n.before in
-    let iters = e.before.args.iters in
-    let eight : length e.extents.result ≡ 8 = search rules in
+    let n = c in
+    let e = n in
+    let iters = e.args.iters in
+    let eight : length e.extents-extents.result ≡ 8 = search rules in
     c.product.ensures
-    ∙ ap (λ (k : ℕ). min (product (take k e.extents.result)) beyond) n.named.ensures
-    ∙ ap (λ (l : List ℕ). min (product l) beyond) (take_min iters.count 8 e.extents.result eight)
-    ∙ ap (λ (k : ℕ). min k beyond) (listed_product extent_of iters e.extents.ensures)
+    ∙ ap (λ (k : ℕ). min (product (take k e.extents-extents.result)) beyond) n.named.ensures
+    ∙ ap (λ (l : List ℕ). min (product l) beyond) (take_min iters.count 8 e.extents-extents.result eight)
+    ∙ ap (λ (k : ℕ). min k beyond) (listed_product extent_of iters e.extents-extents.ensures)
 
 pub size_spec : {M : Type 1} → statement M
 size_spec = tie.close (tie.spec (λ c κs. search rules) (λ c κs. search rules) product_requires returns)

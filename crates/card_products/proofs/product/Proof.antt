@@ -10,32 +10,32 @@ use Rattle.card.proofs.Lists.{Multiplied, multiplied_more, multiplied_all}
 use Rattle.card_products.proofs.product.Statement.{statement}
 use Rattle.card_products.proofs.product.Tie as tie
 
-abbrev invariant_loop : tie.invariant_loop
+abbrev invariant_loop : tie.invariant-loop-k
 invariant_loop count numbers part₀ k₀ part k = (k ≤ count) × (length numbers ≡ 8) × (part ≤ beyond) × Multiplied numbers count beyond k part
 
-abbrev decreases_loop : tie.decreases_loop
+abbrev decreases_loop : tie.decreases-loop-k
 decreases_loop count numbers part₀ k₀ part k = count - k
 
-loop_holds : tie.Need-loop-init invariant_loop decreases_loop
-loop_holds c = (omega arith, omega (arith, c.well-formed.0), omega arith, rw one-mul)
+loop_holds : tie.Need-loop-k-init invariant_loop decreases_loop
+loop_holds c = (omega arith, omega (arith, c.well_formed.0), omega arith, rw one-mul)
 
-loop_again : tie.Need-loop-preserved invariant_loop decreases_loop
+loop_again : tie.Need-loop-k-preserved invariant_loop decreases_loop
 loop_again c =
-    let a = c.before.before.before.args in
-    let l = c.before.before.loop in
-    let fits : a.count ≤ length a.t1 = omega arith in (
+    let a = c.args in
+    let l = c.loop-k in
+    let fits : a.count ≤ length a.numbers = omega arith in (
       omega arith,
       l.invariant.1,
       omega arith,
-      rw c.times.ensures (multiplied_more a.t1 a.count beyond l.k l.part c.before.loop-test.true fits l.invariant.3),
+      rw c.times-part.ensures (multiplied_more a.numbers a.count beyond l.k l.part c.loop-k-test.true fits l.invariant.3),
     )
 
 returns : tie.Need-returns invariant_loop decreases_loop
 returns c =
-    let a = c.before.before.args in
-    let l = c.before.loop in
+    let a = c.args in
+    let l = c.loop-k in
     let end : l.k ≡ a.count = omega arith in
-    multiplied_all a.t1 a.count beyond l.part l.invariant.2 (rw end at l.invariant.3)
+    multiplied_all a.numbers a.count beyond l.part l.invariant.2 (rw end at l.invariant.3)
 
 pub product_spec : {M : Type 1} → statement M
 product_spec =

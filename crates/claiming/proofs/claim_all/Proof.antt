@@ -28,10 +28,10 @@ abbrev card : tie.Start → Card
 card s = card_of s.args.numbers.now s.args.strides.now
 
 -- one copy of one element
-alone : (i : tie.Then1) → let s = i.before.before.before in OneElement s.args.numbers.now s.args.strides.now s.args.table.now
+alone : (i : tie.Then-elements-copies) → let s = i in OneElement s.args.numbers.now s.args.strides.now s.args.table.now
 alone i =
-    let s = i.before.before.before in
-    let both = (and-eq-true_iff (eqb s.args.elements 1) (eqb (length s.args.row.now) 1)).0 i.if1.true in
+    let s = i in
+    let both = (and-eq-true_iff (eqb s.args.elements 1) (eqb (length s.args.row.now) 1)).0 i.if-elements-copies.true in
     record {
       admits = admits s.requires.0;
       inside = s.requires.1.0;
@@ -40,40 +40,40 @@ alone i =
       cleared = s.requires.1.1;
     }
 
-returns : tie.Need-returns
+returns : tie.Need-returns-then-elements-copies
 returns c =
-    let k = c.before.before in
-    let i = k.before.before in
-    let s = i.before.before.before in
-    let exact = cleared_size (card s) s.requires.1.1 in
-    approved_promise (card s) s.args.table.now s.requires.0.admitted exact s.requires.1.0
-    (subst (λ (n : ℕ). OwnedTable (placed (card s)) n (cells (card s)) k.claim-alone.new.1.1.0 k.claim-alone.result) (sym (alone i).one_element) k.claim-alone.ensures)
-    s.requires.0.all_elements (k.claim-alone.auto.1.1.0 ∙ exact)
+    let k = c in
+    let i = k in
+    let s = i in
+    let exact = cleared_size (card s.before.before.before.before.before.before.before) s.requires.1.1 in
+    approved_promise (card s.before.before.before.before.before.before.before) s.args.table.now s.requires.0.admitted exact s.requires.1.0
+    (subst (λ (n : ℕ). OwnedTable (placed (card s.before.before.before.before.before.before.before)) n (cells (card s.before.before.before.before.before.before.before)) k.claim_alone-occupied.new.table k.claim_alone-occupied.result) (sym (alone i).one_element) k.claim_alone-occupied.ensures)
+    s.requires.0.all_elements (k.claim_alone-occupied.auto.table ∙ exact)
 
 -- the row is as long as there are copies
 few : (s : tie.Start) → length s.args.row.now ≤ 64
-few s = omega (arith, s.requires.0.one_each, (sized (card s) (admits s.requires.0).admitted).most-copies)
+few s = omega (arith, s.requires.0.one_each, (sized (card s) (admits s.requires.0).admitted).most_copies_lem)
 
 long : (s : tie.Start) → length {A = ℤ} (take (length s.args.row.now) (replicate 64 (pos 0))) ≡ length s.args.row.now
 long s = length-take-le (length s.args.row.now) (replicate 64 (pos 0)) (few s)
 
-array_borrow_prefix_levels : tie.Need-array-borrow-prefix-levels
+array_borrow_prefix_levels : tie.Need-slice_bounds-levels-end
 array_borrow_prefix_levels c = few c.before.before.before
 
-slice_aggregate_put_copies : tie.Need-slice-aggregate-put-copies
+slice_aggregate_put_copies : tie.Need-slice_bounds-put_copies-end
 slice_aggregate_put_copies c = sym (long c.before.before.before.before)
 
-array_borrow_prefix_ms : tie.Need-array-borrow-prefix-ms
+array_borrow_prefix_ms : tie.Need-slice_bounds-ms-end
 array_borrow_prefix_ms c = few c.before.before.before.before
 
-slice_aggregate_put_copies_2 : tie.Need-slice-aggregate-put-copies-2
+slice_aggregate_put_copies_2 : tie.Need-slice_bounds-put_copies-end-2
 slice_aggregate_put_copies_2 c = sym (long c.before.before.before.before.before)
 
-put_copies_requires : tie.Need-put-copies-requires
-put_copies_requires c κs = (admits c.before.before.before.before.before.requires.0, refl)
+put_copies_requires : tie.Need-put_copies-requires
+put_copies_requires c κs = (admits c.requires.0, refl)
 
 -- what the copies add, at the front of its array
-module _ (p : tie.After-put-copies) where
+module _ (p : tie.After-put_copies) where
   abbrev s : tie.Start
   s = p.before.before.before.before.before.before
 
@@ -105,26 +105,26 @@ reaches n l rest e = omega (arith, length-append l rest)
 as_long : (n : ℕ) (l rest : List ℤ) → length l ≡ n → n ≡ length (take n (l ++ rest))
 as_long n l rest e = sym (ap length (front n l rest e) ∙ e)
 
-array_share_prefix_levels : tie.Need-array-share-prefix-levels
-array_share_prefix_levels c = let p = c.before.before in reaches (n p) (levels p) _ (levels_long p)
+array_share_prefix_levels : tie.Need-slice_bounds-levels-end-2
+array_share_prefix_levels c = let p = c in reaches (n p) (levels p) _ (levels_long p)
 
-slice_aggregate_claim_twice : tie.Need-slice-aggregate-claim-twice
-slice_aggregate_claim_twice c = let p = c.before.before.before in as_long (n p) (levels p) _ (levels_long p)
+slice_aggregate_claim_twice : tie.Need-slice_bounds-claim_twice-end
+slice_aggregate_claim_twice c = let p = c in as_long (n p) (levels p) _ (levels_long p)
 
-array_share_prefix_ms : tie.Need-array-share-prefix-ms
-array_share_prefix_ms c = let p = c.before.before.before in reaches (n p) (ms p) _ (ms_long p)
+array_share_prefix_ms : tie.Need-slice_bounds-ms-end-2
+array_share_prefix_ms c = let p = c in reaches (n p) (ms p) _ (ms_long p)
 
-slice_aggregate_claim_twice_2 : tie.Need-slice-aggregate-claim-twice-2
-slice_aggregate_claim_twice_2 c = let p = c.before.before.before.before in as_long (n p) (ms p) _ (ms_long p)
+slice_aggregate_claim_twice_2 : tie.Need-slice_bounds-claim_twice-end-2
+slice_aggregate_claim_twice_2 c = let p = c in as_long (n p) (ms p) _ (ms_long p)
 
-claim_twice_requires : tie.Need-claim-twice-requires
+claim_twice_requires : tie.Need-claim_twice-requires
 claim_twice_requires c κs =
-    let p = c.before.before.before.before.before.before in
+    let p = c in
     let q = s p in
     ((q.pre.0, rw (front (n p) (levels p) _ (levels_long p), front (n p) (ms p) _ (ms_long p)) (filled p)), q.pre.1)
 
-returns_2 : tie.Need-returns-2
-returns_2 c = c.before.before.before.before.claim-twice.ensures
+returns_2 : tie.Need-returns
+returns_2 c = c.claim_twice.ensures
 
 pub claim_all_spec : {M : Type 1} → statement M
 claim_all_spec =

@@ -22,13 +22,13 @@ card s = card_of s.args.numbers.now s.args.strides.now
 exact : (s : tie.Start) → length s.args.table.now ≡ cells (card s)
 exact s = cleared_size (card s) s.requires.1.1
 
-claim_quickly_requires : tie.Need-claim-quickly-requires
+claim_quickly_requires : tie.Need-claim_quickly-occupied-requires
 claim_quickly_requires c κs =
-    let s = c.before.before.before in
+    let s = c in
     (record { admits = admits s.requires.0.0; all_elements = s.requires.0.0.all_elements; inside = s.requires.1.0; cleared = s.requires.1.1 }, s.requires.0.1.adds)
 
 -- after the quick pass
-module _ (q : tie.After-claim-quickly) where
+module _ (q : tie.After-claim_quickly-occupied) where
   abbrev start : tie.Start
   start = q.before.before.before.before
 
@@ -38,26 +38,26 @@ module _ (q : tie.After-claim-quickly) where
   kept : length after ≡ cells (card start)
   kept = q.claim-quickly.kept.1.1.1.1.1.0 ∙ exact start
 
-returns : tie.Need-returns
+returns : tie.Need-returns-then-occupied-ne0
 returns c =
-    let q = c.before.before.before in
+    let q = c in
     let s = start q in
     approved_promise (card s) s.args.table.now s.pre.0.0.admitted (exact s) s.pre.1.0
-    (subst (λ (n : ℕ). OwnedTable (placed (card s)) n (cells (card s)) (after q) q.claim-quickly.result) s.pre.0.0.all_elements
-    (q.claim-quickly.ensures.0 (omega (arith, c.if1.true)))) s.pre.0.0.all_elements (kept q)
+    (subst (λ (n : ℕ). OwnedTable (placed (card s)) n (cells (card s)) (after q) q.claim_quickly-occupied.result) s.pre.0.0.all_elements
+    (q.claim_quickly-occupied.ensures.0 (omega (arith, c.if-occupied-ne0.true)))) s.pre.0.0.all_elements (kept q)
 
-claim_runs_requires : tie.Need-claim-runs-requires
+claim_runs_requires : tie.Need-claim_runs-requires
 claim_runs_requires c κs =
-    let q = c.before.before.before.before.before in
+    let q = c in
     let s = start q in
-    (s.pre.0, (s.pre.1.0, q.claim-quickly.ensures.1 c.before.before.if1.false))
+    (s.pre.0, (s.pre.1.0, q.claim_quickly-occupied.ensures.1 c.if-occupied-ne0.false))
 
-returns_2 : tie.Need-returns-2
+returns_2 : tie.Need-returns
 returns_2 c =
-    let r = c.before.before.before.before in
-    let q = r.before.before.before.before.before.before in
+    let r = c in
+    let q = r in
     let s = start q in
-    cells_anew (card s) s.args.table.now (after q) s.pre.0.0.admitted (exact s) (kept q) r.claim-runs.ensures
+    cells_anew (card s) s.args.table.now (after q) s.pre.0.0.admitted (exact s) (kept q) r.claim_runs.ensures
 
 pub claim_twice_spec : {M : Type 1} → statement M
 claim_twice_spec =

@@ -15,7 +15,7 @@ use Rattle.claiming.proofs.judge_passes.Tie as tie
 abbrev start : tie.After-clear → tie.Start
 start k = k.before.before.before.before
 
-abbrev clearing : tie.After-find-outside → tie.After-clear
+abbrev clearing : tie.After-find_outside-search → tie.After-clear
 clearing p = p.before.before.before
 
 abbrev card : tie.Start → Card
@@ -24,29 +24,29 @@ card s =
     card_of a.numbers.now a.strides.now
 
 -- the cells are all nobody's
-is_cleared : (k : tie.After-clear) → k.clear.new.0 ≡ replicate (cells (card (start k))) 0
+is_cleared : (k : tie.After-clear) → k.clear.new.table ≡ replicate (cells (card (start k))) 0
 is_cleared k = k.clear.ensures ∙ ap (λ (n : ℕ). replicate n 0) (start k).requires.1
 
-returns : tie.Need-returns
+returns : tie.Need-returns-in-Outside
 returns c =
-    let p = c.before.before.before in
-    let k = clearing p in
+    let p = c in
+    let k = clearing p.before in
     let s = start k in
-    let first = rw c.before.search.given.1 at p.find-outside.ensures in
-    outside_promise (card s) s.args.table.now s.pre.0.admitted s.pre.1 _ _ first (is_cleared k)
+    let first = rw c.in-Outside.is at p.find_outside-search.ensures in
+    outside_promise (card s) s.args.table.now s.requires.0.admitted s.requires.1 _ _ first (is_cleared k)
 
-claim_all_requires : tie.Need-claim-all-requires
+claim_all_requires : tie.Need-claim_all-requires
 claim_all_requires c κs =
-    let p = c.before.before.before.before in
-    let k = clearing p in
-    ((start k).pre.0, (rw c.before.before.enum_told.given.1 at p.find-outside.ensures, is_cleared k))
+    let p = c in
+    let k = clearing p.before.before.before in
+    ((start k).requires.0, (rw c.in_default.is at p.find_outside-search.ensures, is_cleared k))
 
-returns_2 : tie.Need-returns-2
+returns_2 : tie.Need-returns
 returns_2 c =
-    let m = c.before.before.before.before in
-    let k = clearing m.before.before.before.before.before in
+    let m = c in
+    let k = clearing m.before.before.before.before.before.before.before.before in
     let s = start k in
-    cells_anew (card s) s.args.table.now k.clear.last.0 s.pre.0.admitted s.pre.1 (k.clear.kept.0 ∙ s.pre.1) m.claim_all.ensures
+    cells_anew (card s) s.args.table.now k.clear.last.0 s.requires.0.admitted s.requires.1 (k.clear.kept.0 ∙ s.requires.1) m.claim_all.ensures
 
 pub judge_passes_spec : {M : Type 1} → statement M
 judge_passes_spec =

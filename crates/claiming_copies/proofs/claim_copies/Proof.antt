@@ -27,7 +27,7 @@ use Rattle.claiming_copies.proofs.Lines.{place, line_there, copies_none, copies_
 use Rattle.claiming_copies.proofs.claim_copies.Statement.{statement}
 use Rattle.claiming_copies.proofs.claim_copies.Tie as tie
 
-abbrev invariant_loop : tie.invariant_loop
+abbrev invariant_loop : tie.invariant-loop-copy
 invariant_loop numbers strides by step levels ms table₀ first many level m newly₀ copy₀ table newly copy =
     (copy ≤ length levels)
     × (length table ≡ length table₀)
@@ -35,18 +35,18 @@ invariant_loop numbers strides by step levels ms table₀ first many level m new
     × (newly ≡ copy * many)
     × (occupied table ≡ occupied table₀ + newly)
 
-abbrev decreases_loop : tie.decreases_loop
+abbrev decreases_loop : tie.decreases-loop-copy
 decreases_loop numbers strides by step levels ms table₀ first many level m newly₀ copy₀ table newly copy = length levels - copy
 
-abbrev start : tie.After-struct-told2 invariant_loop decreases_loop → tie.Start invariant_loop decreases_loop
+abbrev start : tie.After-struct_told-2-1 invariant_loop decreases_loop → tie.Start invariant_loop decreases_loop
 start c = c.before.before.before.before
 
 abbrev card : tie.Start invariant_loop decreases_loop → Card
 card s = card_of s.args.numbers.now s.args.strides.now
 
 -- a turn is at a copy
-module _ (t : tie.In-loop invariant_loop decreases_loop) where
-  abbrev k : tie.After-struct-told2 invariant_loop decreases_loop
+module _ (t : tie.In-loop-copy invariant_loop decreases_loop) where
+  abbrev k : tie.After-struct_told-2-1 invariant_loop decreases_loop
   k = t.before.before
 
   abbrev s : tie.Start invariant_loop decreases_loop
@@ -59,7 +59,7 @@ module _ (t : tie.In-loop invariant_loop decreases_loop) where
   few = omega (arith, t.loop-test.taken, s.pre.1.levels_size)
 
   size : length t.before.loop.table ≡ cells (card s)
-  size = t.before.loop.inv.1 ∙ s.pre.0.0.owned.size
+  size = t.before.loop.invariant.1 ∙ s.pre.0.0.owned.size
 
   abbrev here : LevelAndM
   here =
@@ -74,8 +74,8 @@ module _ (t : tie.In-loop invariant_loop decreases_loop) where
       copy_near s.args.numbers.now s.args.strides.now s.pre.0.0.admits s.pre.1 copy few
 
 -- level and m of a copy, as the machine adds them up
-module _ (c : tie.After-t20 invariant_loop decreases_loop) where
-  abbrev t : tie.In-loop invariant_loop decreases_loop
+module _ (c : tie.After-place-1 invariant_loop decreases_loop) where
+  abbrev t : tie.In-loop-copy invariant_loop decreases_loop
   t = c.before
 
   level_fits : SFits w64 (to_z w64 (of_z w64 (s t).args.start.level) +ℤ to_z w64 (of_z w64 (get_or (s t).args.levels.now (copy t) (pos 0))))
@@ -88,8 +88,8 @@ module _ (c : tie.After-t20 invariant_loop decreases_loop) where
       sum_back (s t).args.start.level (get_or (s t).args.levels.now (copy t) (pos 0)) (record { sfits = (k t).struct-told2.given.0.1 }) (record { sfits = c.t20.given })
       (near t).0 (copies_near t).0
 
-module _ (c : tie.After-t24 invariant_loop decreases_loop) where
-  abbrev u : tie.In-loop invariant_loop decreases_loop
+module _ (c : tie.After-place-in-loop-copy-1 invariant_loop decreases_loop) where
+  abbrev u : tie.In-loop-copy invariant_loop decreases_loop
   u = c.before.before
 
   m_fits : SFits w64 (to_z w64 (of_z w64 (s u).args.start.m) +ℤ to_z w64 (of_z w64 (get_or (s u).args.ms.now (copy u) (pos 0))))
@@ -102,19 +102,19 @@ module _ (c : tie.After-t24 invariant_loop decreases_loop) where
       sum_back (s u).args.start.m (get_or (s u).args.ms.now (copy u) (pos 0)) (record { sfits = (k u).struct-told2.given.1.0.1 }) (record { sfits = c.t24.given })
       (near u).1 (copies_near u).1
 
-loop_holds : tie.Need-loop-init invariant_loop decreases_loop
+loop_holds : tie.Need-loop-copy-init invariant_loop decreases_loop
 loop_holds c =
     let s = start c in (
       omega arith,
       refl,
-      copies_none s.args.numbers.now s.args.strides.now s.args.start s.args.step s.args.run s.args.table.now s.pre.0.0 s.args.levels.now s.args.ms.now s.pre.1,
+      copies_none s.args.numbers.now s.args.strides.now s.args.start s.args.step s.args.run s.args.table.now s.requires.0.0 s.args.levels.now s.args.ms.now s.requires.1,
       omega arith,
       omega arith,
     )
 
-claim_line_requires : tie.Need-claim-line-requires invariant_loop decreases_loop
+claim_line_requires : tie.Need-claim_line-requires invariant_loop decreases_loop
 claim_line_requires c κs =
-    let d = c.before in
+    let d = c in
     let t = u d in
     let q = s t in
     rw (level_back d.before, m_back d)
@@ -123,18 +123,18 @@ claim_line_requires c κs =
     q.pre.1 (copy t) (few t) q.pre.0.1 t.before.loop.table (size t)))
 
 -- after a line was claimed
-module _ (r : tie.After-claim-line invariant_loop decreases_loop) where
-  abbrev e : tie.After-t24 invariant_loop decreases_loop
+module _ (r : tie.After-claim_line invariant_loop decreases_loop) where
+  abbrev e : tie.After-place-in-loop-copy-1 invariant_loop decreases_loop
   e = r.before.before
 
-  abbrev turn : tie.In-loop invariant_loop decreases_loop
+  abbrev turn : tie.In-loop-copy invariant_loop decreases_loop
   turn = u e
 
   abbrev after : List ℕ
   after = r.claim-line.last.1.1.1.1.1.0
 
   kept : length after ≡ length (s turn).args.table.now
-  kept = r.claim-line.kept.1.1.1.1.1.0 ∙ turn.before.loop.inv.1
+  kept = r.claim-line.kept.1.1.1.1.1.0 ∙ turn.before.loop.invariant.1
 
   lined : r.claim-line.result ≡ true
       → Lined (line_cell (swizzle_of (s turn).args.numbers.now) (here turn) (s turn).args.step) (λ j. (s turn).args.run.first.0 + j) (s turn).args.run.length turn.before.loop.table after
@@ -143,19 +143,19 @@ module _ (r : tie.After-claim-line invariant_loop decreases_loop) where
       subst (λ (w : Swizzle). Lined (line_cell w (here turn) q.args.step) (λ j. q.args.run.first.0 + j) q.args.run.length turn.before.loop.table after) q.pre.0.2
       (rw (level_back e.before, m_back e) at r.claim-line.ensures yes-it-is)
 
-abbrev claimed : tie.Else1 invariant_loop decreases_loop → tie.After-claim-line invariant_loop decreases_loop
+abbrev claimed : tie.Else-not-claim_line invariant_loop decreases_loop → tie.After-claim_line invariant_loop decreases_loop
 claimed c = c.before.before.before
 
-is_claimed : (c : tie.Else1 invariant_loop decreases_loop) → (claimed c).claim-line.result ≡ true
-is_claimed c = not-false _ c.if1.false
+is_claimed : (c : tie.Else-not-claim_line invariant_loop decreases_loop) → (claimed c).claim_line.result ≡ true
+is_claimed c = c.if-not-claim_line.false
 
-more : (c : tie.Else1 invariant_loop decreases_loop) → occupied (after (claimed c)) ≡ occupied (s (turn (claimed c))).args.table.now + ((turn (claimed c)).before.loop.newly + (s (turn (claimed c))).args.run.length)
-more c = omega (arith, (lined (claimed c) (is_claimed c)).counted, (turn (claimed c)).before.loop.inv.4)
+more : (c : tie.Else-not-claim_line invariant_loop decreases_loop) → occupied (after (claimed c)) ≡ occupied (s (turn (claimed c))).args.table.now + ((turn (claimed c)).before.loop.newly + (s (turn (claimed c))).args.run.length)
+more c = omega (arith, (lined (claimed c) (is_claimed c)).counted, (turn (claimed c)).before.loop.invariant.4)
 
-counted : (c : tie.Else1 invariant_loop decreases_loop) → (turn (claimed c)).before.loop.newly + (s (turn (claimed c))).args.run.length ≤ cells (card (s (turn (claimed c))))
+counted : (c : tie.Else-not-claim_line invariant_loop decreases_loop) → (turn (claimed c)).before.loop.newly + (s (turn (claimed c))).args.run.length ≤ cells (card (s (turn (claimed c))))
 counted c = omega (arith, more c, occupied_most (after (claimed c)), kept (claimed c), (s (turn (claimed c))).pre.0.0.owned.size)
 
-loop_again : tie.Need-loop-preserved invariant_loop decreases_loop
+loop_again : tie.Need-loop-copy-preserved invariant_loop decreases_loop
 loop_again c =
     let r = claimed c in
     let t = turn r in
@@ -164,25 +164,25 @@ loop_again c =
       omega (arith, t.loop-test.taken),
       kept r,
       copies_more q.args.numbers.now q.args.strides.now q.args.start q.args.step q.args.run q.args.table.now q.pre.0.0 q.args.levels.now q.args.ms.now
-          q.pre.1 (copy t) (few t) l.table (after r) l.inv.2 (lined r (is_claimed c)),
-      omega (arith, l.inv.3, add-mul l.copy 1 q.args.run.length),
+          q.pre.1 (copy t) (few t) l.table (after r) l.invariant.2 (lined r (is_claimed c)),
+      omega (arith, l.invariant.3, add-mul l.copy 1 q.args.run.length),
       more c,
     )
 
-returns_2 : tie.Need-returns-2 invariant_loop decreases_loop
+returns_2 : tie.Need-returns invariant_loop decreases_loop
 returns_2 c some =
-    let l = c.before.loop in
+    let l = c.loop-copy in
     let q = start c.before.before in
-    let end : l.copy ≡ copies (card q) = omega (arith, l.invariant.0, q.pre.1.levels_size) in
-    copies_all q.args.numbers.now q.args.strides.now q.args.start q.args.step q.args.run q.args.table.now q.pre.0.0 q.args.levels.now q.args.ms.now
-    q.pre.1 l.table l.newly (l.invariant.1 ∙ q.pre.0.0.owned.size) (rw end at l.invariant.2) l.invariant.4
+    let end : l.copy ≡ copies (card q) = omega (arith, l.invariant.0, q.requires.1.levels_size) in
+    copies_all q.args.numbers.now q.args.strides.now q.args.start q.args.step q.args.run q.args.table.now q.requires.0.0 q.args.levels.now q.args.ms.now
+    q.requires.1 l.table l.newly (l.invariant.1 ∙ q.requires.0.0.owned.size) (rw end at l.invariant.2) l.invariant.4
 
 pub claim_copies_spec : {M : Type 1} → statement M
 claim_copies_spec =
     tie.close
-    (tie.spec invariant_loop decreases_loop loop_holds (λ c. omega arith) (λ c. c.loop-test.true) level_fits
+    (tie.spec invariant_loop decreases_loop loop_holds (λ c. omega arith) (λ c. c.loop-copy-test.true) level_fits
     (λ c. omega arith) (λ c. omega (arith, few c.before, (s c.before).pre.1.ms_size)) m_fits claim_line_requires
     (λ c. kept c.before.before.before) (λ c some. absurd (omega arith))
-    (λ c. omega (arith, counted c, (sized (card (s (turn (claimed c)))) (s (turn (claimed c))).pre.0.0.admits.admitted).most-cells))
+    (λ c. omega (arith, counted c, (sized (card (s (turn (claimed c)))) (s (turn (claimed c))).pre.0.0.admits.admitted).most_cells_lem))
     (λ c. omega (arith, (turn (claimed c)).loop-test.taken)) (λ c. omega (arith, (turn (claimed c)).loop-test.taken))
-    loop_again (λ c. c.before.loop.invariant.1) returns_2)
+    loop_again (λ c. c.loop-copy.invariant.1) returns_2)

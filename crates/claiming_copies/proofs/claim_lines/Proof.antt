@@ -10,32 +10,32 @@ use Rattle.claiming_copies.proofs.claim_lines.Tie as tie
 listed : (s : tie.Start) → ListOf s.args.numbers.now 0
 listed s = readable s.args.numbers.now s.args.strides.now s.requires.0.admits
 
-put_ways_requires : tie.Need-put-ways-requires
+put_ways_requires : tie.Need-put_ways-requires
 put_ways_requires c κs =
-    let f = c.before.before in
-    let s = f.before.before.before.before.before in
-    (s.requires.0.admits, f.run_from.ensures s.args.strides.now, refl, refl)
+    let f = c in
+    let s = f in
+    (s.requires.0.admits, f.run_from-from.ensures s.args.strides.now, refl, refl)
 
-claim_turns_requires : tie.Need-claim-turns-requires
+claim_turns_requires : tie.Need-claim_turns-requires
 claim_turns_requires c κs =
-    let p = c.before.before.before in
-    let f = p.before.before.before in
-    let d = f.before in
-    let l = d.before in
-    let w = l.before in
-    let s = w.before.before in (
+    let p = c in
+    let f = p in
+    let d = f in
+    let l = d in
+    let w = l in
+    let s = w in (
       s.requires,
       record {
-        swizzles = w.swizzle-of.ensures;
-        long_is = l.run_length.ensures s.args.strides.now;
-        steps = d.added.ensures;
-        slower = f.run_from.ensures s.args.strides.now;
-        ways = p.put-ways.ensures;
+        swizzles = w.swizzle_of-by.ensures;
+        long_is = l.run_length-length.ensures s.args.strides.now;
+        steps = d.added-step.ensures;
+        slower = f.run_from-from.ensures s.args.strides.now;
+        ways = p.put_ways.ensures;
       },
     )
 
 pub claim_lines_spec : {M : Type 1} → statement M
 claim_lines_spec =
     tie.close
-    (tie.spec (λ c κs. c.before.requires.0.admits.whole.all_numbers) (λ c κs. listed c.before.before) (λ c κs. (c.before.before.before.requires.0.admits, omega arith))
+    (tie.spec (λ c κs. c.requires.0.admits.whole.all_numbers) (λ c κs. listed c.before.before) (λ c κs. (c.requires.0.admits, omega arith))
     (λ c κs. listed c.before.before.before.before) put_ways_requires claim_turns_requires (λ c. search rules) (λ c. search rules))

@@ -41,24 +41,24 @@ module _ (s : tie.Start) where
       single_free card 0 s.pre.one_copy s.pre.cleared
       (cell_short s.args.numbers.now s.args.strides.now s.pre.admits s.pre.inside 0 0 element (omega (arith, s.pre.one_copy)))
 
-claim_single_requires : tie.Need-claim-single-requires
+claim_single_requires : tie.Need-claim_single-requires
 claim_single_requires c κs =
-    let b = c.before in
-    let w = b.before in
-    let s = w.before.before in
-    (record { admits = s.requires.admits; claimable = claimable s; begins = b.begin.ensures }, s.requires.one_copy, w.swizzle-of.ensures)
+    let b = c in
+    let w = b in
+    let s = w in
+    (record { admits = s.requires.admits; claimable = claimable s; begins = b.begin-place.ensures }, s.requires.one_copy, w.swizzle_of-by.ensures)
 
 returns : tie.Need-returns
 returns c =
-    let k = c.before.before in
-    let s = k.before.before.before.before.before in
-    let claim = k.claim-single.ensures in
-    let newly = k.claim-single.result in
+    let k = c in
+    let s = k in
+    let claim = k.claim_single.ensures in
+    let newly = k.claim_single.result in
     let some : 0 < newly = elim (ℕ_discrete newly 0) [ yes e ↦ absurd (omega (arith, (claim.met e).0, free s)) | no e ↦ omega arith ] in
     owned_as (card s) refl (omega arith)
     (claims_more (card s) 0 newly 0 (none_so_far s) (leads s) claim (row_ready (card s) 0 s.args.table.now s.requires.admits.admitted (claimable s) refl).within
-    (k.claim-single.auto.1.1.1.1.1.0 ∙ cleared_size (card s) s.requires.cleared) some)
+    (k.claim_single.auto.table ∙ cleared_size (card s) s.requires.cleared) some)
 
 pub claim_alone_spec : {M : Type 1} → statement M
 claim_alone_spec =
-    tie.close (tie.spec (λ c κs. c.before.requires.admits.whole.all_numbers) (λ c κs. c.before.before.requires.admits) claim_single_requires (λ c. search rules) returns)
+    tie.close (tie.spec (λ c κs. c.requires.admits.whole.all_numbers) (λ c κs. c.requires.admits) claim_single_requires (λ c. search rules) returns)

@@ -30,7 +30,7 @@ use Rattle.claiming_elements.proofs.Laws.{claims_count, claims_more, claims_met}
 use Rattle.claiming_elements.proofs.claim_run.Statement.{statement}
 use Rattle.claiming_elements.proofs.claim_run.Tie as tie
 
-abbrev invariant_loop : tie.invariant_loop
+abbrev invariant_loop : tie.invariant-loop-done
 invariant_loop numbers strides levels ms row₀ table₀ first many by level-step m-step level₀ m₀ cells₀ done₀ row table level m new done =
     let card = card_of numbers strides in
     (done ≤ many)
@@ -39,18 +39,18 @@ invariant_loop numbers strides levels ms row₀ table₀ first many by level-ste
     × (to_z w64 level ≡ to_z w64 level₀ +ℤ pos done *ℤ to_z w64 level-step)
     × (to_z w64 m ≡ to_z w64 m₀ +ℤ pos done *ℤ to_z w64 m-step)
 
-abbrev decreases_loop : tie.decreases_loop
+abbrev decreases_loop : tie.decreases-loop-done
 decreases_loop numbers strides levels ms row₀ table₀ first many by level-step m-step level₀ m₀ cells₀ done₀ row table level m new done = many - done
 
 -- before the loop
-abbrev start : tie.After-struct-told4 invariant_loop decreases_loop → tie.Start invariant_loop decreases_loop
+abbrev start : tie.After-struct_told-4-1 invariant_loop decreases_loop → tie.Start invariant_loop decreases_loop
 start c = c.before.before.before.before.before.before.before
 
 abbrev card : tie.Start invariant_loop decreases_loop → Card
 card s = card_of s.args.numbers.now s.args.strides.now
 
 -- what the machine reads of the two places
-module _ (c : tie.After-struct-told4 invariant_loop decreases_loop) where
+module _ (c : tie.After-struct_told-4-1 invariant_loop decreases_loop) where
   abbrev a : LevelAndM
   a = (start c).args.start
 
@@ -70,8 +70,8 @@ module _ (c : tie.After-struct-told4 invariant_loop decreases_loop) where
   m_step_back = to_z-of_z {w = w64} {z = b.m} (record { sfits = c.before.before.struct-told2.given.1.0.1 })
 
 -- a turn
-module _ (t : tie.In-loop invariant_loop decreases_loop) where
-  abbrev k : tie.After-struct-told4 invariant_loop decreases_loop
+module _ (t : tie.In-loop-done invariant_loop decreases_loop) where
+  abbrev k : tie.After-struct_told-4-1 invariant_loop decreases_loop
   k = t.before.before
 
   abbrev s : tie.Start invariant_loop decreases_loop
@@ -91,8 +91,8 @@ module _ (t : tie.In-loop invariant_loop decreases_loop) where
       let l = t.before.loop in
       let given = s.pre.0.begins l.done below in
       record {
-        level_is = l.inv.3 ∙ rw (level_back k, level_step_back k) given.level_is;
-        m_is = l.inv.4 ∙ rw (m_back k, m_step_back k) given.m_is;
+        level_is = l.invariant.3 ∙ rw (level_back k, level_step_back k) given.level_is;
+        m_is = l.invariant.4 ∙ rw (m_back k, m_step_back k) given.m_is;
       }
 
   claimable : Claimable (card s) flat t.before.loop.table
@@ -102,29 +102,29 @@ module _ (t : tie.In-loop invariant_loop decreases_loop) where
         inside = p.inside;
         element = p.element t.before.loop.done below;
         leads = p.leads t.before.loop.done below;
-        size = t.before.loop.inv.2.size;
+        size = t.before.loop.invariant.2.size;
       }
 
-loop_holds : tie.Need-loop-init invariant_loop decreases_loop
+loop_holds : tie.Need-loop-done-init invariant_loop decreases_loop
 loop_holds c =
     let s = start c in
     let bits : ℤ → ℤ = λ z. to_z w64 (of_z w64 z) in (
       omega arith,
       refl,
-      owned_as (card s) (omega arith) (omega arith) s.pre.0.owned,
+      owned_as (card s) (omega arith) (omega arith) s.requires.0.owned,
       no_step (bits (a c).level) (bits (b c).level),
       no_step (bits (a c).m) (bits (b c).m),
     )
 
-claim_element_requires : tie.Need-claim-element-requires invariant_loop decreases_loop
+claim_element_requires : tie.Need-claim_element-newly-requires invariant_loop decreases_loop
 claim_element_requires c κs =
-    let t = c.before.before in
+    let t = c in
     let p = (s t).requires in
-    ((record { admits = p.0.admits; claimable = claimable t; begins = begins t }, (k t).before.before.before.before.swizzle-of.ensures), record { adds = p.1.adds; one_each = t.before.loop.invariant.1 ∙ p.1.one_each })
+    ((record { admits = p.0.admits; claimable = claimable t; begins = begins t }, (k t).before.before.before.before.swizzle-of.ensures), record { adds = p.1.adds; one_each = t.loop-done.invariant.1 ∙ p.1.one_each })
 
 -- after an element was claimed or not
-module _ (m : tie.After-claim-element invariant_loop decreases_loop) where
-  abbrev turn : tie.In-loop invariant_loop decreases_loop
+module _ (m : tie.After-claim_element-newly invariant_loop decreases_loop) where
+  abbrev turn : tie.In-loop-done invariant_loop decreases_loop
   turn = m.before.before.before
 
   abbrev after : List ℕ
@@ -134,18 +134,18 @@ module _ (m : tie.After-claim-element invariant_loop decreases_loop) where
   count = occupied (s turn).args.table.now + turn.before.loop.cells
 
   size : length after ≡ cells (card (s turn))
-  size = m.claim-element.kept.1.1.1.1.1.1.1.1.0 ∙ turn.before.loop.inv.2.size
+  size = m.claim-element.kept.1.1.1.1.1.1.1.1.0 ∙ turn.before.loop.invariant.2.size
 
   more : 0 < m.claim-element.result → OwnedTable (placed (card (s turn))) (flat turn + 1) (cells (card (s turn))) after (count + m.claim-element.result)
   more h =
-      claims_more (card (s turn)) (flat turn) m.claim-element.result count turn.before.loop.inv.2 (claimable turn).leads m.claim-element.ensures
+      claims_more (card (s turn)) (flat turn) m.claim-element.result count turn.before.loop.invariant.2 (claimable turn).leads m.claim-element.ensures
       (row_ready (card (s turn)) (flat turn) turn.before.loop.table (s turn).pre.0.admits.admitted (claimable turn) refl).within size h
 
   met : m.claim-element.result ≡ 0 → (0 < entry_met after (copy_cells (card (s turn)) (flat turn))) × (after ≡ turn.before.loop.table)
-  met = claims_met (card (s turn)) (flat turn) m.claim-element.result count turn.before.loop.inv.2 (claimable turn).leads m.claim-element.ensures
+  met = claims_met (card (s turn)) (flat turn) m.claim-element.result count turn.before.loop.invariant.2 (claimable turn).leads m.claim-element.ensures
 
   counted : count + m.claim-element.result ≤ cells (card (s turn))
-  counted = claims_count (card (s turn)) (flat turn) m.claim-element.result count turn.before.loop.inv.2 (claimable turn).leads m.claim-element.ensures size
+  counted = claims_count (card (s turn)) (flat turn) m.claim-element.result count turn.before.loop.invariant.2 (claimable turn).leads m.claim-element.ensures size
 
   level_fits : SFits w64 (to_z w64 turn.before.loop.level +ℤ to_z w64 (of_z w64 (s turn).args.step.level))
   level_fits =
@@ -159,32 +159,32 @@ module _ (m : tie.After-claim-element invariant_loop decreases_loop) where
       (omega (arith, (base_near (s turn).args.numbers.now (s turn).args.strides.now (s turn).pre.0.admits (flat turn) (begins turn)).1))
       (rw (m_step_back (k turn)) (s turn).pre.0.near.1)
 
-abbrev claimed : tie.Else1 invariant_loop decreases_loop → tie.After-claim-element invariant_loop decreases_loop
+abbrev claimed : tie.Else-newly-eq0 invariant_loop decreases_loop → tie.After-claim_element-newly invariant_loop decreases_loop
 claimed c = c.before.before.before.before.before
 
-returns : tie.Need-returns invariant_loop decreases_loop
+returns : tie.Need-returns-then-newly-eq0 invariant_loop decreases_loop
 returns c =
-    let d = c.before.before.before.before.before in
-    let none = met d c.if1.true in
+    let d = c in
+    let none = met d c.if-newly-eq0.true in
     record { most = omega (arith, below (turn d)); owned = rw none.1 (turn d).before.loop.invariant.2; met = λ h. none.0 }
 
-loop_again : tie.Need-loop-preserved invariant_loop decreases_loop
+loop_again : tie.Need-loop-done-preserved invariant_loop decreases_loop
 loop_again c =
     let d = claimed c in
     let l = (turn d).before.loop in
     let q = k (turn d) in
     let bits : ℤ → ℤ = λ z. to_z w64 (of_z w64 z) in
-    let some : 0 < d.claim-element.result = omega (arith, c.if1.false) in (
+    let some : 0 < d.claim_element-newly.result = omega (arith, c.if-newly-eq0.false) in (
       omega (arith, below (turn d)),
-      d.claim-element.kept.1.1.1.1.1.1.1.0 ∙ l.inv.1,
+      d.claim_element-newly.kept.1.1.1.1.1.1.1.0 ∙ l.invariant.1,
       owned_as (card (s (turn d))) (omega arith) (omega arith) (more d some),
-      to_z-of_z (level_fits d) ∙ stepped (bits (a q).level) (bits (b q).level) (to_z w64 l.level) l.done l.inv.3,
-      to_z-of_z (m_fits d) ∙ stepped (bits (a q).m) (bits (b q).m) (to_z w64 l.m) l.done l.inv.4,
+      to_z-of_z (level_fits d) ∙ stepped (bits (a q).level) (bits (b q).level) (to_z w64 l.level) l.done l.invariant.3,
+      to_z-of_z (m_fits d) ∙ stepped (bits (a q).m) (bits (b q).m) (to_z w64 l.m) l.done l.invariant.4,
     )
 
-returns_2 : tie.Need-returns-2 invariant_loop decreases_loop
+returns_2 : tie.Need-returns invariant_loop decreases_loop
 returns_2 c =
-    let l = c.before.loop in
+    let l = c.loop-done in
     let s = start c.before.before in
     let end : l.done ≡ s.args.run.length = omega (arith, l.invariant.0) in
     record { most = omega arith; owned = rw end at l.invariant.2; met = λ h. absurd (omega arith) }
@@ -192,11 +192,11 @@ returns_2 c =
 pub claim_run_spec : {M : Type 1} → statement M
 claim_run_spec =
     tie.close
-    (tie.spec invariant_loop decreases_loop (λ c κs. c.before.before.requires.0.admits.whole.all_numbers) loop_holds
-    (λ c. omega (arith, (claimable c).element, (sized (card (s c)) (s c).requires.0.admits.admitted).most-elements)) claim_element_requires
-    (λ c. let d = c.before.before.before.before.before in d.claim-element.auto.1.1.1.1.1.1.1.0 ∙ (turn d).before.loop.invariant.1)
-    (λ c. let d = c.before.before.before.before.before in size d ∙ sym (s (turn d)).pre.0.owned.size)
-    returns (λ c. omega (arith, counted (claimed c), (sized (card (s (turn (claimed c)))) (s (turn (claimed c))).pre.0.admits.admitted).most-cells))
+    (tie.spec invariant_loop decreases_loop (λ c κs. c.requires.0.admits.whole.all_numbers) loop_holds
+    (λ c. omega (arith, (claimable c).element, (sized (card (s c)) (s c).requires.0.admits.admitted).most_elements_lem)) claim_element_requires
+    (λ c. let d = c in d.claim_element-newly.auto.row ∙ (turn d).before.loop.invariant.1)
+    (λ c. let d = c in size d ∙ sym (s (turn d)).pre.0.owned.size)
+    returns (λ c. omega (arith, counted (claimed c), (sized (card (s (turn (claimed c)))) (s (turn (claimed c))).pre.0.admits.admitted).most_cells_lem))
     (λ c. level_fits (claimed c)) (λ c. m_fits (claimed c))
-    (λ c. omega (arith, (claimable (turn (claimed c))).element, (sized (card (s (turn (claimed c)))) (s (turn (claimed c))).pre.0.admits.admitted).most-elements)) (λ c. omega (arith, below (turn (claimed c))))
-    loop_again (λ c. c.before.loop.invariant.1) (λ c. c.before.loop.invariant.2.size ∙ sym (start c.before.before).pre.0.owned.size) returns_2)
+    (λ c. omega (arith, (claimable (turn (claimed c))).element, (sized (card (s (turn (claimed c)))) (s (turn (claimed c))).pre.0.admits.admitted).most_elements_lem)) (λ c. omega (arith, below (turn (claimed c))))
+    loop_again (λ c. c.loop-done.invariant.1) (λ c. c.loop-done.invariant.2.size ∙ sym (start c.before.before).requires.0.owned.size) returns_2)

@@ -29,75 +29,75 @@ one : (s : tie.Start) → 0 < copies (card s)
 one s = omega (arith, s.requires.1)
 
 -- what the machine reads of the place
-level_back : (c : tie.After-struct-told) → let p = c.before.before.args.place in to_z w64 (of_z w64 p.level) ≡ p.level
-level_back c = to_z-of_z {w = w64} {z = c.before.before.args.place.level} (record { sfits = c.struct_told.given.0.1 })
+level_back : (c : tie.After-struct_told-1) → let p = c.args.place in to_z w64 (of_z w64 p.level) ≡ p.level
+level_back c = to_z-of_z {w = w64} {z = c.args.place.level} (record { sfits = c.struct_told-1.given.0.1 })
 
-m_back : (c : tie.After-struct-told) → let p = c.before.before.args.place in to_z w64 (of_z w64 p.m) ≡ p.m
-m_back c = to_z-of_z {w = w64} {z = c.before.before.args.place.m} (record { sfits = c.struct_told.given.1.0.1 })
+m_back : (c : tie.After-struct_told-1) → let p = c.args.place in to_z w64 (of_z w64 p.m) ≡ p.m
+m_back c = to_z-of_z {w = w64} {z = c.args.place.m} (record { sfits = c.struct_told-1.given.1.0.1 })
 
-cell_at_requires : tie.Need-cell-at-requires
+cell_at_requires : tie.Need-cell_at-cell-requires
 cell_at_requires c κs =
-    let d = c.before in
-    let s = d.before.before in
+    let d = c in
+    let s = d in
     let a = s.args in
     let b = s.requires.0 in
-    rw (level_back d, m_back d)
+    rw (level_back d.before, m_back d.before)
     (subst (λ (w : Swizzle). CellThere w a.place.level a.place.m) (sym s.requires.2)
-    (single_there a.numbers.now a.strides.now b.admits b.claimable.inside a.flat.0 0 b.claimable.element (one s) refl b.begins.level_is b.begins.m_is))
+    (single_there a.numbers.now a.strides.now b.admits b.claimable.inside a.flat.0 0 b.claimable.element (one s.before.before.before) refl b.begins.level_is b.begins.m_is))
 
 -- the cell that was found
-cell_found : (c : tie.After-cell-at) → let s = c.before.before.before.before in c.Cell-at.result.0 ≡ cell_of (spot (card s) s.args.flat.0 0)
+cell_found : (c : tie.After-cell_at-cell) → let s = c in c.Cell-at.result.0 ≡ cell_of (spot (card s.before.before.before.before) s.args.flat.0 0)
 cell_found c =
-    let d = c.before.before in
-    let s = d.before.before in
+    let d = c in
+    let s = d in
     let a = s.args in
     let b = s.requires.0 in
-    single_is a.numbers.now a.strides.now b.admits b.claimable.inside a.flat.0 0 b.claimable.element (one s) refl c.Cell-at.result.0
+    single_is a.numbers.now a.strides.now b.admits b.claimable.inside a.flat.0 0 b.claimable.element (one s.before.before.before.before) refl c.Cell-at.result.0
     b.begins.level_is b.begins.m_is
-    (rw (level_back d, m_back d) at c.Cell-at.ensures ∙ ap (λ (w : Swizzle). a.place.level +ℤ swizzled_z w a.place.m) s.requires.2)
+    (rw (level_back d.before.before, m_back d.before.before) at c.Cell-at.ensures ∙ ap (λ (w : Swizzle). a.place.level +ℤ swizzled_z w a.place.m) s.requires.2)
 
-cell_here : (c : tie.After-cell-at) → let s = c.before.before.before.before in c.Cell-at.result.0 < length s.args.table.now
+cell_here : (c : tie.After-cell_at-cell) → let s = c in c.Cell-at.result.0 < length s.args.table.now
 cell_here c =
-    let s = c.before.before.before.before in
+    let s = c in
     let a = s.args in
     let b = s.requires.0 in
     omega (
       arith,
       cell_found c,
       b.claimable.size,
-      cell_short a.numbers.now a.strides.now b.admits b.claimable.inside a.flat.0 0 b.claimable.element (one s),
+      cell_short a.numbers.now a.strides.now b.admits b.claimable.inside a.flat.0 0 b.claimable.element (one s.before.before.before.before),
     )
 
-row_is : (c : tie.After-cell-at) → let s = c.before.before.before.before in copy_cells (card s) s.args.flat.0 ≡ c.Cell-at.result.0 ∷ []
+row_is : (c : tie.After-cell_at-cell) → let s = c in copy_cells (card s.before.before.before.before) s.args.flat.0 ≡ c.Cell-at.result.0 ∷ []
 row_is c =
-    let s = c.before.before.before.before in
-    single_row (card s) s.args.flat.0 s.requires.1 ∙ ap (λ (n : ℕ). n ∷ []) (sym (cell_found c))
+    let s = c in
+    single_row (card s.before.before.before.before) s.args.flat.0 s.requires.1 ∙ ap (λ (n : ℕ). n ∷ []) (sym (cell_found c))
 
-slice_read_if1 : tie.Need-slice-read-if1
+slice_read_if1 : tie.Need-bounds-table-cell
 slice_read_if1 c = cell_here c.before
 
-returns : tie.Need-returns
+returns : tie.Need-returns-then-table-cell-ne0
 returns c =
-    let d = c.before.before in
-    let s = d.before.before.before.before in
-    single_met (copy_cells (card s) s.args.flat.0) s.args.table.now s.args.flat.0 d.Cell-at.result.0 (row_is d) c.if1.true
+    let d = c in
+    let s = d in
+    single_met (copy_cells (card s.before.before.before.before.before.before) s.args.flat.0) s.args.table.now s.args.flat.0 d.Cell-at.result.0 (row_is d.before.before) c.if-table-cell-ne0.true
 
-abbrev found : tie.After-struct-known → tie.After-cell-at
+abbrev found : tie.After-struct_known-1 → tie.After-cell_at-cell
 found c = c.before.before.before
 
-small : (c : tie.After-struct-known) → let s = (found c).before.before.before.before in s.args.flat.0 + 1 < 2 ^ 32
+small : (c : tie.After-struct_known-1) → let s = (found c) in s.args.flat.0 + 1 < 2 ^ 32
 small c =
-    let s = (found c).before.before.before.before in
-    omega (arith, s.pre.0.claimable.element, (sized (card s) s.pre.0.admits.admitted).most-elements)
+    let s = (found c) in
+    omega (arith, s.requires.0.claimable.element, (sized (card s.before.before.before.before) s.requires.0.admits.admitted).most_elements_lem)
 
-slice_write_table : tie.Need-slice-write-table
+slice_write_table : tie.Need-bounds-table-cell-2
 slice_write_table c = cell_here (found c)
 
-returns_2 : tie.Need-returns-2
+returns_2 : tie.Need-returns
 returns_2 c =
     let d = found c in
-    let s = d.before.before.before.before in
-    single_claimed (copy_cells (card s) s.args.flat.0) s.args.table.now s.args.flat.0 d.Cell-at.result.0 (row_is d) (cell_here d) c.before.if1.false
+    let s = d in
+    single_claimed (copy_cells (card s.before.before.before.before) s.args.flat.0) s.args.table.now s.args.flat.0 d.Cell-at.result.0 (row_is d) (cell_here d) c.if-table-cell-ne0.false
 
 pub claim_single_spec : {M : Type 1} → statement M
 claim_single_spec =

@@ -15,25 +15,25 @@ use Rattle.claiming_in_order.proofs.refuse_clash.Tie as tie
 abbrev card : tie.Start → Card
 card s = card_of s.args.numbers.now s.args.strides.now
 
-abbrev start : tie.After-place-row → tie.Start
+abbrev start : tie.After-place_row → tie.Start
 start p = p.before.before.before.before
 
-is_placed : (p : tie.After-place-row) → p.place-row.new.1.1.1.0 ≡ copy_cells (card (start p)) (start p).args.flat.0
-is_placed p = row_cells (card (start p)) (start p).args.flat.0 p.place-row.ensures (start p).requires.one_each
+is_placed : (p : tie.After-place_row) → p.place_row.new.row ≡ copy_cells (card (start p)) (start p).args.flat.0
+is_placed p = row_cells (card (start p)) (start p).args.flat.0 p.place_row.ensures (start p).requires.one_each
 
-find_clash_requires : tie.Need-find-clash-requires
+find_clash_requires : tie.Need-find_clash-refusal-requires
 find_clash_requires c κs =
-    let p = c.before.before.before.before in
-    let s = start p in
-    let ready = row_ready (card s) s.args.flat.0 s.args.table.now s.pre.admits.admitted s.pre.claimable (is_placed p) in
-    (ready.within, rw (is_placed p) s.pre.meets)
+    let p = c in
+    let s = start p.before.before in
+    let ready = row_ready (card s) s.args.flat.0 s.args.table.now s.requires.admits.admitted s.requires.claimable (is_placed p.before.before) in
+    (ready.within, rw (is_placed p.before.before) s.requires.meets)
 
 returns : tie.Need-returns
 returns c =
-    let f = c.before.before.before.before in
-    let p = f.before.before.before.before.before in
-    let s = start p in
-    (f.find-clash.ensures ∙ ap (λ (row : List ℕ). clash_of s.args.table.now row s.args.flat) (is_placed p), c.before.before.clear.ensures)
+    let f = c in
+    let p = f in
+    let s = start p.before.before.before.before.before.before.before in
+    (f.find_clash-refusal.ensures ∙ ap (λ (row : List ℕ). clash_of s.args.table.now row s.args.flat) (is_placed p.before.before.before.before.before.before.before), c.clear.ensures)
 
 pub refuse_clash_spec : {M : Type 1} → statement M
 refuse_clash_spec =

@@ -11,17 +11,17 @@ use Rattle.claiming_in_order.proofs.run_length.Tie as tie
 abbrev card : tie.Start → Card
 card s = card_of s.args.numbers.now s.args.strides.now
 
-returns : tie.Need-returns
-returns c = let s = c.before in runs_by_one (card s) s.requires.0.admitted
+returns : tie.Need-returns-then-marked
+returns c = let s = c in runs_by_one (card s.before) s.requires.0.admitted
 
-run_length_requires : tie.Need-run-length-requires
-run_length_requires c κs = let s = c.before in readable s.args.numbers.now s.args.strides.now s.requires.0
+run_length_requires : tie.Need-run_length-requires
+run_length_requires c κs = let s = c in readable s.args.numbers.now s.args.strides.now s.requires.0
 
-returns_2 : tie.Need-returns-2
+returns_2 : tie.Need-returns-else-marked
 returns_2 c =
-    let e = c.before in
-    let s = e.before in
-    subst (RunsBy (card s)) (sym (c.run_length.ensures s.args.strides.now)) (runs_by_run (card s) s.requires.0.admitted (s.requires.1 e.if1.false))
+    let e = c in
+    let s = e in
+    subst (RunsBy (card s.before.before)) (sym (c.run_length.ensures s.args.strides.now)) (runs_by_run (card s.before.before) s.requires.0.admitted (s.requires.1 e.if-marked.false))
 
 pub run_length_spec : {M : Type 1} → statement M
 run_length_spec = tie.close (tie.spec run_length_requires returns returns_2)

@@ -19,7 +19,7 @@ use Rattle.claiming_lines.proofs.claim_line.Statement.{statement}
 use Rattle.claiming_lines.proofs.claim_line.Tie as tie
 
 -- the step as the machine adds it up
-module _ (c : tie.After-struct-told) where
+module _ (c : tie.After-struct_told-1) where
   abbrev s : tie.Start
   s = c.before.before.before.before
 
@@ -51,8 +51,8 @@ module _ (c : tie.After-struct-told) where
         ∙ reads
 
 -- the stretch
-module _ (c : tie.After-struct-told2) where
-  abbrev told : tie.After-struct-told
+module _ (c : tie.After-struct_told-then-many-by-1) where
+  abbrev told : tie.After-struct_told-1
   told = c.before.before.before.before
 
   abbrev q : tie.Start
@@ -85,20 +85,20 @@ module _ (c : tie.After-struct-told2) where
   there : StretchThere q.args.first.0 begin q.args.many q.args.table.now
   there = stretch_there q.args.by q.args.start q.args.step q.args.first.0 q.args.many q.args.table.now q.pre (straight told tested) (one told tested)
 
-cast_claim_stretch : tie.Need-overflow-cast-claim-stretch
+cast_claim_stretch : tie.Need-overflow_cast-start
 cast_claim_stretch c = rw (back c) (tt, record { fits = omega (arith, few c) })
 
-claim_stretch_requires : tie.Need-claim-stretch-requires
+claim_stretch_requires : tie.Need-claim_stretch-requires
 claim_stretch_requires c κs = rw (back c) (there c)
 
-returns : tie.Need-returns
+returns : tie.Need-returns-then-many-by
 returns c e =
-    let r = c.before.before in
-    let d = r.before in
+    let r = c in
+    let d = r in
     let a = (q d).args in
     lined_as (λ j. begin d + j) (line_cell a.by a.start a.step) (λ j. a.first.0 + j) a.many
     (λ j h. stretch_cell a.by a.start a.step a.first.0 a.many a.table.now (q d).requires (straight (told d) (tested d)) (one (told d) (tested d)) j)
-    (rw (back d) at r.claim-stretch.ensures e)
+    (rw (back d) at r.claim_stretch.ensures e)
 
 pub claim_line_spec : {M : Type 1} → statement M
 claim_line_spec =

@@ -7,18 +7,18 @@ use borrow.Author.Tests.{not-false}
 use Rattle.claiming_lines.proofs.claim_stretch.Statement.{statement}
 use Rattle.claiming_lines.proofs.claim_stretch.Tie as tie
 
-is_free_requires : tie.Need-is-free-requires
+is_free_requires : tie.Need-is_free-requires
 is_free_requires c κs =
-    let p = c.before.before.requires in
+    let p = c.requires in
     record { some = p.some; small = omega (arith, p.small); inside = p.inside; room = p.room }
 
-returns : tie.Need-returns
+returns : tie.Need-returns-then-not-is_free
 returns c e = absurd (true≢false (sym e))
 
 number_requires : tie.Need-number-requires
 number_requires c κs =
-    let i = c.before.before in
-    (i.before.before.before.requires, i.is_free.ensures (not-false _ c.before.if1.false))
+    let i = c in
+    (i.requires, i.is_free.ensures (c.if-not-is_free.false))
 
 pub claim_stretch_spec : {M : Type 1} → statement M
 claim_stretch_spec =

@@ -27,13 +27,13 @@ taken_back c = to_z-of_z (far_fits {x = taken c} (omega (arith, taken_far c, c.r
 rest_fits : (c : tie.Start) → SFits w64 (c.args.value -ℤ taken c)
 rest_fits c = far_fits (omega (arith, sum_far c.args.value (neg_ℤ (taken c)), negated_far (taken c), c.requires.room, taken_far c))
 
-cast_result : tie.Need-overflow-cast-result
+cast_result : tie.Need-overflow_cast-result
 cast_result c = far_fits (omega (arith, c.requires.small_component))
 
-mul_result : tie.Need-overflow-mul-result
+mul_result : tie.Need-overflow_mul-result
 mul_result c = rw (many_back c, to_z-of_z c.ranges.step) (far_fits {x = taken c} (omega (arith, taken_far c, c.requires.room)))
 
-sub_result : tie.Need-overflow-sub-result
+sub_result : tie.Need-overflow_sub-result
 sub_result c = rw (many_back c, to_z-of_z c.ranges.step, taken_back c, to_z-of_z c.ranges.value) (rest_fits c)
 
 returns : tie.Need-returns

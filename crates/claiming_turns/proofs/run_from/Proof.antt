@@ -12,14 +12,14 @@ use Rattle.claiming_turns.proofs.Slow.{all_ones, ones_more, slower_run}
 use Rattle.claiming_turns.proofs.run_from.Statement.{statement}
 use Rattle.claiming_turns.proofs.run_from.Tie as tie
 
-abbrev invariant_loop : tie.invariant_loop
+abbrev invariant_loop : tie.invariant-loop-k
 invariant_loop numbers k₀ k = (k ≤ get_or numbers 40 0) × ((strides : List ℤ) → (run_length (drop k (shard_iters numbers strides)) ≡ 1) × (size_from k (shard_iters numbers strides) ≡ 1))
 
-abbrev decreases_loop : tie.decreases_loop
+abbrev decreases_loop : tie.decreases-loop-k
 decreases_loop numbers k₀ k = k
 
 -- the iter that a turn passes
-module _ (t : tie.In-loop invariant_loop decreases_loop) (strides : List ℤ) where
+module _ (t : tie.In-loop-k invariant_loop decreases_loop) (strides : List ℤ) where
   abbrev numbers : List ℕ
   numbers = t.before.before.before.args.numbers.now
 
@@ -30,35 +30,35 @@ module _ (t : tie.In-loop invariant_loop decreases_loop) (strides : List ℤ) wh
   few = t.before.before.before.pre.few
 
   below : j < length (shard_iters numbers strides)
-  below = omega (arith, iters_count numbers strides few, t.before.loop.inv.0, t.loop-test.taken)
+  below = omega (arith, iters_count numbers strides few, t.before.loop.invariant.0, t.loop-test.taken)
 
   before_it : (run_length (drop (suc j) (shard_iters numbers strides)) ≡ 1) × (size_from (suc j) (shard_iters numbers strides) ≡ 1)
   before_it =
       let same : t.before.loop.k ≡ suc j = omega (arith, t.loop-test.taken) in
-      subst (λ (n : ℕ). (run_length (drop n (shard_iters numbers strides)) ≡ 1) × (size_from n (shard_iters numbers strides) ≡ 1)) same (t.before.loop.inv.1 strides)
+      subst (λ (n : ℕ). (run_length (drop n (shard_iters numbers strides)) ≡ 1) × (size_from n (shard_iters numbers strides) ≡ 1)) same (t.before.loop.invariant.1 strides)
 
   extent_is : get_or (iter_extents (shard_iters numbers strides)) j 0 ≡ get_or numbers j 0
-  extent_is = extent_at numbers strides j few (omega (arith, t.before.loop.inv.0, t.loop-test.taken))
+  extent_is = extent_at numbers strides j few (omega (arith, t.before.loop.invariant.0, t.loop-test.taken))
 
-loop_holds : tie.Need-loop-init invariant_loop decreases_loop
-loop_holds c = (omega arith, λ strides. let numbers = c.before.args.numbers.now in all_ones (shard_iters numbers strides) (get_or numbers 40 0) (omega (arith, iters_count numbers strides c.before.requires.few)))
+loop_holds : tie.Need-loop-k-init invariant_loop decreases_loop
+loop_holds c = (omega arith, λ strides. let numbers = c.args.numbers.now in all_ones (shard_iters numbers strides) (get_or numbers 40 0) (omega (arith, iters_count numbers strides c.requires.few)))
 
-returns : tie.Need-returns invariant_loop decreases_loop
+returns : tie.Need-returns-then-numbers-k-ne1 invariant_loop decreases_loop
 returns c strides =
-    let t = c.before.before in
-    slower_run (shard_iters (numbers t strides) strides) (j t strides) (below t strides) (before_it t strides) (λ e. c.if1.true (sym (extent_is t strides) ∙ e))
+    let t = c in
+    slower_run (shard_iters (numbers t strides) strides) (j t strides) (below t strides) (before_it t strides) (λ e. c.if-numbers-k-ne1.true (sym (extent_is t strides) ∙ e))
 
-loop_again : tie.Need-loop-preserved invariant_loop decreases_loop
+loop_again : tie.Need-loop-k-preserved invariant_loop decreases_loop
 loop_again c = (
-  omega (arith, c.before.before.before.loop.invariant.0),
+  omega (arith, c.loop-k.invariant.0),
   λ strides.
-      let t = c.before.before in
-      ones_more (shard_iters (numbers t strides) strides) (j t strides) (below t strides) (before_it t strides) (extent_is t strides ∙ c.if1.false),
+      let t = c in
+      ones_more (shard_iters (numbers t strides) strides) (j t strides) (below t strides) (before_it t strides) (extent_is t strides ∙ c.if-numbers-k-ne1.false),
 )
 
-returns_2 : tie.Need-returns-2 invariant_loop decreases_loop
+returns_2 : tie.Need-returns invariant_loop decreases_loop
 returns_2 c strides =
-    let l = c.before.loop in
+    let l = c.loop-k in
     let end : l.k ≡ 0 = omega arith in
     let all = rw end at (l.invariant.1 strides) in
     record { most = omega arith; a_run = all.1 ∙ sym all.0 }
@@ -66,5 +66,5 @@ returns_2 c strides =
 pub run_from_spec : {M : Type 1} → statement M
 run_from_spec =
     tie.close
-    (tie.spec invariant_loop decreases_loop (λ c. omega arith) (λ c. omega arith) (λ c. omega arith) loop_holds (λ c. omega arith) (λ c. omega arith) (λ c. omega (arith, c.before.before.before.requires.few, c.before.loop.invariant.0)) returns
+    (tie.spec invariant_loop decreases_loop (λ c. omega arith) (λ c. omega arith) (λ c. omega arith) loop_holds (λ c. omega arith) (λ c. omega arith) (λ c. omega (arith, c.requires.few, c.loop-k.invariant.0)) returns
     (λ c. omega arith) loop_again returns_2)

@@ -24,34 +24,34 @@ use Rattle.claiming_turns.proofs.turn.Tie as tie
 abbrev read : ℕ → ℕ → LevelAndM
 read level m = record { level = to_z w64 level; m = to_z w64 m }
 
-abbrev invariant_loop : tie.invariant_loop
+abbrev invariant_loop : tie.invariant-loop-k
 invariant_loop numbers strides from levels ms digits₀ level₀ m₀ k₀ digits level m k =
     (k ≤ from)
     × DigitsAt numbers strides digits (read level m)
     × (length digits ≡ 8)
     × (index_of (shard_iters numbers strides) digits + size_from k (shard_iters numbers strides) ≡ index_of (shard_iters numbers strides) digits₀ + size_from from (shard_iters numbers strides))
 
-abbrev decreases_loop : tie.decreases_loop
+abbrev decreases_loop : tie.decreases-loop-k
 decreases_loop numbers strides from levels ms digits₀ level₀ m₀ k₀ digits level m k = k
 
 -- places alike
 alike : {x y z w : ℤ} → x ≡ y → z ≡ w → ◌≡◌ {A = LevelAndM} (record { level = x; m = z }) (record { level = y; m = w })
 alike e d = ap₂ (λ (x y : ℤ). record { level = x; m = y }) e d
 
-loop_holds : tie.Need-loop-init invariant_loop decreases_loop
+loop_holds : tie.Need-loop-k-init invariant_loop decreases_loop
 loop_holds c =
-    let s = c.before.before in
+    let s = c in
     let a = s.args in (
       omega arith,
       subst (DigitsAt a.numbers.now a.strides.now a.digits.now)
-          (sym (alike (to_z-of_z {w = w64} {z = a.start.level} (record { sfits = c.struct-told2.given.0.1 })) (to_z-of_z {w = w64} {z = a.start.m} (record { sfits = c.struct-told2.given.1.0.1 }))))
+          (sym (alike (to_z-of_z {w = w64} {z = a.start.level} (record { sfits = c.struct_told-2-1.given.0.1 })) (to_z-of_z {w = w64} {z = a.start.m} (record { sfits = c.struct_told-2-1.given.1.0.1 }))))
           s.requires.here,
       s.requires.whole.1,
       refl,
     )
 
 -- a turn is at a digit
-module _ (t : tie.In-loop invariant_loop decreases_loop) where
+module _ (t : tie.In-loop-k invariant_loop decreases_loop) where
   abbrev s : tie.Start invariant_loop decreases_loop
   s = t.before.before.before.before
 
@@ -83,7 +83,7 @@ module _ (t : tie.In-loop invariant_loop decreases_loop) where
   few = s.pre.whole.2
 
   slower : j < s.args.from
-  slower = omega (arith, t.before.loop.inv.0, t.loop-test.taken)
+  slower = omega (arith, t.before.loop.invariant.0, t.loop-test.taken)
 
   below : j < length l
   below = omega (arith, slower, s.pre.slower)
@@ -101,31 +101,31 @@ module _ (t : tie.In-loop invariant_loop decreases_loop) where
   after_is = let same : suc j ≡ t.before.loop.k = omega (arith, t.loop-test.taken) in ap (λ (n : ℕ). size_from n l) same
 
   small : digit ≤ 2 ^ 32
-  small = digit_small numbers strides digits here j below t.before.loop.inv.1 adds (s.pre.small j below)
+  small = digit_small numbers strides digits here j below t.before.loop.invariant.1 adds (s.pre.small j below)
 
   -- forth
   module _ (more : digit + 1 < get_or numbers j 0) where
     forth : DigitsAt numbers strides (set digits j (digit + 1)) (record { level = here.level +ℤ way.level; m = here.m +ℤ way.m })
-    forth = turn_forth numbers strides digits here j below t.before.loop.inv.1 adds (omega (arith, extent_is, more))
+    forth = turn_forth numbers strides digits here j below t.before.loop.invariant.1 adds (omega (arith, extent_is, more))
 
     near : (nat_abs (here.level +ℤ way.level) ≤ roomy_level) × (nat_abs (here.m +ℤ way.m) ≤ roomy_level)
     near = s.pre.near (set digits j (digit + 1)) _ forth
 
     index_next : index_of l (set digits j (digit + 1)) ≡ index_of l s.args.digits.now + size_from s.args.from l
-    index_next = omega (arith, index_forth numbers strides digits here j below t.before.loop.inv.1 adds, after_is, t.before.loop.inv.3)
+    index_next = omega (arith, index_forth numbers strides digits here j below t.before.loop.invariant.1 adds, after_is, t.before.loop.invariant.3)
 
   back_level : Steps here.level digit way.level
-  back_level = level_steps numbers strides digits here j below t.before.loop.inv.1 adds s.pre.near small
+  back_level = level_steps numbers strides digits here j below t.before.loop.invariant.1 adds s.pre.near small
 
   back_m : Steps here.m digit way.m
-  back_m = m_steps numbers strides digits here j below t.before.loop.inv.1 adds s.pre.near small
+  back_m = m_steps numbers strides digits here j below t.before.loop.invariant.1 adds s.pre.near small
 
 -- the digit goes on
-abbrev at : tie.Then1 invariant_loop decreases_loop → tie.In-loop invariant_loop decreases_loop
-at c = c.before.before.before
+abbrev at : tie.Then-digit-numbers invariant_loop decreases_loop → tie.In-loop-k invariant_loop decreases_loop
+at c = c.before.before.before.before.before
 
-module _ (c : tie.After-level invariant_loop decreases_loop) where
-  abbrev t1 : tie.In-loop invariant_loop decreases_loop
+module _ (c : tie.After-level-1 invariant_loop decreases_loop) where
+  abbrev t1 : tie.In-loop-k invariant_loop decreases_loop
   t1 = at c.before
 
   level_read : to_z w64 (of_z w64 (way t1).level) ≡ (way t1).level
@@ -134,8 +134,8 @@ module _ (c : tie.After-level invariant_loop decreases_loop) where
   level_fits : SFits w64 ((here t1).level +ℤ to_z w64 (of_z w64 (way t1).level))
   level_fits = rw level_read (far_fits {x = (here t1).level +ℤ (way t1).level} (omega (arith, (near t1 c.before.if1.true).0)))
 
-module _ (c : tie.After-m invariant_loop decreases_loop) where
-  abbrev t2 : tie.In-loop invariant_loop decreases_loop
+module _ (c : tie.After-m-1 invariant_loop decreases_loop) where
+  abbrev t2 : tie.In-loop-k invariant_loop decreases_loop
   t2 = at c.before.before
 
   m_read : to_z w64 (of_z w64 (way t2).m) ≡ (way t2).m
@@ -144,12 +144,12 @@ module _ (c : tie.After-m invariant_loop decreases_loop) where
   m_fits : SFits w64 ((here t2).m +ℤ to_z w64 (of_z w64 (way t2).m))
   m_fits = rw m_read (far_fits {x = (here t2).m +ℤ (way t2).m} (omega (arith, (near t2 c.before.before.if1.true).1)))
 
-returns : tie.Need-returns invariant_loop decreases_loop
+returns : tie.Need-returns-then-digit-numbers invariant_loop decreases_loop
 returns c =
     let t = t2 c in
-    let more = c.before.before.if1.true in
+    let more = c.if-digit-numbers.true in
     record {
-      size = length-set (digits t) (j t) (digit t + 1) ∙ t.before.loop.inv.2 ∙ sym (s t).pre.whole.1;
+      size = length-set (digits t) (j t) (digit t + 1) ∙ t.before.loop.invariant.2 ∙ sym (s t).pre.whole.1;
       there =
           subst (DigitsAt (numbers t) (strides t) (set (digits t) (j t) (digit t + 1)))
           (sym (alike (to_z-of_z (level_fits c.before) ∙ ap (λ (z : ℤ). (here t).level +ℤ z) (level_read c.before)) (to_z-of_z (m_fits c) ∙ ap (λ (z : ℤ). (here t).m +ℤ z) (m_read c))))
@@ -158,58 +158,58 @@ returns c =
     }
 
 -- it goes back to 0
-module _ (c : tie.After-back-arg invariant_loop decreases_loop) where
-  abbrev t3 : tie.In-loop invariant_loop decreases_loop
+module _ (c : tie.After-back-arg-1 invariant_loop decreases_loop) where
+  abbrev t3 : tie.In-loop-k invariant_loop decreases_loop
   t3 = c.before.before.before.before
 
   step_read : to_z w64 (of_z w64 (way t3).level) ≡ (way t3).level
   step_read = to_z-of_z {w = w64} {z = (way t3).level} (record { sfits = c.back-arg.given })
 
-back_requires : tie.Need-back-requires invariant_loop decreases_loop
+back_requires : tie.Need-back-level-requires invariant_loop decreases_loop
 back_requires c κs = rw (step_read c) (back_level (t3 c))
 
-module _ (c : tie.After-back-arg2 invariant_loop decreases_loop) where
-  abbrev first : tie.After-back-arg invariant_loop decreases_loop
+module _ (c : tie.After-back-arg-in-loop-k-1 invariant_loop decreases_loop) where
+  abbrev first : tie.After-back-arg-1 invariant_loop decreases_loop
   first = c.before.before
 
   m_step_read : to_z w64 (of_z w64 (way (t3 first)).m) ≡ (way (t3 first)).m
   m_step_read = to_z-of_z {w = w64} {z = (way (t3 first)).m} (record { sfits = c.back-arg2.given })
 
-back_requires_2 : tie.Need-back-requires-2 invariant_loop decreases_loop
+back_requires_2 : tie.Need-back-m-requires invariant_loop decreases_loop
 back_requires_2 c κs = rw (m_step_read c) (back_m (t3 (first c)))
 
-loop_again : tie.Need-loop-preserved invariant_loop decreases_loop
+loop_again : tie.Need-loop-k-preserved invariant_loop decreases_loop
 loop_again c =
-    let e = c.before in
-    let b = e.before in
-    let f = b.before in
+    let e = c in
+    let b = e in
+    let f = b in
     let t = t3 f in
-    let full : get_or (iter_extents (l t)) (j t) 0 ≤ digit t + 1 = omega (arith, extent_is t, f.before.if1.false) in
-    let index = index_back (numbers t) (strides t) (digits t) (here t) (j t) (below t) t.before.loop.inv.1 (adds t) full in (
-      omega (arith, t.before.loop.inv.0),
-      turn_back (numbers t) (strides t) (digits t) (here t) (j t) (below t) t.before.loop.inv.1 (adds t)
-          (ap (λ (z : ℤ). z +ℤ pos (digit t) *ℤ (way t).level) (to_z-of_z {w = w64} {z = b.back.result} (record { sfits = b.back.type-inv })) ∙ rw (step_read f) at b.back.ensures)
-          (ap (λ (z : ℤ). z +ℤ pos (digit t) *ℤ (way t).m) (to_z-of_z {w = w64} {z = c.back2.result} (record { sfits = c.back2.type-inv })) ∙ rw (m_step_read e) at c.back2.ensures),
-      length-set (digits t) (j t) 0 ∙ t.before.loop.inv.2,
-      omega (arith, index, after_is t, t.before.loop.inv.3),
+    let full : get_or (iter_extents (l t)) (j t) 0 ≤ digit t + 1 = omega (arith, extent_is t, f.if-digit-numbers.false) in
+    let index = index_back (numbers t) (strides t) (digits t) (here t) (j t) (below t) t.before.loop.invariant.1 (adds t) full in (
+      omega (arith, t.before.loop.invariant.0),
+      turn_back (numbers t) (strides t) (digits t) (here t) (j t) (below t) t.before.loop.invariant.1 (adds t)
+          (ap (λ (z : ℤ). z +ℤ pos (digit t) *ℤ (way t).level) (to_z-of_z {w = w64} {z = b.back-level.result} (record { sfits = b.back-level.type_inv })) ∙ rw (step_read f) at b.back-level.ensures)
+          (ap (λ (z : ℤ). z +ℤ pos (digit t) *ℤ (way t).m) (to_z-of_z {w = w64} {z = c.back-m.result} (record { sfits = c.back-m.type_inv })) ∙ rw (m_step_read e) at c.back-m.ensures),
+      length-set (digits t) (j t) 0 ∙ t.before.loop.invariant.2,
+      omega (arith, index, after_is t, t.before.loop.invariant.3),
     )
 
-returns_2 : tie.Need-returns-2 invariant_loop decreases_loop
+returns_2 : tie.Need-returns invariant_loop decreases_loop
 returns_2 c =
-    let k = c.before.loop in
+    let k = c.loop-k in
     let end : k.k ≡ 0 = omega arith in
     let whole = rw end at k.invariant.3 in
-    record { size = k.invariant.2 ∙ sym c.before.before.before.before.requires.whole.1; there = k.invariant.1; next = λ inside. absurd (omega (arith, whole, inside)) }
+    record { size = k.invariant.2 ∙ sym c.requires.whole.1; there = k.invariant.1; next = λ inside. absurd (omega (arith, whole, inside)) }
 
 pub turn_spec : {M : Type 1} → statement M
 turn_spec =
     tie.close
-    (tie.spec invariant_loop decreases_loop loop_holds (λ c. omega (arith, c.loop-test.true)) (λ c. omega (arith, short c)) (λ c. omega (arith, short c, c.before.loop.invariant.2))
+    (tie.spec invariant_loop decreases_loop loop_holds (λ c. omega (arith, c.loop-k-test.true)) (λ c. omega (arith, short c)) (λ c. omega (arith, short c, c.loop-k.invariant.2))
     (λ c. omega (arith, small c.before)) (λ c. omega (arith, short c.before)) (λ c. omega (arith, short c.before, (s c.before).pre.whole.0))
-    (λ c. omega (arith, small (at c))) (λ c. omega (arith, short (at c))) (λ c. omega (arith, short (at c), (at c).before.loop.invariant.2))
+    (λ c. omega (arith, small (at c))) (λ c. omega (arith, short (at c))) (λ c. omega (arith, short (at c), (at c).loop-k.invariant.2))
     (λ c. omega (arith, short (at c))) (λ c. omega (arith, short (at c), (s (at c)).pre.ways.level_size)) level_fits
     (λ c. omega (arith, short (t1 c))) (λ c. omega (arith, short (t1 c), (s (t1 c)).pre.ways.m_size)) m_fits returns
-    (λ c. omega (arith, short c.before.before.before)) (λ c. omega (arith, short c.before.before.before, c.before.before.before.before.loop.invariant.2))
+    (λ c. omega (arith, short c.before.before.before)) (λ c. omega (arith, short c.before.before.before, c.loop-k.invariant.2))
     (λ c. omega (arith, short c.before.before.before)) (λ c. omega (arith, short c.before.before.before, (s c.before.before.before).pre.ways.level_size)) back_requires
     (λ c. omega (arith, short (t3 c.before))) (λ c. omega (arith, short (t3 c.before), (s (t3 c.before)).pre.ways.m_size)) back_requires_2
     (λ c. omega (arith, (t3 (first c.before)).loop-test.taken)) loop_again returns_2)

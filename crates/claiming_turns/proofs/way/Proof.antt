@@ -51,7 +51,7 @@ module _ (s : tie.Start) where
   an_axis = omega (arith, met.an_axis)
 
   small : nat_abs (get_or strides k (pos 0)) ≤ 2 ^ 40
-  small = rw stride_is (omega (arith, met.most-stride))
+  small = rw stride_is (omega (arith, met.most_stride_lem))
 
   sums_small : (a : ℕ) → a < 8 → Sums (set zeros a (get_or strides k (pos 0)))
   sums_small a h = record {
@@ -70,28 +70,28 @@ module _ (s : tie.Start) where
       ∙ sym (ap (λ (i : Iter). map (unit i) axes) (iter_at_lem numbers strides k few s.pre.1))
 
 -- what the machine reads of the stride
-stride_back : (c : tie.After-stride) → to_z w64 (of_z w64 (get_or (strides c.before) (k c.before) (pos 0))) ≡ get_or (strides c.before) (k c.before) (pos 0)
-stride_back c = to_z-of_z {w = w64} {z = get_or (strides c.before) (k c.before) (pos 0)} (record { sfits = c.stride.given })
+stride_back : (c : tie.After-stride-1) → to_z w64 (of_z w64 (get_or (strides c.before) (k c.before) (pos 0))) ≡ get_or (strides c.before) (k c.before) (pos 0)
+stride_back c = to_z-of_z {w = w64} {z = get_or (strides c.before) (k c.before) (pos 0)} (record { sfits = c.stride-1.given })
 
-weigh_requires : tie.Need-weigh-requires
+weigh_requires : tie.Need-weigh-level-requires
 weigh_requires c κs =
-    let s = c.before.before.before in
-    rw (stride_back c.before.before)
+    let s = c in
+    rw (stride_back c.before.before.before)
     (s.requires.0.whole.all_numbers, (checked (card_of (numbers s) (strides s)) s.requires.0.admitted).space, sums_small s (get_or (numbers s) (8 + k s) 0) (an_axis s))
 
 returns : tie.Need-returns
 returns c =
-    let w = c.before in
-    let s = w.before.before.before.before in
-    let back = stride_back w.before.before.before in
+    let w = c in
+    let s = w in
+    let back = stride_back w.before.before.before.before.before in
     let axis = get_or (numbers s) (8 + k s) 0 in
     let read : ℤ = to_z w64 (of_z w64 (get_or (strides s) (k s) (pos 0))) in
     adds (slice 32 40 (numbers s)) (unit (get_or (shard_iters (numbers s) (strides s)) (k s) none)) (ap (set zeros axis) back ∙ sums_are s)
-    (to_z-of_z {w = w64} {z = w.weigh.result} (record { sfits = w.weigh.type-inv }) ∙ w.weigh.ensures)
-    (to_z-of_z {w = w64} {z = get_or (set zeros axis read) 7 (pos 0)} (record { sfits = c.t11.given }))
+    (to_z-of_z {w = w64} {z = w.weigh-level.result} (record { sfits = w.weigh-level.type_inv }) ∙ w.weigh-level.ensures)
+    (to_z-of_z {w = w64} {z = get_or (set zeros axis read) 7 (pos 0)} (record { sfits = c.result-1.given }))
 
 pub way_spec : {M : Type 1} → statement M
 way_spec =
     tie.close
-    (tie.spec (λ c. omega (arith, few c, c.requires.1)) (λ c. omega (arith, few c, c.requires.1, c.requires.0.whole.all_strides)) (λ c. omega (arith, few c.before, c.before.requires.1)) (λ c. omega (arith, few c.before, c.before.requires.1)) (λ c. omega (arith, few c.before, c.before.requires.1, c.before.requires.0.whole.all_numbers))
+    (tie.spec (λ c. omega (arith, few c, c.requires.1)) (λ c. omega (arith, few c, c.requires.1, c.requires.0.whole.all_strides)) (λ c. omega (arith, few c.before, c.requires.1)) (λ c. omega (arith, few c.before, c.requires.1)) (λ c. omega (arith, few c.before, c.requires.1, c.requires.0.whole.all_numbers))
     (λ c. omega (arith, an_axis c.before.before)) (λ c. an_axis c.before.before) weigh_requires (λ c. search rules) returns)

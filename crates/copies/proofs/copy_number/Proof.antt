@@ -23,7 +23,7 @@ start w = w.before.before.before
 
 -- the sums, and that they are eight
 abbrev sums : tie.After-walk → List ℤ
-sums w = w.walk.new.1.1.1.1.0
+sums w = w.walk.new.sums
 
 eight_sums : (w : tie.After-walk) → length (sums w) ≡ 8
 unfolding walked
@@ -33,7 +33,7 @@ abbrev walking : tie.After-finish → tie.After-walk
 walking f = f.before.before.before
 
 abbrev coordinates : tie.After-finish → List ℕ
-coordinates f = f.finish.new.1.0
+coordinates f = f.finish.new.coordinates
 
 eight : (f : tie.After-finish) (m : ℕ) → length (set (coordinates f) 7 m) ≡ 8
 eight f m =
@@ -42,26 +42,26 @@ eight f m =
 finish_requires : tie.Need-finish-requires
 finish_requires c κs = (eight_sums c.before.before, refl)
 
-number_among_requires : tie.Need-number-among-requires
+number_among_requires : tie.Need-number_among-requires
 number_among_requires c κs =
-    let f = c.before.before.before.before in
-    let s = start (walking f) in
-    (space_numerable s.args.numbers.now (search rules) s.pre.space, eight f _)
+    let f = c in
+    let s = start (walking f.before.before.before.before) in
+    (space_numerable s.args.numbers.now (search rules) s.requires.space, eight f.before.before.before.before _)
 
 returns : tie.Need-returns
 returns c =
-    let p = c.before.before.before in
-    let f = p.before.before in
-    let w = walking f in
+    let p = c in
+    let f = p in
+    let w = walking f.before.before.before.before.before in
     let a = (start w).args in
     let lengths = slice 32 40 a.numbers.now in
     let swizzle = swizzle_of a.numbers.now in
     let m = get_or (sums w) 7 (pos 0) in
-    let back : p.swizzled-on-axis.result ≡ on_axis (swizzled_z swizzle m) =
-    p.swizzled-on-axis.ensures ∙ ap (λ (z : ℤ). on_axis (swizzled_z swizzle z)) (to_z-of_z {w = w64} {z = m} (record { sfits = p.before.swizzled-on-axis-arg.given })) in
-    c.number-among.ensures
+    let back : p.swizzled_on_axis.result ≡ on_axis (swizzled_z swizzle m) =
+    p.swizzled_on_axis.ensures ∙ ap (λ (z : ℤ). on_axis (swizzled_z swizzle z)) (to_z-of_z {w = w64} {z = m} (record { sfits = p.swizzled_on_axis-arg-1.given })) in
+    c.number_among.ensures
     ∙ ap (λ (l : List ℕ). number_of (position lengths l))
-    (take_whole 8 (set (coordinates f) 7 _) (eight f _)
+    (take_whole 8 (set (coordinates f.before.before.before.before.before) 7 _) (eight f.before.before.before.before.before _)
     ∙ ap₂ (λ (l : List ℕ) (n : ℕ). set l 7 n) f.finish.ensures back
     ∙ map_set on_axis (sums w) 7 (swizzled_z swizzle m))
     ∙ ap (λ (l : List ℤ). number_of (position lengths (map on_axis (swizzled_m swizzle l)))) w.walk.ensures

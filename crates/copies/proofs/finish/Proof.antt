@@ -14,34 +14,34 @@ use Rattle.rules.specs.Rules.{on_axis}
 use Rattle.copies.proofs.finish.Statement.{statement}
 use Rattle.copies.proofs.finish.Tie as tie
 
-abbrev invariant_loop : tie.invariant_loop
+abbrev invariant_loop : tie.invariant-loop-axis
 invariant_loop sums coordinates₀ axis₀ coordinates axis = (axis ≤ 8) × Filled 0 (λ c j. on_axis (get_or sums j (pos 0))) 1 axis coordinates
 
-abbrev decreases_loop : tie.decreases_loop
+abbrev decreases_loop : tie.decreases-loop-axis
 decreases_loop sums coordinates₀ axis₀ coordinates axis = 8 - axis
 
-loop_holds : tie.Need-loop-init invariant_loop decreases_loop
+loop_holds : tie.Need-loop-axis-init invariant_loop decreases_loop
 loop_holds c = (omega arith, filled_none 0 _ 1 c.requires.1)
 
-element_write_coordinates : tie.Need-element-write-coordinates invariant_loop decreases_loop
-element_write_coordinates c = let l = c.before.before.before.loop in omega (arith, l.invariant.1.whole)
+element_write_coordinates : tie.Need-bounds-coordinates-axis invariant_loop decreases_loop
+element_write_coordinates c = let l = c.loop-axis in omega (arith, l.invariant.1.whole)
 
-loop_again : tie.Need-loop-preserved invariant_loop decreases_loop
+loop_again : tie.Need-loop-axis-preserved invariant_loop decreases_loop
 loop_again c =
-    let l = c.before.before.before.loop in
-    let sums = c.before.before.before.before.args.sums.now in
-    let back = to_z-of_z {w = w64} {z = get_or sums l.axis (pos 0)} (record { sfits = c.before.on-axis-arg.given }) in
+    let l = c.loop-axis in
+    let sums = c.args.sums.now in
+    let back = to_z-of_z {w = w64} {z = get_or sums l.axis (pos 0)} (record { sfits = c.on_axis-arg-1.given }) in
     let here : 0 + l.axis ≡ l.axis = omega arith in (
       omega arith,
-      rw (c.on-axis.ensures ∙ ap on_axis back)
+      rw (c.on_axis.ensures ∙ ap on_axis back)
           (subst (λ (i : ℕ). Filled 0 (λ c j. on_axis (get_or sums j (pos 0))) 1 (l.axis + 1) (set l.coordinates i (on_axis (get_or sums l.axis (pos 0))))) here
           (filled_more 0 (λ c j. on_axis (get_or sums j (pos 0))) 1 l.axis (omega arith) l.invariant.1)),
     )
 
 returns : tie.Need-returns invariant_loop decreases_loop
 returns c =
-    let l = c.before.loop in
-    let s = c.before.before in
+    let l = c.loop-axis in
+    let s = c in
     let sums = s.args.sums.now in
     let f = l.invariant.1 in
     let long : length (map on_axis sums) ≡ 8 = length-map sums on_axis ∙ s.requires.0 in

@@ -11,13 +11,13 @@ use Rattle.copies.proofs.locate.Tie as tie
 
 returns : tie.Need-returns
 returns c =
-    let n = c.before in
-    let s = n.before.before in
+    let n = c in
+    let s = n in
     let a = s.args in
     let xs = take a.count a.coordinates.now in
     let same : 0 + a.count ≡ a.count = omega arith in
     c.position_from.ensures
-    ∙ position_back _ (position_small _ xs s.requires.0.small) n.number-among.ensures
+    ∙ position_back _ (position_small _ xs s.requires.0.small) n.number_among.ensures
     ∙ ap (λ (m : ℕ). position (take m a.sizes.now) xs) same
 
 pub locate_spec : {M : Type 1} → statement M

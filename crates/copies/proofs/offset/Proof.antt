@@ -14,17 +14,17 @@ use Rattle.copies.proofs.offset.Tie as tie
 
 returns : tie.Need-returns
 returns c =
-    let l = c.before.before.before.before.before.before.before.before.args.strides.now in
-    let all = c.before.before.before.before.before.before.before.before.requires in
+    let l = c.args.strides.now in
+    let all = c.requires in
     rw (
-      to_z-of_z {w = w64} {z = get_or l 16 (pos 0)} (record { sfits = c.before.before.before.before.before.before.before.t4.given }),
-      to_z-of_z {w = w64} {z = get_or l 17 (pos 0)} (record { sfits = c.before.before.before.before.before.before.t7.given }),
-      to_z-of_z {w = w64} {z = get_or l 18 (pos 0)} (record { sfits = c.before.before.before.before.before.t10.given }),
-      to_z-of_z {w = w64} {z = get_or l 19 (pos 0)} (record { sfits = c.before.before.before.before.t13.given }),
-      to_z-of_z {w = w64} {z = get_or l 20 (pos 0)} (record { sfits = c.before.before.before.t16.given }),
-      to_z-of_z {w = w64} {z = get_or l 21 (pos 0)} (record { sfits = c.before.before.t19.given }),
-      to_z-of_z {w = w64} {z = get_or l 22 (pos 0)} (record { sfits = c.before.t22.given }),
-      to_z-of_z {w = w64} {z = get_or l 23 (pos 0)} (record { sfits = c.t25.given }),
+      to_z-of_z {w = w64} {z = get_or l 16 (pos 0)} (record { sfits = c.result-1.given }),
+      to_z-of_z {w = w64} {z = get_or l 17 (pos 0)} (record { sfits = c.result-2-1.given }),
+      to_z-of_z {w = w64} {z = get_or l 18 (pos 0)} (record { sfits = c.result-3-1.given }),
+      to_z-of_z {w = w64} {z = get_or l 19 (pos 0)} (record { sfits = c.result-4-1.given }),
+      to_z-of_z {w = w64} {z = get_or l 20 (pos 0)} (record { sfits = c.result-5-1.given }),
+      to_z-of_z {w = w64} {z = get_or l 21 (pos 0)} (record { sfits = c.result-6-1.given }),
+      to_z-of_z {w = w64} {z = get_or l 22 (pos 0)} (record { sfits = c.result-7-1.given }),
+      to_z-of_z {w = w64} {z = get_or l 23 (pos 0)} (record { sfits = c.result-8-1.given }),
     )
     (sym (eight_slots (λ k. get_or l (16 + k) (pos 0)) (pos 0) (slice 16 24 l) (length-slice 16 24 l (omega arith)) (λ k h. slice_at l 16 24 (pos 0) k (omega arith))))
 

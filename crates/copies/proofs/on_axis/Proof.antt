@@ -7,17 +7,17 @@ use Rattle.copies.proofs.Below.{from_zero, below_axis, natural_axis}
 use Rattle.copies.proofs.on_axis.Statement.{statement}
 use Rattle.copies.proofs.on_axis.Tie as tie
 
-natural : (c : tie.Else1) → T (non_neg c.before.args.sum)
-natural c = let s = c.before in from_zero s.args.sum (rw (to_z-of_z s.ranges.sum) at c.if1.false)
+natural : (c : tie.Else-sum-lt0) → T (non_neg c.args.sum)
+natural c = let s = c in from_zero s.args.sum (rw (to_z-of_z s.ranges.sum) at c.if-sum-lt0.false)
 
-cast_result : tie.Need-overflow-cast-result
-cast_result c = let s = c.before in rw (to_z-of_z s.ranges.sum) (natural c, Fits-nat_abs {w = w64} tt s.ranges.sum)
+cast_result : tie.Need-overflow_cast-result
+cast_result c = let s = c in rw (to_z-of_z s.ranges.sum) (natural c, Fits-nat_abs {w = w64} tt s.ranges.sum)
 
-returns : tie.Need-returns
-returns c = let s = c.before in below_axis s.args.sum (rw (to_z-of_z s.ranges.sum) at c.if1.true)
+returns : tie.Need-returns-then-sum-lt0
+returns c = let s = c in below_axis s.args.sum (rw (to_z-of_z s.ranges.sum) at c.if-sum-lt0.true)
 
-returns_2 : tie.Need-returns-2
-returns_2 c = let s = c.before in rw (to_z-of_z s.ranges.sum) (natural_axis s.args.sum (natural c))
+returns_2 : tie.Need-returns-else-sum-lt0
+returns_2 c = let s = c in rw (to_z-of_z s.ranges.sum) (natural_axis s.args.sum (natural c))
 
 pub on_axis_spec : {M : Type 1} → statement M
 on_axis_spec = tie.close (tie.spec cast_result returns returns_2)

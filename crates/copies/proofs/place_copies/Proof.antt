@@ -15,11 +15,11 @@ use Rattle.rules.proofs.Filling.{Filling, filling_none, filling_more, filling_al
 use Rattle.copies.proofs.place_copies.Statement.{statement}
 use Rattle.copies.proofs.place_copies.Tie as tie
 
-abbrev invariant_loop : tie.invariant_loop
+abbrev invariant_loop : tie.invariant-loop-combination
 invariant_loop base numbers strides row₀ outside₀ combination₀ row outside combination =
     (combination ≤ length row₀) × Filling (spot_from (slice 32 40 numbers) (swizzle_of numbers) (iters_of numbers strides 1) base) row₀ row combination outside
 
-abbrev decreases_loop : tie.decreases_loop
+abbrev decreases_loop : tie.decreases-loop-combination
 decreases_loop base numbers strides row₀ outside₀ combination₀ row outside combination = length row₀ - combination
 
 -- where each combination goes
@@ -32,34 +32,34 @@ small s combination =
     let n = roomed lengths s.requires.space in
     position_small lengths _ (omega (arith, n.few))
 
-loop_holds : tie.Need-loop-init invariant_loop decreases_loop
-loop_holds c = (omega arith, filling_none (λ r. spot_at (at c.before r)) c.before.args.row.now)
+loop_holds : tie.Need-loop-combination-init invariant_loop decreases_loop
+loop_holds c = (omega arith, filling_none (λ r. spot_at (at c.before r)) c.args.row.now)
 
-copy_number_requires : tie.Need-copy-number-requires invariant_loop decreases_loop
-copy_number_requires c κs = c.before.before.before.requires
+copy_number_requires : tie.Need-copy_number-number-requires invariant_loop decreases_loop
+copy_number_requires c κs = c.requires
 
-loop_again : tie.Need-loop-preserved invariant_loop decreases_loop
+loop_again : tie.Need-loop-combination-preserved invariant_loop decreases_loop
 loop_again c =
-    let p = c.before in
-    let n = p.before in
-    let t = n.before in
-    let l = t.before.before.loop in
-    let s = t.before.before.before.before in
-    let here = at s l.combination in (
+    let p = c in
+    let n = p in
+    let t = n in
+    let l = t.loop-combination in
+    let s = t in
+    let here = at s.before.before.before.before.before.before.before l.combination in (
       omega arith,
       rw (
-        c.smaller.ensures ∙ ap (min l.outside) (p.axis-from.ensures ∙ axis_from_lem here (small s l.combination) t.copy-number.ensures),
-        n.cell-from.ensures ∙ cell_from_lem here (small s l.combination) t.copy-number.ensures,
+        c.smaller-outside.ensures ∙ ap (min l.outside) (p.axis_from.ensures ∙ axis_from_lem here (small s.before.before.before.before.before.before.before l.combination) t.copy_number-number.ensures),
+        n.cell_from.ensures ∙ cell_from_lem here (small s.before.before.before.before.before.before.before l.combination) t.copy_number-number.ensures,
       )
-          (filling_more (λ r. spot_at (at s r)) s.args.row.now l.combination (omega arith) l.invariant.1),
+          (filling_more (λ r. spot_at (at s.before.before.before.before.before.before.before r)) s.args.row.now l.combination (omega arith) l.invariant.1),
     )
 
 returns : tie.Need-returns invariant_loop decreases_loop
 returns c =
-    let l = c.before.loop in
-    let s = c.before.before.before in
+    let l = c.loop-combination in
+    let s = c in
     let end : l.combination ≡ length s.args.row.now = omega arith in
-    filling_all (λ r. spot_at (at s r)) s.args.row.now (rw end at l.invariant.1)
+    filling_all (λ r. spot_at (at s.before.before.before r)) s.args.row.now (rw end at l.invariant.1)
 
 pub place_copies_spec : {M : Type 1} → statement M
 place_copies_spec =

@@ -13,37 +13,37 @@ use Rattle.copies.proofs.place_row.Statement.{statement}
 use Rattle.copies.proofs.place_row.Tie as tie
 
 -- the base that the walk leaves
-based : (w : tie.After-walk) → let a = w.before.before.before.before.args in
+based : (w : tie.After-walk) → let a = w.args in
     let card = card_of a.numbers.now a.strides.now in
-    w.walk.new.1.1.1.1.0 ≡ walked card.shard a.flat.0 card.offset
+    w.walk.new.sums ≡ walked card.shard a.flat.0 card.offset
 based w =
-    let o = w.before.before in
-    let a = o.before.before.args in
-    w.walk.ensures ∙ ap (walked (card_of a.numbers.now a.strides.now).shard a.flat.0) o.offset.ensures
+    let o = w in
+    let a = o.args in
+    w.walk.ensures ∙ ap (walked (card_of a.numbers.now a.strides.now).shard a.flat.0) o.offset-base.ensures
 
 walk_requires : tie.Need-walk-requires
 walk_requires c κs =
-    let o = c.before in
-    let s = o.before.before in
+    let o = c in
+    let s = o in
     let a = s.args in
-    (walkable_shard a.numbers.now a.strides.now s.requires, subst Sums (sym o.offset.ensures) (offset_sums a.numbers.now a.strides.now s.requires))
+    (walkable_shard a.numbers.now a.strides.now s.requires, subst Sums (sym o.offset-base.ensures) (offset_sums a.numbers.now a.strides.now s.requires))
 
-place_copies_requires : tie.Need-place-copies-requires
+place_copies_requires : tie.Need-place_copies-requires
 place_copies_requires c κs =
-    let w = c.before.before in
-    let s = w.before.before.before.before in
+    let w = c in
+    let s = w in
     let a = s.args in
-    subst (λ (base : List ℤ). Ready base a.numbers.now a.strides.now) (sym (based w)) (ready a.numbers.now a.strides.now s.requires a.flat.0)
+    subst (λ (base : List ℤ). Ready base a.numbers.now a.strides.now) (sym (based w.before.before)) (ready a.numbers.now a.strides.now s.requires a.flat.0)
 
 returns : tie.Need-returns
 returns c =
-    let p = c.before.before in
-    let w = p.before.before.before in
-    let a = w.before.before.before.before.args in
+    let p = c in
+    let w = p in
+    let a = w.args in
     let card = card_of a.numbers.now a.strides.now in
     row_of_card card a.flat.0
-    (subst (λ (base : List ℤ). PlacedRow (spot_from card.lengths card.swizzle card.replica base) a.row.now p.place-copies.new.1.1.1.0 p.place-copies.result)
-    (based w) p.place-copies.ensures)
+    (subst (λ (base : List ℤ). PlacedRow (spot_from card.lengths card.swizzle card.replica base) a.row.now p.place_copies.new.row p.place_copies.result)
+    (based w.before.before.before.before.before) p.place_copies.ensures)
 
 pub place_row_spec : {M : Type 1} → statement M
 place_row_spec = tie.close (tie.spec (λ c κs. search rules) walk_requires place_copies_requires (λ c. search rules) returns)

@@ -10,26 +10,26 @@ use Rattle.copies.proofs.Spaces.{Roomed, roomed, space_numerable}
 use Rattle.copies.proofs.spot_at.Statement.{statement}
 use Rattle.copies.proofs.spot_at.Tie as tie
 
-number_among_requires : tie.Need-number-among-requires
-number_among_requires c κs = let s = c.before in (space_numerable s.args.numbers.now (search rules) s.requires.0, s.requires.1)
+number_among_requires : tie.Need-number_among-requires
+number_among_requires c κs = let s = c in (space_numerable s.args.numbers.now (search rules) s.requires.0, s.requires.1)
 
-found : (c : tie.After-position-from) → let s = c.before.before.before in
+found : (c : tie.After-position_from) → let s = c in
     position (slice 32 40 s.args.numbers.now) s.args.coordinates.now ≡ c.position_from.result
 found c =
-    let n = c.before in
-    let s = n.before.before in
+    let n = c in
+    let s = n in
     let lengths = slice 32 40 s.args.numbers.now in
     let room = roomed lengths s.requires.0 in
     sym
     (c.position_from.ensures
-    ∙ position_back _ (position_small lengths _ (omega (arith, room.few))) n.number-among.ensures
+    ∙ position_back _ (position_small lengths _ (omega (arith, room.few))) n.number_among.ensures
     ∙ ap (position lengths) (take_whole 8 s.args.coordinates.now s.requires.1))
 
-returns : tie.Need-returns
-returns c = rw (found c.before.before.before, c.before.number.given.1)
+returns : tie.Need-returns-in-At
+returns c = rw (found c.before, c.in-At.is)
 
-returns_2 : tie.Need-returns-2
-returns_2 c = rw (found c.before.before.before, c.before.axis.given.1)
+returns_2 : tie.Need-returns-in-Past
+returns_2 c = rw (found c.before, c.in-Past.is)
 
 pub spot_at_spec : {M : Type 1} → statement M
 spot_at_spec = tie.close (tie.spec number_among_requires (λ c κs. search rules) (λ c. search rules) (λ c. search rules) returns returns_2)

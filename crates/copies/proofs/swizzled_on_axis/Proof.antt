@@ -10,24 +10,24 @@ use Rattle.copies.proofs.Below.{from_zero, below_swizzled, natural_swizzled}
 use Rattle.copies.proofs.swizzled_on_axis.Statement.{statement}
 use Rattle.copies.proofs.swizzled_on_axis.Tie as tie
 
-natural : (c : tie.Else1) → T (non_neg c.before.args.sum)
-natural c = let s = c.before in from_zero s.args.sum (rw (to_z-of_z s.ranges.sum) at c.if1.false)
+natural : (c : tie.Else-sum-lt0) → T (non_neg c.args.sum)
+natural c = let s = c in from_zero s.args.sum (rw (to_z-of_z s.ranges.sum) at c.if-sum-lt0.false)
 
-cast_swizzle_permitted : tie.Need-overflow-cast-swizzle-permitted
+cast_swizzle_permitted : tie.Need-overflow_cast-sum
 cast_swizzle_permitted c =
-    let e = c.before.before.before in
-    let s = e.before in
-    rw (to_z-of_z s.ranges.sum) (natural e, Fits-nat_abs {w = w64} tt s.ranges.sum)
+    let e = c in
+    let s = e in
+    rw (to_z-of_z s.ranges.sum) (natural e.before.before.before.before, Fits-nat_abs {w = w64} tt s.ranges.sum)
 
-returns : tie.Need-returns
-returns c = let s = c.before in below_swizzled _ s.args.sum (rw (to_z-of_z s.ranges.sum) at c.if1.true)
+returns : tie.Need-returns-then-sum-lt0
+returns c = let s = c in below_swizzled _ s.args.sum (rw (to_z-of_z s.ranges.sum) at c.if-sum-lt0.true)
 
-returns_2 : tie.Need-returns-2
+returns_2 : tie.Need-returns-else-sum-lt0
 returns_2 c =
-    let e = c.before.before.before.before in
-    let s = e.before in
+    let e = c in
+    let s = e in
     let w = swizzle_of s.args.numbers.now in
-    rw (to_z-of_z s.ranges.sum) at c.swizzle-permitted.ensures ∙ natural_swizzled w s.args.sum (natural e)
+    rw (to_z-of_z s.ranges.sum) at c.swizzle_permitted.ensures ∙ natural_swizzled w s.args.sum (natural e.before.before.before.before.before)
 
 pub swizzled_on_axis_spec : {M : Type 1} → statement M
 swizzled_on_axis_spec =

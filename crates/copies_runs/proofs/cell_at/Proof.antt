@@ -10,25 +10,25 @@ use Rattle.copies_runs.proofs.Cells.{natural_m, on_m_is}
 use Rattle.copies_runs.proofs.cell_at.Statement.{statement}
 use Rattle.copies_runs.proofs.cell_at.Tie as tie
 
-abbrev start : tie.After-swizzle-permitted → tie.Start
+abbrev start : tie.After-swizzle_permitted-on_m → tie.Start
 start c = c.before
 
 -- what the machine finds on m, and what it adds up to
-on_m_lem : (c : tie.After-swizzle-permitted) → c.swizzle-permitted.result ≡ (start c).requires.on-m
+on_m_lem : (c : tie.After-swizzle_permitted-on_m) → c.swizzle_permitted-on_m.result ≡ (start c).requires.on-m
 on_m_lem c =
     let s = start c in
-    rw (to_z-of_z s.fits.m) at c.swizzle-permitted.ensures ∙ on_m_is s.args.by s.args.m s.pre.on-m s.pre.m_there
+    rw (to_z-of_z s.fits.m) at c.swizzle_permitted-on_m.ensures ∙ on_m_is s.args.by s.args.m s.requires.on-m s.requires.m_there
 
-adds_up : (c : tie.After-swizzle-permitted) → to_z w64 (of_z w64 (start c).args.level) +ℤ to_z w64 c.swizzle-permitted.result ≡ pos (start c).requires.cell
+adds_up : (c : tie.After-swizzle_permitted-on_m) → to_z w64 (of_z w64 (start c).args.level) +ℤ to_z w64 c.swizzle_permitted-on_m.result ≡ pos (start c).requires.cell
 adds_up c =
     let s = start c in
-    ap₂ (λ (a b : ℤ). a +ℤ b) (to_z-of_z s.fits.level) (to_z_pos w64 (omega (arith, on_m_lem c, s.pre.short)) ∙ ap pos (on_m_lem c)) ∙ sym s.pre.there
+    ap₂ (λ (a b : ℤ). a +ℤ b) (to_z-of_z s.fits.level) (to_z_pos w64 (omega (arith, on_m_lem c, s.requires.short)) ∙ ap pos (on_m_lem c)) ∙ sym s.requires.there
 
-cell_back : (c : tie.After-swizzle-permitted)
-    → to_z w64 (of_z w64 (to_z w64 (of_z w64 (start c).args.level) +ℤ to_z w64 c.swizzle-permitted.result)) ≡ pos (start c).requires.cell
+cell_back : (c : tie.After-swizzle_permitted-on_m)
+    → to_z w64 (of_z w64 (to_z w64 (of_z w64 (start c).args.level) +ℤ to_z w64 c.swizzle_permitted-on_m.result)) ≡ pos (start c).requires.cell
 cell_back c = ap (λ (z : ℤ). to_z w64 (of_z w64 z)) (adds_up c) ∙ to_z-of_z (far_fits {x = pos (start c).requires.cell} (omega (arith, (start c).requires.few)))
 
-cast_swizzle_permitted : tie.Need-overflow-cast-swizzle-permitted
+cast_swizzle_permitted : tie.Need-overflow_cast-m
 cast_swizzle_permitted c =
     let s = c in
     rw (to_z-of_z s.ranges.m)
@@ -37,7 +37,7 @@ cast_swizzle_permitted c =
 returns : tie.Need-returns
 returns c =
     let s = start c in
-    ap (λ (z : ℤ). pos (nat_abs z)) (cell_back c) ∙ s.pre.there ∙ ap (λ (z : ℤ). s.args.level +ℤ z) (sym s.pre.m_there)
+    ap (λ (z : ℤ). pos (nat_abs z)) (cell_back c) ∙ s.requires.there ∙ ap (λ (z : ℤ). s.args.level +ℤ z) (sym s.requires.m_there)
 
 pub cell_at_spec : {M : Type 1} → statement M
 cell_at_spec =

@@ -15,28 +15,28 @@ use Rattle.copies_runs.proofs.Cells.{sum_fits, sum_back, filled_none, filled_mor
 use Rattle.copies_runs.proofs.fill.Statement.{statement}
 use Rattle.copies_runs.proofs.fill.Tie as tie
 
-abbrev invariant_loop : tie.invariant_loop
+abbrev invariant_loop : tie.invariant-loop-combination
 invariant_loop numbers level m levels ms row₀ by combination₀ row combination =
     (combination ≤ length row₀) × FilledTo numbers (to_z w64 level) (to_z w64 m) levels ms row₀ row combination
 
-abbrev decreases_loop : tie.decreases_loop
+abbrev decreases_loop : tie.decreases-loop-combination
 decreases_loop numbers level m levels ms row₀ by combination₀ row combination = length row₀ - combination
 
-abbrev start : tie.In-loop invariant_loop decreases_loop → tie.Start invariant_loop decreases_loop
+abbrev start : tie.In-loop-combination invariant_loop decreases_loop → tie.Start invariant_loop decreases_loop
 start t = t.before.before.before.before
 
 -- a turn is at a copy of the row
-below : (t : tie.In-loop invariant_loop decreases_loop) → t.before.loop.combination < length (start t).args.row.now
-below t = omega (arith, t.loop-test.true, t.before.loop.invariant.1.size)
+below : (t : tie.In-loop-combination invariant_loop decreases_loop) → t.loop-combination.combination < length (start t).args.row.now
+below t = omega (arith, t.loop-combination-test.true, t.loop-combination.invariant.1.size)
 
-loop_holds : tie.Need-loop-init invariant_loop decreases_loop
+loop_holds : tie.Need-loop-combination-init invariant_loop decreases_loop
 loop_holds c =
-    let a = c.before.before.args in
+    let a = c.args in
     (omega arith, filled_none a.numbers.now _ _ a.levels.now a.ms.now a.row.now)
 
 -- a level and an m with those of a copy
-module _ (c : tie.After-cell-at-arg2 invariant_loop decreases_loop) where
-  abbrev turn : tie.In-loop invariant_loop decreases_loop
+module _ (c : tie.After-cell_at-arg-in-loop-combination-1 invariant_loop decreases_loop) where
+  abbrev turn : tie.In-loop-combination invariant_loop decreases_loop
   turn = c.before.before
 
   abbrev k : ℕ
@@ -57,32 +57,32 @@ module _ (c : tie.After-cell-at-arg2 invariant_loop decreases_loop) where
       sum_back s.args.m (get_or s.args.ms.now k (pos 0)) s.fits.m (record { sfits = c.cell-at-arg2.given })
       s.pre.m_near (s.pre.ms_near k (below turn))
 
-add_cell_at : tie.Need-overflow-add-cell-at invariant_loop decreases_loop
+add_cell_at : tie.Need-overflow_add-level invariant_loop decreases_loop
 add_cell_at c =
-    let t = c.before in
-    let s = start t in
-    let k = t.before.loop.combination in
-    sum_fits s.args.level (get_or s.args.levels.now k (pos 0)) s.fits.level (record { sfits = c.cell-at-arg.given })
-    s.pre.near (s.pre.levels_near k (below t))
+    let t = c in
+    let s = start t.before in
+    let k = t.loop-combination.combination in
+    sum_fits s.args.level (get_or s.args.levels.now k (pos 0)) s.fits.level (record { sfits = c.cell_at-arg-1.given })
+    s.requires.near (s.requires.levels_near k (below t.before))
 
-add_cell_at_2 : tie.Need-overflow-add-cell-at-2 invariant_loop decreases_loop
+add_cell_at_2 : tie.Need-overflow_add-m invariant_loop decreases_loop
 add_cell_at_2 c =
-    let t = c.before.before in
-    let s = start t in
-    let k = t.before.loop.combination in
-    sum_fits s.args.m (get_or s.args.ms.now k (pos 0)) s.fits.m (record { sfits = c.cell-at-arg2.given })
-    s.pre.m_near (s.pre.ms_near k (below t))
+    let t = c in
+    let s = start t.before.before in
+    let k = t.loop-combination.combination in
+    sum_fits s.args.m (get_or s.args.ms.now k (pos 0)) s.fits.m (record { sfits = c.cell_at-arg-in-loop-combination-1.given })
+    s.requires.m_near (s.requires.ms_near k (below t.before.before))
 
-cell_at_requires : tie.Need-cell-at-requires invariant_loop decreases_loop
+cell_at_requires : tie.Need-cell_at-cell-requires invariant_loop decreases_loop
 cell_at_requires c κs =
-    let t = c.before.before in
+    let t = c in
     rw (level_back c, m_back c)
     (subst (λ (w : Swizzle). CellThere w ((s c).args.level +ℤ get_or (s c).args.levels.now (k c) (pos 0)) ((s c).args.m +ℤ get_or (s c).args.ms.now (k c) (pos 0)))
-    (sym t.before.before.swizzle-of.ensures) ((start t).requires.cells (k c) (below t)))
+    (sym t.swizzle_of-by.ensures) ((start t.before.before).requires.cells (k c) (below t.before.before)))
 
 -- the cell that was found
-module _ (f : tie.After-cell-at invariant_loop decreases_loop) where
-  abbrev d : tie.After-cell-at-arg2 invariant_loop decreases_loop
+module _ (f : tie.After-cell_at-cell invariant_loop decreases_loop) where
+  abbrev d : tie.After-cell_at-arg-in-loop-combination-1 invariant_loop decreases_loop
   d = f.before
 
   abbrev level : ℤ
@@ -100,31 +100,31 @@ module _ (f : tie.After-cell-at invariant_loop decreases_loop) where
       let same : f.Cell-at.result.0 ≡ c.cell = ap nat_abs (found ∙ ap (λ (z : ℤ). level +ℤ z) c.m_there ∙ sym c.there) in
       omega (arith, same, c.few)
 
-loop_again : tie.Need-loop-preserved invariant_loop decreases_loop
+loop_again : tie.Need-loop-combination-preserved invariant_loop decreases_loop
 loop_again c =
-    let f = c.before in
-    let d = f.before in
-    let t = d.before.before in
-    let s = start t in
-    let l = t.before.loop in
+    let f = c in
+    let d = f in
+    let t = d in
+    let s = start t.before.before.before.before in
+    let l = t.loop-combination in
     let a = s.args in
     let level_is = to_z-of_z s.fits.level in
     let m_is = to_z-of_z s.fits.m in (
-      omega (arith, below t),
+      omega (arith, below t.before.before.before.before),
       filled_more a.numbers.now (to_z w64 (of_z w64 a.level)) (to_z w64 (of_z w64 a.m)) a.levels.now a.ms.now a.row.now l.row l.combination f.Cell-at.result.0
-          (below t) l.invariant.1 (rw (level_is, m_is) (found f)),
+          (below t.before.before.before.before) l.invariant.1 (rw (level_is, m_is) (found f)),
     )
 
 returns : tie.Need-returns invariant_loop decreases_loop
 returns c =
-    let l = c.before.loop in
-    let s = c.before.before.before.before in
+    let l = c.loop-combination in
+    let s = c in
     let end : l.combination ≡ length s.args.row.now = omega (arith, l.invariant.1.size) in
     rw (to_z-of_z s.ranges.level, to_z-of_z s.ranges.m, end) at l.invariant.1
 
 pub fill_spec : {M : Type 1} → statement M
 fill_spec =
     tie.close
-    (tie.spec invariant_loop decreases_loop (λ c κs. c.before.requires.whole) loop_holds (λ c. omega arith) (λ c. omega (arith, below c, (start c).requires.levels_size)) add_cell_at
-    (λ c. omega arith) (λ c. omega (arith, below c.before, (start c.before).pre.ms_size)) add_cell_at_2 cell_at_requires (λ c. omega (arith, small c.before)) (λ c. omega arith)
-    (λ c. omega arith) (λ c. omega arith) (λ c. omega arith) loop_again (λ c. c.before.loop.invariant.1.size) returns)
+    (tie.spec invariant_loop decreases_loop (λ c κs. c.requires.whole) loop_holds (λ c. omega arith) (λ c. omega (arith, below c, (start c).requires.levels_size)) add_cell_at
+    (λ c. omega arith) (λ c. omega (arith, below c.before, (start c.before).requires.ms_size)) add_cell_at_2 cell_at_requires (λ c. omega (arith, small c.before)) (λ c. omega arith)
+    (λ c. omega arith) (λ c. omega arith) (λ c. omega arith) loop_again (λ c. c.loop-combination.invariant.1.size) returns)

@@ -14,43 +14,43 @@ use Rattle.copies_runs.proofs.Cells.{copies_none, copies_more}
 use Rattle.copies_runs.proofs.put_copies.Statement.{statement}
 use Rattle.copies_runs.proofs.put_copies.Tie as tie
 
-abbrev invariant_loop : tie.invariant_loop
+abbrev invariant_loop : tie.invariant-loop-combination
 invariant_loop numbers strides levels₀ ms₀ combination₀ levels ms combination =
     (combination ≤ length levels₀) × CopiesTo (card_of numbers strides) (length levels₀) combination levels ms
 
-abbrev decreases_loop : tie.decreases_loop
+abbrev decreases_loop : tie.decreases-loop-combination
 decreases_loop numbers strides levels₀ ms₀ combination₀ levels ms combination = length levels₀ - combination
 
 abbrev card : tie.Start invariant_loop decreases_loop → Card
 card s = card_of s.args.numbers.now s.args.strides.now
 
-abbrev start : tie.In-loop invariant_loop decreases_loop → tie.Start invariant_loop decreases_loop
+abbrev start : tie.In-loop-combination invariant_loop decreases_loop → tie.Start invariant_loop decreases_loop
 start t = t.before.before
 
-below : (t : tie.In-loop invariant_loop decreases_loop) → t.before.loop.combination < length (start t).args.levels.now
-below t = omega (arith, t.loop-test.true, t.before.loop.invariant.1.levels_size)
+below : (t : tie.In-loop-combination invariant_loop decreases_loop) → t.loop-combination.combination < length (start t).args.levels.now
+below t = omega (arith, t.loop-combination-test.true, t.loop-combination.invariant.1.levels_size)
 
-loop_holds : tie.Need-loop-init invariant_loop decreases_loop
+loop_holds : tie.Need-loop-combination-init invariant_loop decreases_loop
 loop_holds c = (omega arith, copies_none (card c) (length c.args.levels.now) c.args.levels.now c.args.ms.now refl c.requires.1)
 
-abbrev turn : tie.After-struct-told2 invariant_loop decreases_loop → tie.In-loop invariant_loop decreases_loop
+abbrev turn : tie.After-struct_told-in-loop-combination-1 invariant_loop decreases_loop → tie.In-loop-combination invariant_loop decreases_loop
 turn c = c.before.before.before
 
-loop_again : tie.Need-loop-preserved invariant_loop decreases_loop
+loop_again : tie.Need-loop-combination-preserved invariant_loop decreases_loop
 loop_again c =
     let t = turn c in
     let s = start t in
-    let l = t.before.loop in (
+    let l = t.loop-combination in (
       omega (arith, below t),
-      copies_more (card s) (length s.args.levels.now) l.levels l.ms l.combination _ _ (below t) l.inv.1
-          (to_z-of_z {w = w64} {z = c.before.before.added.result.level} (record { sfits = c.before.struct_told.given.0.1 }) ∙ c.before.before.added.ensures.level_is)
-          (to_z-of_z {w = w64} {z = c.before.before.added.result.m} (record { sfits = c.before.struct_told.given.1.0.1 }) ∙ c.before.before.added.ensures.m_is),
+      copies_more (card s) (length s.args.levels.now) l.levels l.ms l.combination _ _ (below t) l.invariant.1
+          (to_z-of_z {w = w64} {z = c.added-copy.result.level} (record { sfits = c.struct_told-1.given.0.1 }) ∙ c.added-copy.ensures.level_is)
+          (to_z-of_z {w = w64} {z = c.added-copy.result.m} (record { sfits = c.struct_told-1.given.1.0.1 }) ∙ c.added-copy.ensures.m_is),
     )
 
 returns : tie.Need-returns invariant_loop decreases_loop
 returns c =
-    let l = c.before.loop in
-    let s = c.before.before in
+    let l = c.loop-combination in
+    let s = c in
     let end : l.combination ≡ length s.args.levels.now = omega (arith, l.invariant.1.levels_size) in
     rw end at l.invariant.1
 
@@ -58,6 +58,6 @@ pub put_copies_spec : {M : Type 1} → statement M
 put_copies_spec =
     tie.close
     (tie.spec invariant_loop decreases_loop loop_holds (λ c κs. ((start c).requires.0, omega arith)) (λ c. omega (arith, below (turn c))) (λ c. omega (arith, below (turn c)))
-    (λ c. omega (arith, below (turn c))) (λ c. omega (arith, below (turn c), (turn c).before.loop.invariant.1.ms_size)) (λ c. omega (arith, below (turn c)))
-    (λ c. omega (arith, below (turn c))) loop_again (λ c. c.before.loop.invariant.1.levels_size) (λ c. c.before.loop.invariant.1.ms_size ∙ sym c.before.before.requires.1)
+    (λ c. omega (arith, below (turn c))) (λ c. omega (arith, below (turn c), (turn c).loop-combination.invariant.1.ms_size)) (λ c. omega (arith, below (turn c)))
+    (λ c. omega (arith, below (turn c))) loop_again (λ c. c.loop-combination.invariant.1.levels_size) (λ c. c.loop-combination.invariant.1.ms_size ∙ sym c.requires.1)
     returns)

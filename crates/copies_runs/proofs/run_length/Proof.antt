@@ -21,10 +21,10 @@ use Rattle.copies_runs.proofs.run_length.Tie as tie
 abbrev from : List ℕ → List ℤ → ℕ → List Iter
 from numbers strides k = slice k (get_or numbers 40 0) (map (iter_at numbers strides 0) slots)
 
-abbrev invariant_loop : tie.invariant_loop
+abbrev invariant_loop : tie.invariant-loop-k
 invariant_loop numbers k₀ k = (k ≤ get_or numbers 40 0) × ((strides : List ℤ) → run_length (from numbers strides k) ≡ 1)
 
-abbrev decreases_loop : tie.decreases_loop
+abbrev decreases_loop : tie.decreases-loop-k
 decreases_loop numbers k₀ k = k
 
 next : (numbers : List ℕ) (strides : List ℤ) (k : ℕ) → k < get_or numbers 40 0 → get_or numbers 40 0 ≤ 8 → from numbers strides k ≡ iter_at numbers strides 0 k ∷ from numbers strides (k + 1)
@@ -36,31 +36,31 @@ next numbers strides k h few =
     ∙ ap (λ (i : Iter). i ∷ slice (k + 1) count at) (eight_at (iter_at numbers strides 0) none k (omega arith))
 
 -- the iter that a turn passes
-turn : (t : tie.In-loop invariant_loop decreases_loop) (strides : List ℤ) → let numbers = t.before.before.before.args.numbers.now in
-    run_length (from numbers strides (t.before.loop.k - 1)) ≡ get_or numbers (t.before.loop.k - 1) 0
+turn : (t : tie.In-loop-k invariant_loop decreases_loop) (strides : List ℤ) → let numbers = t.args.numbers.now in
+    run_length (from numbers strides (t.loop-k.k - 1)) ≡ get_or numbers (t.loop-k.k - 1) 0
 turn t strides =
-    let numbers = t.before.before.before.args.numbers.now in
-    let k = t.before.loop.k in
+    let numbers = t.args.numbers.now in
+    let k = t.loop-k.k in
     let back : k ≡ k - 1 + 1 = omega arith in
-    ap run_length (next numbers strides (k - 1) (omega arith) t.before.before.before.requires.few)
-    ∙ run_next (iter_at numbers strides 0 (k - 1)) (from numbers strides (k - 1 + 1)) (rw back at (t.before.loop.invariant.1 strides))
+    ap run_length (next numbers strides (k - 1) (omega arith) t.requires.few)
+    ∙ run_next (iter_at numbers strides 0 (k - 1)) (from numbers strides (k - 1 + 1)) (rw back at (t.loop-k.invariant.1 strides))
     ∙ ap (λ (n : ℕ). get_or numbers n 0) (omega arith)
 
-loop_holds : tie.Need-loop-init invariant_loop decreases_loop
-loop_holds c = (omega arith, λ strides. ap run_length (slice_empty (get_or c.before.args.numbers.now 40 0) (map (iter_at c.before.args.numbers.now strides 0) slots)))
+loop_holds : tie.Need-loop-k-init invariant_loop decreases_loop
+loop_holds c = (omega arith, λ strides. ap run_length (slice_empty (get_or c.args.numbers.now 40 0) (map (iter_at c.args.numbers.now strides 0) slots)))
 
-returns : tie.Need-returns invariant_loop decreases_loop
+returns : tie.Need-returns-then-extent-ne1 invariant_loop decreases_loop
 returns c strides =
-    let t = c.before.before in
-    let numbers = t.before.before.before.args.numbers.now in
-    sym (run_behind (t.before.loop.k - 1) (from numbers strides 0) (λ e. c.if1.true (sym (turn t strides) ∙ e)) ∙ turn t strides)
+    let t = c in
+    let numbers = t.args.numbers.now in
+    sym (run_behind (t.loop-k.k - 1) (from numbers strides 0) (λ e. c.if-extent-ne1.true (sym (turn t.before.before.before strides) ∙ e)) ∙ turn t.before.before.before strides)
 
-loop_again : tie.Need-loop-preserved invariant_loop decreases_loop
-loop_again c = (omega arith, λ strides. turn c.before.before strides ∙ c.if1.false)
+loop_again : tie.Need-loop-k-preserved invariant_loop decreases_loop
+loop_again c = (omega arith, λ strides. turn c.before.before.before strides ∙ c.if-extent-ne1.false)
 
-returns_2 : tie.Need-returns-2 invariant_loop decreases_loop
+returns_2 : tie.Need-returns invariant_loop decreases_loop
 returns_2 c strides =
-    let l = c.before.loop in
+    let l = c.loop-k in
     let end : l.k ≡ 0 = omega arith in
     sym (rw end at (l.invariant.1 strides))
 

@@ -26,13 +26,13 @@ added_back c = to_z-of_z (far_fits {x = added c} (omega (arith, added_far c, c.r
 sum_fits : (c : tie.Start) → SFits w64 (c.args.sum +ℤ added c)
 sum_fits c = far_fits (omega (arith, sum_far c.args.sum (added c), c.requires.room, added_far c))
 
-cast_result : tie.Need-overflow-cast-result
+cast_result : tie.Need-overflow_cast-result
 cast_result c = far_fits (omega (arith, c.requires.small_component))
 
-mul_result : tie.Need-overflow-mul-result
+mul_result : tie.Need-overflow_mul-result
 mul_result c = rw (component_back c, to_z-of_z c.ranges.stride) (far_fits {x = added c} (omega (arith, added_far c, c.requires.room)))
 
-add_result : tie.Need-overflow-add-result
+add_result : tie.Need-overflow_add-result
 add_result c = rw (component_back c, to_z-of_z c.ranges.stride, added_back c, to_z-of_z c.ranges.sum) (sum_fits c)
 
 returns : tie.Need-returns

@@ -6,5 +6,5 @@ use Rattle.dealing.proofs.is_of_sort.Tie as tie
 pub is_of_sort_spec : {M : Type 1} → statement M
 is_of_sort_spec =
     tie.close
-    (tie.spec (λ c. search rules) (λ c. search rules) (λ c. search rules) (λ c. search rules) (λ c. rw c.enum-told2.given.1)
-    (λ c. rw c.enum-told3.given.1))
+    (tie.spec (λ c. search rules) (λ c. search rules) (λ c. search rules) (λ c. search rules) (λ c. rw c.in-Single.is)
+    (λ c. rw c.in-Double.is))

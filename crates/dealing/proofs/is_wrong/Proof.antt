@@ -10,10 +10,10 @@ use Rattle.dealing.proofs.is_wrong.Tie as tie
 
 returns : tie.Need-returns
 returns c =
-    let a = c.before.before.args in
-    let own : ltb c.before.source.result 64 ≡ is_own a.kind a.computation (a.n / 8) (a.n % 8) =
-    ap (λ (p : ℕ). ltb p 64) c.before.source.ensures ∙ sym (own_source a.kind a.computation (a.n / 8) (a.n % 8)) in
-    rw (own, c.is-of-sort.ensures)
+    let a = c.args in
+    let own : ltb c.source-p.result 64 ≡ is_own a.kind a.computation (a.n / 8) (a.n % 8) =
+    ap (λ (p : ℕ). ltb p 64) c.source-p.ensures ∙ sym (own_source a.kind a.computation (a.n / 8) (a.n % 8)) in
+    rw (own, c.is_of_sort.ensures)
 
 pub is_wrong_spec : {M : Type 1} → statement M
 is_wrong_spec = tie.close (tie.spec (λ c κs. search rules) (λ c κs. search rules) returns)

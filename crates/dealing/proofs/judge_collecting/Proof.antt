@@ -5,11 +5,11 @@ use Rattle.values.specs.declared.Moved.TheVariants.{Refused}
 use Rattle.dealing.proofs.judge_collecting.Statement.{statement}
 use Rattle.dealing.proofs.judge_collecting.Tie as tie
 
-returns : tie.Need-returns
-returns c = rw (sym c.before.before.is-matrix.ensures ∙ c.before.if1.true) c.judge.ensures
+returns : tie.Need-returns-then-is_matrix
+returns c = rw (sym c.is_matrix.ensures ∙ c.if-is_matrix.true) c.judge.ensures
 
 pub judge_collecting_spec : {M : Type 1} → statement M
 judge_collecting_spec =
     tie.close
     (tie.spec (λ c κs. search rules) (λ c κs. search rules) (λ c κs. search rules)
-    returns (λ c. rw (sym c.before.before.is-matrix.ensures ∙ c.before.if1.false) (ap Refused c.outside.ensures)))
+    returns (λ c. rw (sym c.is_matrix.ensures ∙ c.if-is_matrix.false) (ap Refused c.outside.ensures)))

@@ -9,16 +9,16 @@ use Rattle.values.proofs.Sorts.{judged_dealt, lanes_alike}
 use Rattle.dealing.proofs.judge_dealing.Statement.{statement}
 use Rattle.dealing.proofs.judge_dealing.Tie as tie
 
-returns : tie.Need-returns
+returns : tie.Need-returns-then-is_matrix
 returns c =
-    let a = c.before.before.before.before.args in
-    rw (sym c.before.before.before.is-matrix.ensures ∙ c.before.before.if1.true)
+    let a = c.args in
+    rw (sym c.is_matrix.ensures ∙ c.if-is_matrix.true)
     (c.judge.ensures
-    ∙ ap (λ lanes. judged a.kind a.computation (entry Empty lanes)) c.before.dealt-lanes.ensures
+    ∙ ap (λ lanes. judged a.kind a.computation (entry Empty lanes)) c.dealt_lanes.ensures
     ∙ judged_dealt a.kind a.computation a.tile _ (lanes_alike Empty))
 
-returns_2 : tie.Need-returns-2
-returns_2 c = rw (sym c.before.before.is-matrix.ensures ∙ c.before.if1.false) (ap Refused c.outside.ensures)
+returns_2 : tie.Need-returns-else-is_matrix
+returns_2 c = rw (sym c.is_matrix.ensures ∙ c.if-is_matrix.false) (ap Refused c.outside.ensures)
 
 pub judge_dealing_spec : {M : Type 1} → statement M
 judge_dealing_spec =

@@ -4,13 +4,13 @@ use borrow.Author.Rules.{rules}
 use Rattle.dealing_holdings.proofs.collect.Statement.{statement}
 use Rattle.dealing_holdings.proofs.collect.Tie as tie
 
-returns : tie.Need-returns
+returns : tie.Need-returns-in-Done
 returns c =
-    rw (sym c.before.before.before.before.judge-collecting.ensures ∙ c.before.before.enum_told.given.1, sym c.before.lanes-of.ensures)
-    c.collected-tile.ensures
+    rw (sym c.judge_collecting.ensures ∙ c.in-Done.is, sym c.lanes_of.ensures)
+    c.collected_tile.ensures
 
 pub collect_spec : {M : Type 1} → statement M
 collect_spec =
     tie.close
     (tie.spec (λ c κs. search rules) (λ c. search rules) (λ c κs. search rules) (λ c κs. search rules) (λ c. search rules)
-    returns (λ c. rw (sym c.before.before.judge-collecting.ensures ∙ c.enum-told2.given.1)))
+    returns (λ c. rw (sym c.judge_collecting.ensures ∙ c.in-Refused.is)))

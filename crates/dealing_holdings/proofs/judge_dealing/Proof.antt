@@ -9,5 +9,5 @@ use Rattle.dealing_holdings.proofs.judge_dealing.Tie as tie
 pub judge_dealing_spec : {M : Type 1} → statement M
 judge_dealing_spec =
     tie.close
-    (tie.spec (λ c κs. search rules) (λ c κs. search rules) (λ c. rw (lt-ltb 5 c.before.before.args.kind c.before.if1.true) c.judge-dealing.ensures)
-    (λ c. rw (le-ltb 5 c.before.before.args.kind c.before.if1.false) (ap Refused c.outside.ensures)))
+    (tie.spec (λ c κs. search rules) (λ c κs. search rules) (λ c. rw (lt-ltb 5 c.args.kind c.if-kind-gt5.true) c.judge_dealing.ensures)
+    (λ c. rw (le-ltb 5 c.args.kind c.if-kind-gt5.false) (ap Refused c.outside.ensures)))

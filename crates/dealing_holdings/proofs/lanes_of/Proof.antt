@@ -20,30 +20,30 @@ empty = replicate 32 (replicate 8 Empty)
 abbrev lane_of : ℕ → List Holding → ℕ → List Register → List Register
 lane_of kind holdings k r = get_or (map (registers_of kind) holdings) k []
 
-abbrev invariant_loop : tie.invariant_loop
+abbrev invariant_loop : tie.invariant-loop-lane
 invariant_loop kind holdings lanes₀ lane₀ lanes lane = (length holdings ≡ 32) × Anew 32 (lane_of kind holdings) empty lanes lane
 
-abbrev decreases_loop : tie.decreases_loop
+abbrev decreases_loop : tie.decreases-loop-lane
 decreases_loop kind holdings lanes₀ lane₀ lanes lane = 32 - lane
 
-loop_holds : tie.Need-loop-init invariant_loop decreases_loop
-loop_holds c = (search (rules, length_of), anew_none [] 32 (lane_of c.args.kind c.args.t2) empty (length-replicate 32 (replicate 8 Empty)))
+loop_holds : tie.Need-loop-lane-init invariant_loop decreases_loop
+loop_holds c = (search (rules, length_of), anew_none [] 32 (lane_of c.args.kind c.args.holdings) empty (length-replicate 32 (replicate 8 Empty)))
 
-loop_again : tie.Need-loop-preserved invariant_loop decreases_loop
+loop_again : tie.Need-loop-lane-preserved invariant_loop decreases_loop
 loop_again c =
-    let a = c.before.before.before.before.args in
-    let l = c.before.before.before.loop in (
+    let a = c.args in
+    let l = c.loop-lane in (
       l.invariant.0,
-      anew_next [] 32 (lane_of a.kind a.t2) empty l.lanes l.lane c.registers-of.result l.invariant.1 c.before.before.loop-test.true
-          (c.registers-of.ensures ∙ map_at (registers_of a.kind) a.t2 l.lane _ [] (omega (arith, l.invariant.0))),
+      anew_next [] 32 (lane_of a.kind a.holdings) empty l.lanes l.lane c.registers_of.result l.invariant.1 c.loop-lane-test.true
+          (c.registers_of.ensures ∙ map_at (registers_of a.kind) a.holdings l.lane _ [] (omega (arith, l.invariant.0))),
     )
 
 returns : tie.Need-returns invariant_loop decreases_loop
 returns c =
-    let a = c.before.before.args in
-    let l = c.before.loop in
-    anew_all [] 32 (lane_of a.kind a.t2) empty l.lanes l.lane l.invariant.1 c.loop-test.false
-    ∙ sym (each_equal [] (lane_of a.kind a.t2) empty (map (registers_of a.kind) a.t2) (length-map a.t2 (registers_of a.kind) ∙ l.invariant.0) (λ k h. refl))
+    let a = c.args in
+    let l = c.loop-lane in
+    anew_all [] 32 (lane_of a.kind a.holdings) empty l.lanes l.lane l.invariant.1 c.loop-lane-test.false
+    ∙ sym (each_equal [] (lane_of a.kind a.holdings) empty (map (registers_of a.kind) a.holdings) (length-map a.holdings (registers_of a.kind) ∙ l.invariant.0) (λ k h. refl))
 
 pub lanes_of_spec : {M : Type 1} → statement M
 lanes_of_spec =

@@ -4,13 +4,13 @@ use borrow.Author.Tests.{eq-eqb, ne_eqb}
 use Rattle.dealing_holdings.proofs.registers_of.Statement.{statement}
 use Rattle.dealing_holdings.proofs.registers_of.Tie as tie
 
-returns_2 : tie.Need-returns-2
-returns_2 c = rw (ne_eqb _ _ c.before.if1.false, eq-eqb _ _ c.if2.true)
+returns_2 : tie.Need-returns-then-kind-eq7
+returns_2 c = rw (ne_eqb _ _ c.if-kind-eq6.false, eq-eqb _ _ c.if-kind-eq7.true)
 
-returns_3 : tie.Need-returns-3
-returns_3 c = rw (ne_eqb _ _ c.before.if1.false, ne_eqb _ _ c.if2.false)
+returns_3 : tie.Need-returns
+returns_3 c = rw (ne_eqb _ _ c.if-kind-eq6.false, ne_eqb _ _ c.if-kind-eq7.false)
 
 pub registers_of_spec : {M : Type 1} → statement M
 registers_of_spec =
     tie.close
-    (tie.spec (λ c. search rules) (λ c. rw (eq-eqb _ _ c.if1.true)) (λ c. search rules) returns_2 (λ c. search rules) (λ c. search rules) returns_3)
+    (tie.spec (λ c. search rules) (λ c. rw (eq-eqb _ _ c.if-kind-eq6.true)) (λ c. search rules) returns_2 (λ c. search rules) (λ c. search rules) returns_3)

@@ -16,27 +16,27 @@ use Rattle.dealing_holdings.proofs.with_lanes.Tie as tie
 none : Holding
 none = holding nan nan nan nan
 
-abbrev invariant_loop : tie.invariant_loop
+abbrev invariant_loop : tie.invariant-loop-lane
 invariant_loop kind given lanes holdings₀ lane₀ holdings lane = Anew 32 (λ k h. with_registers kind h (get_or lanes k [])) given holdings lane
 
-abbrev decreases_loop : tie.decreases_loop
+abbrev decreases_loop : tie.decreases-loop-lane
 decreases_loop kind given lanes holdings₀ lane₀ holdings lane = 32 - lane
 
-loop_holds : tie.Need-loop-init invariant_loop decreases_loop
-loop_holds c = anew_none none 32 _ c.args.t2 (search (rules, length_of))
+loop_holds : tie.Need-loop-lane-init invariant_loop decreases_loop
+loop_holds c = anew_none none 32 _ c.args.given (search (rules, length_of))
 
-loop_again : tie.Need-loop-preserved invariant_loop decreases_loop
+loop_again : tie.Need-loop-lane-preserved invariant_loop decreases_loop
 loop_again c =
-    let a = c.before.before.before.before.before.args in
-    let l = c.before.before.before.before.loop in
-    anew_next _ 32 (λ k h. with_registers a.kind h (get_or a.t3 k [])) a.t2 l.holdings l.lane c.with-registers.result l.invariant
-    c.before.before.before.loop-test.true c.with-registers.ensures
+    let a = c.args in
+    let l = c.loop-lane in
+    anew_next _ 32 (λ k h. with_registers a.kind h (get_or a.lanes k [])) a.given l.holdings l.lane c.with_registers.result l.invariant
+    c.loop-lane-test.true c.with_registers.ensures
 
 returns : tie.Need-returns invariant_loop decreases_loop
 returns c =
-    let a = c.before.before.args in
-    let l = c.before.loop in
-    anew_all none 32 (λ k h. with_registers a.kind h (get_or a.t3 k [])) a.t2 l.holdings l.lane l.invariant c.loop-test.false
+    let a = c.args in
+    let l = c.loop-lane in
+    anew_all none 32 (λ k h. with_registers a.kind h (get_or a.lanes k [])) a.given l.holdings l.lane l.invariant c.loop-lane-test.false
 
 pub with_lanes_spec : {M : Type 1} → statement M
 with_lanes_spec =

@@ -4,15 +4,15 @@ use borrow.Author.Tests.{eq-eqb, ne_eqb}
 use Rattle.dealing_holdings.proofs.with_registers.Statement.{statement}
 use Rattle.dealing_holdings.proofs.with_registers.Tie as tie
 
-returns : tie.Need-returns
-returns c = rw (eq-eqb _ _ c.before.if1.true, c.double-of.ensures)
+returns : tie.Need-returns-then-kind-eq6
+returns c = rw (eq-eqb _ _ c.if-kind-eq6.true, c.double_of.ensures)
 
-returns_2 : tie.Need-returns-2
-returns_2 c = rw (ne_eqb _ _ c.before.before.if1.false, eq-eqb _ _ c.before.if2.true, c.double-of2.ensures)
+returns_2 : tie.Need-returns-then-kind-eq7
+returns_2 c = rw (ne_eqb _ _ c.if-kind-eq6.false, eq-eqb _ _ c.if-kind-eq7.true, c.double_of-then-kind-eq7.ensures)
 
-returns_3 : tie.Need-returns-3
+returns_3 : tie.Need-returns
 returns_3 c =
-    rw (ne_eqb _ _ c.before.before.before.before.if1.false, ne_eqb _ _ c.before.before.before.if2.false, c.before.double-of3.ensures, c.double-of4.ensures)
+    rw (ne_eqb _ _ c.if-kind-eq6.false, ne_eqb _ _ c.if-kind-eq7.false, c.double_of-2.ensures, c.double_of-3.ensures)
 
 pub with_registers_spec : {M : Type 1} → statement M
 with_registers_spec =

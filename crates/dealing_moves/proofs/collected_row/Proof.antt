@@ -10,28 +10,28 @@ use Rattle.dealing_moves.proofs.Sources.{collected_from}
 use Rattle.dealing_moves.proofs.collected_row.Statement.{statement}
 use Rattle.dealing_moves.proofs.collected_row.Tie as tie
 
-abbrev invariant_loop : tie.invariant_loop
+abbrev invariant_loop : tie.invariant-loop-column
 invariant_loop kind computation row lanes given places₀ column₀ places column = Anew 8 (collected_entry Empty kind computation lanes row) given places column
 
-abbrev decreases_loop : tie.decreases_loop
+abbrev decreases_loop : tie.decreases-loop-column
 decreases_loop kind computation row lanes given places₀ column₀ places column = 8 - column
 
-loop_holds : tie.Need-loop-init invariant_loop decreases_loop
-loop_holds c = anew_none Empty 8 _ c.args.t5 (search rules)
+loop_holds : tie.Need-loop-column-init invariant_loop decreases_loop
+loop_holds c = anew_none Empty 8 _ c.args.given (search rules)
 
-loop_again : tie.Need-loop-preserved invariant_loop decreases_loop
+loop_again : tie.Need-loop-column-preserved invariant_loop decreases_loop
 loop_again c =
-    let t = c.before.before.before.before in
-    let l = t.before.loop in
-    let a = t.before.before.args in
-    anew_next Empty 8 (collected_entry Empty a.kind a.computation a.t3 a.row) a.t5 l.places l.column c.chosen.result l.invariant t.loop-test.true
-    (c.chosen.ensures ∙ sym (collected_from Empty a.kind a.computation a.t3 a.row l.column _ c.before.before.before.holder.result c.before.before.before.holder.ensures))
+    let t = c in
+    let l = t.loop-column in
+    let a = t.args in
+    anew_next Empty 8 (collected_entry Empty a.kind a.computation a.lanes a.row) a.given l.places l.column c.chosen.result l.invariant t.loop-column-test.true
+    (c.chosen.ensures ∙ sym (collected_from Empty a.kind a.computation a.lanes a.row l.column _ c.holder-s.result c.holder-s.ensures))
 
 returns : tie.Need-returns invariant_loop decreases_loop
 returns c =
-    let a = c.before.before.args in
-    let l = c.before.loop in
-    anew_all Empty 8 (collected_entry Empty a.kind a.computation a.t3 a.row) a.t5 l.places l.column l.invariant c.loop-test.false
+    let a = c.args in
+    let l = c.loop-column in
+    anew_all Empty 8 (collected_entry Empty a.kind a.computation a.lanes a.row) a.given l.places l.column l.invariant c.loop-column-test.false
 
 pub collected_row_spec : {M : Type 1} → statement M
 collected_row_spec =

@@ -10,26 +10,26 @@ use Rattle.values.proofs.Rows.{Anew, anew_none, anew_next, anew_all}
 use Rattle.dealing_moves.proofs.collected_tile.Statement.{statement}
 use Rattle.dealing_moves.proofs.collected_tile.Tie as tie
 
-abbrev invariant_loop : tie.invariant_loop
+abbrev invariant_loop : tie.invariant-loop-row
 invariant_loop kind computation lanes given tile₀ row₀ tile row = Anew 8 (λ row. each (collected_entry Empty kind computation lanes row)) given tile row
 
-abbrev decreases_loop : tie.decreases_loop
+abbrev decreases_loop : tie.decreases-loop-row
 decreases_loop kind computation lanes given tile₀ row₀ tile row = 8 - row
 
-loop_holds : tie.Need-loop-init invariant_loop decreases_loop
-loop_holds c = anew_none [] 8 _ c.args.t4 (search rules)
+loop_holds : tie.Need-loop-row-init invariant_loop decreases_loop
+loop_holds c = anew_none [] 8 _ c.args.given (search rules)
 
-loop_again : tie.Need-loop-preserved invariant_loop decreases_loop
+loop_again : tie.Need-loop-row-preserved invariant_loop decreases_loop
 loop_again c =
-    let a = c.before.before.before.before.args in
-    let l = c.before.before.before.loop in
-    anew_next [] 8 (λ row. each (collected_entry Empty a.kind a.computation a.lanes row)) a.t4 l.tile l.row c.collected-row.result l.invariant c.before.before.loop-test.true c.collected-row.ensures
+    let a = c.args in
+    let l = c.loop-row in
+    anew_next [] 8 (λ row. each (collected_entry Empty a.kind a.computation a.lanes row)) a.given l.tile l.row c.collected_row.result l.invariant c.loop-row-test.true c.collected_row.ensures
 
 returns : tie.Need-returns invariant_loop decreases_loop
 returns c =
-    let a = c.before.before.args in
-    let l = c.before.loop in
-    anew_all [] 8 (λ row. each (collected_entry Empty a.kind a.computation a.lanes row)) a.t4 l.tile l.row l.invariant c.loop-test.false
+    let a = c.args in
+    let l = c.loop-row in
+    anew_all [] 8 (λ row. each (collected_entry Empty a.kind a.computation a.lanes row)) a.given l.tile l.row l.invariant c.loop-row-test.false
 
 pub collected_tile_spec : {M : Type 1} → statement M
 collected_tile_spec =

@@ -10,28 +10,28 @@ use Rattle.dealing_moves.proofs.Sources.{dealt_from}
 use Rattle.dealing_moves.proofs.dealt_lane.Statement.{statement}
 use Rattle.dealing_moves.proofs.dealt_lane.Tie as tie
 
-abbrev invariant_loop : tie.invariant_loop
+abbrev invariant_loop : tie.invariant-loop-i
 invariant_loop kind computation lane tile given registers₀ i₀ registers i = Anew 8 (dealt_entry Empty kind computation tile lane) given registers i
 
-abbrev decreases_loop : tie.decreases_loop
+abbrev decreases_loop : tie.decreases-loop-i
 decreases_loop kind computation lane tile given registers₀ i₀ registers i = 8 - i
 
-loop_holds : tie.Need-loop-init invariant_loop decreases_loop
-loop_holds c = anew_none Empty 8 _ c.args.t5 (search rules)
+loop_holds : tie.Need-loop-i-init invariant_loop decreases_loop
+loop_holds c = anew_none Empty 8 _ c.args.given (search rules)
 
-loop_again : tie.Need-loop-preserved invariant_loop decreases_loop
+loop_again : tie.Need-loop-i-preserved invariant_loop decreases_loop
 loop_again c =
-    let t = c.before.before.before.before in
-    let l = t.before.loop in
-    let a = t.before.before.args in
-    anew_next Empty 8 (dealt_entry Empty a.kind a.computation a.t3 a.lane) a.t5 l.registers l.i c.chosen.result l.invariant t.loop-test.true
-    (c.chosen.ensures ∙ sym (dealt_from Empty a.kind a.computation a.t3 a.lane l.i _ c.before.before.before.source.result c.before.before.before.source.ensures))
+    let t = c in
+    let l = t.loop-i in
+    let a = t.args in
+    anew_next Empty 8 (dealt_entry Empty a.kind a.computation a.tile a.lane) a.given l.registers l.i c.chosen.result l.invariant t.loop-i-test.true
+    (c.chosen.ensures ∙ sym (dealt_from Empty a.kind a.computation a.tile a.lane l.i _ c.source-p.result c.source-p.ensures))
 
 returns : tie.Need-returns invariant_loop decreases_loop
 returns c =
-    let a = c.before.before.args in
-    let l = c.before.loop in
-    anew_all Empty 8 (dealt_entry Empty a.kind a.computation a.t3 a.lane) a.t5 l.registers l.i l.invariant c.loop-test.false
+    let a = c.args in
+    let l = c.loop-i in
+    anew_all Empty 8 (dealt_entry Empty a.kind a.computation a.tile a.lane) a.given l.registers l.i l.invariant c.loop-i-test.false
 
 pub dealt_lane_spec : {M : Type 1} → statement M
 dealt_lane_spec =

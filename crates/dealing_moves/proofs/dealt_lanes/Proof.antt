@@ -10,26 +10,26 @@ use Rattle.values.proofs.Rows.{Anew, anew_none, anew_next, anew_all}
 use Rattle.dealing_moves.proofs.dealt_lanes.Statement.{statement}
 use Rattle.dealing_moves.proofs.dealt_lanes.Tie as tie
 
-abbrev invariant_loop : tie.invariant_loop
+abbrev invariant_loop : tie.invariant-loop-lane
 invariant_loop kind computation tile given lanes₀ lane₀ lanes lane = Anew 32 (λ row. each (dealt_entry Empty kind computation tile row)) given lanes lane
 
-abbrev decreases_loop : tie.decreases_loop
+abbrev decreases_loop : tie.decreases-loop-lane
 decreases_loop kind computation tile given lanes₀ lane₀ lanes lane = 32 - lane
 
-loop_holds : tie.Need-loop-init invariant_loop decreases_loop
-loop_holds c = anew_none [] 32 _ c.args.t4 (search rules)
+loop_holds : tie.Need-loop-lane-init invariant_loop decreases_loop
+loop_holds c = anew_none [] 32 _ c.args.given (search rules)
 
-loop_again : tie.Need-loop-preserved invariant_loop decreases_loop
+loop_again : tie.Need-loop-lane-preserved invariant_loop decreases_loop
 loop_again c =
-    let a = c.before.before.before.before.args in
-    let l = c.before.before.before.loop in
-    anew_next [] 32 (λ row. each (dealt_entry Empty a.kind a.computation a.tile row)) a.t4 l.lanes l.lane c.dealt-lane.result l.invariant c.before.before.loop-test.true c.dealt-lane.ensures
+    let a = c.args in
+    let l = c.loop-lane in
+    anew_next [] 32 (λ row. each (dealt_entry Empty a.kind a.computation a.tile row)) a.given l.lanes l.lane c.dealt_lane.result l.invariant c.loop-lane-test.true c.dealt_lane.ensures
 
 returns : tie.Need-returns invariant_loop decreases_loop
 returns c =
-    let a = c.before.before.args in
-    let l = c.before.loop in
-    anew_all [] 32 (λ row. each (dealt_entry Empty a.kind a.computation a.tile row)) a.t4 l.lanes l.lane l.invariant c.loop-test.false
+    let a = c.args in
+    let l = c.loop-lane in
+    anew_all [] 32 (λ row. each (dealt_entry Empty a.kind a.computation a.tile row)) a.given l.lanes l.lane l.invariant c.loop-lane-test.false
 
 pub dealt_lanes_spec : {M : Type 1} → statement M
 dealt_lanes_spec =

@@ -3,4 +3,4 @@ use Rattle.dealing_moves.proofs.double_source.Statement.{statement}
 use Rattle.dealing_moves.proofs.double_source.Tie as tie
 
 pub double_source_spec : {M : Type 1} → statement M
-double_source_spec = tie.close (tie.spec (λ c. rw c.if1.true) (λ c. rw c.if1.false))
+double_source_spec = tie.close (tie.spec (λ c. rw c.if-i-registers.true) (λ c. rw c.if-i-registers.false))

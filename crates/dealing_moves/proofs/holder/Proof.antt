@@ -13,29 +13,29 @@ use Rattle.dealing_moves.proofs.holder.Statement.{statement}
 use Rattle.dealing_moves.proofs.holder.Tie as tie
 
 -- the register that was answered to hold the place
-held : (c : tie.After-known-told) → let a = c.before.before.before.before.args in
-    HolderAnswer a.kind (at a.computation a.row a.column) (HeldBy c.before.slot.given.0.0)
+held : (c : tie.In-Slot) → let a = c.args in
+    HolderAnswer a.kind (at a.computation a.row a.column) (HeldBy c.in-Slot.slot)
 held c =
-    let a = c.before.before.before.before.args in
-    subst (HolderAnswer a.kind (at a.computation a.row a.column)) c.before.slot.given.1 c.before.before.before.holder-of.ensures
+    let a = c.args in
+    subst (HolderAnswer a.kind (at a.computation a.row a.column)) c.in-Slot.is c.holder_of.ensures
 
-inside : (c : tie.After-known-told) → let s = c.before.slot.given.0.0 in (s.lane < 32) × (s.register < 8)
+inside : (c : tie.In-Slot) → let s = c.in-Slot.slot in (s.lane < 32) × (s.register < 8)
 inside c =
-    let a = c.before.before.before.before.args in
-    slot_in_lanes a.kind (at a.computation a.row a.column) c.before.slot.given.0.0 (held c)
+    let a = c.args in
+    slot_in_lanes a.kind (at a.computation a.row a.column) c.in-Slot.slot (held c)
 
-returns : tie.Need-returns
+returns : tie.Need-returns-in-Slot
 returns c =
-    let k = c.before.before in
-    let a = k.before.before.before.before.args in
-    let s : Slot = k.before.slot.given.0.0 in
-    sym (rw (stays_inside a.kind s (at a.computation a.row a.column) (held k))
-    (ap (λ (t : Slot). 8 * t.lane + t.register) (leads_back a.kind s (at a.computation a.row a.column) (held k))))
+    let k = c in
+    let a = k.args in
+    let s : Slot = k.in-Slot.slot in
+    sym (rw (stays_inside a.kind s (at a.computation a.row a.column) (held k.before.before))
+    (ap (λ (t : Slot). 8 * t.lane + t.register) (leads_back a.kind s (at a.computation a.row a.column) (held k.before.before))))
 
-returns_2 : tie.Need-returns-2
+returns_2 : tie.Need-returns-in-Refused
 returns_2 c =
-    let a = c.before.before.before.args in
-    let none = subst (HolderAnswer a.kind (at a.computation a.row a.column)) c.enum_told.given.1 c.before.before.holder-of.ensures in
+    let a = c.args in
+    let none = subst (HolderAnswer a.kind (at a.computation a.row a.column)) c.in-Refused.is c.holder_of.ensures in
     rw none.0
 
 pub holder_spec : {M : Type 1} → statement M

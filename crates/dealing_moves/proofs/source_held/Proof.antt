@@ -14,30 +14,30 @@ use Rattle.dealing_moves.proofs.source_held.Statement.{statement}
 use Rattle.dealing_moves.proofs.source_held.Tie as tie
 
 -- the place that the register was answered to hold
-held : (c : tie.After-struct-known) → let a = c.before.before.before.before.before.args in held_answer a.kind a.lane a.i ≡ Holds c.before.before.place.given.0.0
-held c = sym c.before.before.before.before.held_by.ensures ∙ c.before.before.place.given.1
+held : (c : tie.After-struct_known-1) → let a = c.args in held_answer a.kind a.lane a.i ≡ Holds c.in-Place.place
+held c = sym c.held_by.ensures ∙ c.in-Place.is
 
-inside : (c : tie.After-struct-known) → let p = c.before.before.place.given.0.0 in (p.row < 8) × (p.column < 8)
-inside c = let a = c.before.before.before.before.before.args in place_in_tile a.kind a.lane a.i c.before.before.place.given.0.0 (held c)
+inside : (c : tie.After-struct_known-1) → let p = c.in-Place.place in (p.row < 8) × (p.column < 8)
+inside c = let a = c.args in place_in_tile a.kind a.lane a.i c.in-Place.place (held c)
 
-returns : tie.Need-returns
+returns : tie.Need-returns-then-place-computation
 returns c =
-    let k = c.before.before.before in
-    let a = k.before.before.before.before.before.args in
-    let p : Place = k.before.before.place.given.0.0 in
-    sym (rw (own_held a.kind a.computation a.lane a.i p (held k) ∙ eq-eqb _ _ c.before.before.if1.true)
-    (ap (λ (q : Place). 8 * q.row + q.column) (answered a.kind (by a.lane a.i) p (held k)).1))
+    let k = c in
+    let a = k.args in
+    let p : Place = k.in-Place.place in
+    sym (rw (own_held a.kind a.computation a.lane a.i p (held k.before.before.before) ∙ eq-eqb _ _ c.if-place-computation.true)
+    (ap (λ (q : Place). 8 * q.row + q.column) (answered a.kind (by a.lane a.i) p (held k.before.before.before)).1))
 
-returns_2 : tie.Need-returns-2
+returns_2 : tie.Need-returns-else-place-computation
 returns_2 c =
-    let k = c.before in
-    let a = k.before.before.before.before.before.args in
-    rw (own_held a.kind a.computation a.lane a.i k.before.before.place.given.0.0 (held k) ∙ ne_eqb _ _ c.if1.false)
+    let k = c in
+    let a = k.args in
+    rw (own_held a.kind a.computation a.lane a.i k.in-Place.place (held k.before) ∙ ne_eqb _ _ c.if-place-computation.false)
 
-returns_3 : tie.Need-returns-3
+returns_3 : tie.Need-returns-in-Refused
 returns_3 c =
-    let a = c.before.before.before.args in
-    rw (own_not_held a.kind a.computation a.lane a.i _ (sym c.before.before.held_by.ensures ∙ c.enum_told.given.1))
+    let a = c.args in
+    rw (own_not_held a.kind a.computation a.lane a.i _ (sym c.held_by.ensures ∙ c.in-Refused.is))
 
 pub source_held_spec : {M : Type 1} → statement M
 source_held_spec =

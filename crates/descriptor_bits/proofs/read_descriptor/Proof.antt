@@ -8,5 +8,5 @@ pub read_descriptor_spec : {M : Type 1} → statement M
 read_descriptor_spec =
     tie.close
     (tie.spec (λ c κs. search rules) (λ c κs. search rules) (λ c κs. search rules)
-    (λ c. rw (sym c.before.before.has-reserved.ensures ∙ c.before.if1.true, c.no_fields.ensures))
-    (λ c. rw (sym c.before.before.has-reserved.ensures ∙ c.before.if1.false, c.fields-of.ensures)))
+    (λ c. rw (sym c.has_reserved.ensures ∙ c.if-has_reserved.true, c.no_fields-fields.ensures))
+    (λ c. rw (sym c.has_reserved.ensures ∙ c.if-has_reserved.false, c.fields_of-fields.ensures)))

@@ -7,5 +7,5 @@ use Rattle.descriptor_limits.proofs.shift_limit.Tie as tie
 pub shift_limit_spec : {M : Type 1} → statement M
 shift_limit_spec =
     tie.close
-    (tie.spec (λ c. (rw (eq-eqb c.before.args.m 32 c.if1.true), omega arith))
-    (λ c. (rw (ne_eqb c.before.args.m 32 c.if1.false), omega arith)))
+    (tie.spec (λ c. (rw (eq-eqb c.args.m 32 c.if-m-eq32.true), omega arith))
+    (λ c. (rw (ne_eqb c.args.m 32 c.if-m-eq32.false), omega arith)))

@@ -3,8 +3,8 @@ use borrow.Author.Rules.{rules}
 use Rattle.encoding.proofs.report.Statement.{statement}
 use Rattle.encoding.proofs.report.Tie as tie
 
-returns : tie.Need-returns
-returns c = rw (c.before.before.enum_told.given.1, c.before.encoded-lbo.ensures)
+returns : tie.Need-returns-in-Approved
+returns c = rw (c.in-Approved.is, c.encoded_lbo.ensures)
 
 pub report_spec : {M : Type 1} → statement M
-report_spec = tie.close (tie.spec (λ c. search rules) (λ c κs. search rules) (λ c. search rules) returns (λ c. rw c.enum-told2.given.1))
+report_spec = tie.close (tie.spec (λ c. search rules) (λ c κs. search rules) (λ c. search rules) returns (λ c. rw c.in-Refused.is))

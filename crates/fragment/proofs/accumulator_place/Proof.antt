@@ -17,17 +17,17 @@ taken_apart p r k =
     let column : packed p % 8 ≡ p.column = omega arith in
     rw (c, row, column)
 
-entry_requires : tie.Need-entry-requires
+entry_requires : tie.Need-entry-entry-requires
 unfolding registers
 entry_requires c κs =
     let n = slot_numbers 5 c.args.lane c.args.i c.requires in (n.of_lane, n.of_register)
 
 returns : tie.Need-returns
 returns c =
-    let a = c.before.before.args in
+    let a = c.args in
     let p : Place = place 5 a.lane a.i in
-    let n = place_numbers 5 p (slot_back 5 a.lane a.i c.before.before.requires).0 in
-    rw c.before.entry.ensures at c.at.ensures ∙ taken_apart p (omega arith) (omega arith)
+    let n = place_numbers 5 p (slot_back 5 a.lane a.i c.requires).0 in
+    rw c.entry-entry.ensures at c.at.ensures ∙ taken_apart p (omega arith) (omega arith)
 
 pub accumulator_place_spec : {M : Type 1} → statement M
 accumulator_place_spec = tie.close (tie.spec entry_requires (λ c κs. tt) returns)

@@ -15,4 +15,4 @@ of_unknown kind h = get_or-eq_default (4 ∷ 4 ∷ 4 ∷ 4 ∷ 4 ∷ 4 ∷ 1 ∷
 pub computations_spec : {M : Type 1} → statement M
 unfolding computations
 computations_spec =
-    tie.close (tie.spec (λ c. search rules) (λ c. search rules) (λ c. search rules) (λ c. sym (of_unknown c.before.args.kind c.if1.false)))
+    tie.close (tie.spec (λ c. search rules) (λ c. search rules) (λ c. search rules) (λ c. sym (of_unknown c.args.kind c.if-kind-lt-KINDS.false)))

@@ -4,11 +4,11 @@ use Rattle.fragment.specs.declared.Held.TheVariants.{Place as Holds, Refused as 
 use Rattle.fragment.proofs.held_by.Statement.{statement}
 use Rattle.fragment.proofs.held_by.Tie as tie
 
-place_held_requires : tie.Need-place-held-requires
-place_held_requires c κs = sym c.before.is-slot.ensures ∙ c.if1.true
+place_held_requires : tie.Need-place_held-requires
+place_held_requires c κs = sym c.is_slot.ensures ∙ c.if-is_slot.true
 
 pub held_by_spec : {M : Type 1} → statement M
 held_by_spec =
     tie.close
-    (tie.spec (λ c κs. tt) place_held_requires (λ c κs. tt) (λ c. rw (place_held_requires c.before _) (ap Holds c.place-held.ensures))
-    (λ c. rw (sym c.before.before.is-slot.ensures ∙ c.before.if1.false) (ap HoldsNot c.outside.ensures)))
+    (tie.spec (λ c κs. tt) place_held_requires (λ c κs. tt) (λ c. rw (place_held_requires c.before _) (ap Holds c.place_held.ensures))
+    (λ c. rw (sym c.is_slot.ensures ∙ c.if-is_slot.false) (ap HoldsNot c.outside.ensures)))

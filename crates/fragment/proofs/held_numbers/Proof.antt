@@ -7,4 +7,4 @@ pub held_numbers_spec : {M : Type 1} → statement M
 held_numbers_spec =
     tie.close
     (tie.spec (λ c. search rules) (λ c κs. search rules) (λ c. search rules) (λ c κs. search rules)
-    (λ c. rw c.before.before.held.given.1 c.answer.ensures) (λ c. rw c.before.before.held2.given.1 c.refusal-numbers.ensures))
+    (λ c. rw c.in-Place.is c.answer.ensures) (λ c. rw c.in-Refused.is c.refusal_numbers.ensures))

@@ -6,4 +6,4 @@ use Rattle.fragment.proofs.high.Tie as tie
 pub high_spec : {M : Type 1} → statement M
 high_spec =
     tie.close
-    (tie.spec (λ c. rw (lt-leb 16 c.before.args.lane c.if1.true)) (λ c. rw (le-leb 16 c.before.args.lane c.if1.false)))
+    (tie.spec (λ c. rw (lt-leb 16 c.args.lane c.if-lane-lt16.true)) (λ c. rw (le-leb 16 c.args.lane c.if-lane-lt16.false)))

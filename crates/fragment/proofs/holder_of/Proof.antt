@@ -3,11 +3,11 @@ use mathlib.Core.Path.{sym, ◌∙◌}
 use Rattle.fragment.proofs.holder_of.Statement.{statement}
 use Rattle.fragment.proofs.holder_of.Tie as tie
 
-slot_holding_requires : tie.Need-slot-holding-requires
-slot_holding_requires c κs = sym c.before.is-place.ensures ∙ c.if1.true
+slot_holding_requires : tie.Need-slot_holding-requires
+slot_holding_requires c κs = sym c.is_place.ensures ∙ c.if-is_place.true
 
 pub holder_of_spec : {M : Type 1} → statement M
 holder_of_spec =
     tie.close
-    (tie.spec (λ c κs. tt) slot_holding_requires (λ c κs. tt) (λ c. c.slot-holding.ensures)
-    (λ c. (sym c.before.before.is-place.ensures ∙ c.before.if1.false, c.outside.ensures)))
+    (tie.spec (λ c κs. tt) slot_holding_requires (λ c κs. tt) (λ c. c.slot_holding.ensures)
+    (λ c. (sym c.is_place.ensures ∙ c.if-is_place.false, c.outside.ensures)))

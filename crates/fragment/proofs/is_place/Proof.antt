@@ -10,4 +10,4 @@ unfolding columns computations rows
 is_place_spec =
     tie.close
     (tie.spec (λ c. search rules) (λ c. search rules) (λ c. search rules) (λ c. search rules) (λ c. search rules) (λ c. search rules)
-    (λ c. rw (lt-ltb c.before.args.kind 9 c.if1.true)) (λ c. rw (le-ltb c.before.args.kind 9 c.if1.false)))
+    (λ c. rw (lt-ltb c.args.kind 9 c.if-kind-lt-KINDS.true)) (λ c. rw (le-ltb c.args.kind 9 c.if-kind-lt-KINDS.false)))

@@ -9,5 +9,5 @@ pub is_slot_spec : {M : Type 1} → statement M
 unfolding registers
 is_slot_spec =
     tie.close
-    (tie.spec (λ c. search rules) (λ c. search rules) (λ c. rw (lt-ltb c.before.args.kind 9 c.if1.true))
-    (λ c. rw (le-ltb c.before.args.kind 9 c.if1.false)))
+    (tie.spec (λ c. search rules) (λ c. search rules) (λ c. rw (lt-ltb c.args.kind 9 c.if-kind-lt-KINDS.true))
+    (λ c. rw (le-ltb c.args.kind 9 c.if-kind-lt-KINDS.false)))

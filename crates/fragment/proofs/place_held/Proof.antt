@@ -19,19 +19,19 @@ high_most : (b : Bool) → cond {A = ℕ} b 4 0 ≤ 4
 high_most true = omega arith
 high_most false = omega arith
 
-bounds : (c : tie.After-high) → OfSlot c.before.args.kind c.before.args.lane c.before.args.i × (high c.before.args.lane ≤ 4)
+bounds : (c : tie.After-high-h) → OfSlot c.args.kind c.args.lane c.args.i × (high c.args.lane ≤ 4)
 bounds c =
-    let a = c.before.args in
-    (slot_numbers a.kind a.lane a.i c.before.requires, high_most (leb 16 a.lane))
+    let a = c.args in
+    (slot_numbers a.kind a.lane a.i c.requires, high_most (leb 16 a.lane))
 
 -- the last arm is that of kind 8
-last : (c : tie.At-match-rest) → c.before.before.args.kind ≡ 8
-last c = let b = bounds c.before in omega (arith, none_below 8 c.before.before.args.kind c.match.rest)
+last : (c : tie.In_default) → c.args.kind ≡ 8
+last c = let b = bounds c.before in omega (arith, none_below 8 c.args.kind c.in_default.in_default-own.rest)
 
 -- the arm of kind 1
-column_major : tie.Need-returns-2
+column_major : tie.Need-returns-in-1
 unfolding computation place
-column_major c = arm c.before.before.before 1 _ c.before.match.keys2 (rw (c.at2.ensures, c.before.before.high.ensures))
+column_major c = arm c.before.before.before 1 _ c.in-1.is (rw (c.at-in-1.ensures, c.high-h.ensures))
 
 pub place_held_spec : {M : Type 1} → statement M
 unfolding computation place
@@ -39,14 +39,14 @@ place_held_spec =
     tie.close
     (tie.spec (λ c κs. tt) (λ c. let b = bounds c.before in omega arith) (λ c κs. tt) (λ c. let b = bounds c.before in omega arith) (λ c κs. tt)
     (λ c. let b = bounds c.before in omega arith) (λ c κs. tt) (λ c. let b = bounds c.before in omega arith) (λ c κs. tt)
-    (λ c. let b = bounds c.before in omega arith) (λ c κs. tt) (λ c κs. rw c.match.keys6 at c.before.before.requires) (λ c κs. tt) (λ c κs. tt)
+    (λ c. let b = bounds c.before in omega arith) (λ c κs. tt) (λ c κs. rw c.in-5.is at c.requires) (λ c κs. tt) (λ c κs. tt)
     (λ c. omega arith) (λ c. let b = bounds c.before in omega arith) (λ c κs. tt)
-    (λ c. arm c.before.before.before 0 _ c.before.match.keys1 (rw (c.at.ensures, c.before.before.high.ensures)))
+    (λ c. arm c.before.before.before 0 _ c.in-0.is (rw (c.at.ensures, c.high-h.ensures)))
     column_major
-    (λ c. arm c.before.before.before 2 _ c.before.match.keys3 (rw (c.at3.ensures, c.before.before.high.ensures)))
-    (λ c. arm c.before.before.before 3 _ c.before.match.keys4 (rw (c.at4.ensures, c.before.before.high.ensures)))
-    (λ c. arm c.before.before.before 4 _ c.before.match.keys5 (rw (c.at5.ensures, c.before.before.high.ensures)))
-    (λ c. arm c.before.before.before 5 _ c.before.match.keys6 c.accumulator-place.ensures)
-    (λ c. arm c.before.before.before 6 _ c.before.match.keys7 c.at6.ensures)
-    (λ c. arm c.before.before.before 7 _ c.before.match.keys8 c.at7.ensures)
-    (λ c. arm c.before.before.before 8 _ (last c.before) c.at8.ensures))
+    (λ c. arm c.before.before.before 2 _ c.in-2.is (rw (c.at-in-2.ensures, c.high-h.ensures)))
+    (λ c. arm c.before.before.before 3 _ c.in-3.is (rw (c.at-in-3.ensures, c.high-h.ensures)))
+    (λ c. arm c.before.before.before 4 _ c.in-4.is (rw (c.at-in-4.ensures, c.high-h.ensures)))
+    (λ c. arm c.before.before.before 5 _ c.in-5.is c.accumulator_place.ensures)
+    (λ c. arm c.before.before.before 6 _ c.in-6.is c.at-in-6.ensures)
+    (λ c. arm c.before.before.before 7 _ c.in-7.is c.at-in-7.ensures)
+    (λ c. arm c.before.before.before 8 _ (last c.before) c.at-in_default.ensures))

@@ -33,8 +33,8 @@ arm : (c : tie.Start) (n : ℕ) (s : Slot) → c.args.kind ≡ n → s ≡ back 
 arm c n s e found = rw (found, sym e) (back_answers c.args.kind (asked c) c.requires)
 
 -- the last arm is that of kind 8
-last : (c : tie.At-match-rest) → c.before.args.kind ≡ 8
-last c = let b = bounds c.before in omega (arith, none_below 8 c.before.args.kind c.match.rest)
+last : (c : tie.In_default) → c.args.kind ≡ 8
+last c = let b = bounds c.before in omega (arith, none_below 8 c.args.kind c.in_default.in_default-own.rest)
 
 pub slot_holding_spec : {M : Type 1} → statement M
 unfolding back
@@ -46,12 +46,12 @@ slot_holding_spec =
     (λ c. let b = bounds c.before in omega arith) (λ c. let b = bounds c.before in omega arith)
     (λ c κs. let b = bounds c.before in omega arith) (λ c κs. let b = bounds c.before in omega arith)
     (λ c κs. let b = bounds c.before in omega arith) (λ c κs. let b = bounds c.before in omega arith)
-    (λ c. arm c.before.before 0 _ c.before.match.keys1 c.in_group.ensures)
-    (λ c. arm c.before.before 1 _ c.before.match.keys2 c.in-group2.ensures)
-    (λ c. arm c.before.before 2 _ c.before.match.keys3 c.in-group3.ensures)
-    (λ c. arm c.before.before 3 _ c.before.match.keys4 c.in-group4.ensures)
-    (λ c. arm c.before.before 4 _ c.before.match.keys5 c.in-group5.ensures)
-    (λ c. arm c.before.before 5 _ c.before.match.keys6 c.in-group6.ensures)
-    (λ c. arm c.before.before 6 _ c.before.match.keys7 c.in-group7.ensures)
-    (λ c. arm c.before.before 7 _ c.before.match.keys8 c.in-group8.ensures)
-    (λ c. arm c.before.before 8 _ (last c.before) c.in-group9.ensures))
+    (λ c. arm c.before.before 0 _ c.in-0.is c.in_group.ensures)
+    (λ c. arm c.before.before 1 _ c.in-1.is c.in_group-in-1.ensures)
+    (λ c. arm c.before.before 2 _ c.in-2.is c.in_group-in-2.ensures)
+    (λ c. arm c.before.before 3 _ c.in-3.is c.in_group-in-3.ensures)
+    (λ c. arm c.before.before 4 _ c.in-4.is c.in_group-in-4.ensures)
+    (λ c. arm c.before.before 5 _ c.in-5.is c.in_group-in-5.ensures)
+    (λ c. arm c.before.before 6 _ c.in-6.is c.in_group-in-6.ensures)
+    (λ c. arm c.before.before 7 _ c.in-7.is c.in_group-in-7.ensures)
+    (λ c. arm c.before.before 8 _ (last c.before) c.in_group-in_default.ensures))

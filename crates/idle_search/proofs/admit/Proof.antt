@@ -6,13 +6,13 @@ use Rattle.idle.proofs.Theorems.{admission_exactly}
 use Rattle.idle_search.proofs.admit.Statement.{statement}
 use Rattle.idle_search.proofs.admit.Tie as tie
 
-admit_packed_requires : tie.Need-admit-packed-requires
-admit_packed_requires c κs = c.before.before.before.before.pack.ensures.whole
+admit_packed_requires : tie.Need-admit_packed-requires
+admit_packed_requires c κs = c.pack-packed.ensures.whole
 
 returns : tie.Need-returns
 returns c =
-    let k = c.before.before.before.before.before in
-    (admission_exactly k.before.args.card c.admit-packed.result).1 (c.admit-packed.ensures ∙ ap full_admission k.pack.ensures.same_card)
+    let k = c in
+    (admission_exactly k.before.args.card c.admit-packed.result).1 (c.admit_packed.ensures ∙ ap full_admission k.pack-packed.ensures.same_card)
 
 pub admit_spec : {M : Type 1} → statement M
 admit_spec = tie.close (tie.spec (λ c κs. search rules) admit_packed_requires returns)

@@ -12,34 +12,34 @@ use Rattle.idle.proofs.Theorems.{refused_before, then_idle}
 use Rattle.idle_search.proofs.admit_packed.Statement.{statement}
 use Rattle.idle_search.proofs.admit_packed.Tie as tie
 
-abbrev start : tie.After-enum-told → tie.Start
-start k = k.before.before.before
+abbrev start : tie.In_default → tie.Start
+start k = k.before.before
 
 abbrev asked : tie.Start → Card
 asked s = card_of s.args.numbers.now s.args.strides.now
 
-admitted : (k : tie.After-enum-told) → admission (asked (start k)) ≡ Admitted
-admitted k = sym k.before.before.admit-packed.ensures ∙ k.enum_told.given.1
+admitted : (k : tie.In_default) → admission (asked (start k)) ≡ Admitted
+admitted k = sym k.admit_packed-admission.ensures ∙ k.in_default.is
 
 -- by what was found
-judged : (f : tie.After-find-pair) (i : Finding) → f.find-pair.result ≡ i → idle_check i ≡ full_admission (asked (start f.before))
+judged : (f : tie.After-find_pair) (i : Finding) → f.find_pair.result ≡ i → idle_check i ≡ full_admission (asked (start f.before))
 judged f i e =
     let card = asked (start f.before) in
-    sym (then_idle card i (admitted f.before) (subst (Finds card.replica) e f.find-pair.ensures))
+    sym (then_idle card i (admitted f.before) (subst (Finds card.replica) e f.find_pair.ensures))
 
-returns : tie.Need-returns
+returns : tie.Need-returns-in-Refused
 returns c =
-    let d = c.before.before.before in
-    sym (refused_before (asked d.before) (sym d.admit-packed.ensures ∙ c.before.admission.given.1))
+    let d = c in
+    sym (refused_before (asked d.before.before) (sym d.admit_packed-admission.ensures ∙ c.in-Refused.is))
 
-find_pair_requires : tie.Need-find-pair-requires
+find_pair_requires : tie.Need-find_pair-requires
 find_pair_requires c κs = record { whole = (start c).requires; admitted = admitted c }
 
-returns_2 : tie.Need-returns-2
-returns_2 c = judged c.before.before.before _ c.before.a.given.1
+returns_2 : tie.Need-returns-in-Pair
+returns_2 c = judged c.before _ c.in-Pair.is
 
-returns_3 : tie.Need-returns-3
-returns_3 c = judged c.before.before _ c.enum-told2.given.1
+returns_3 : tie.Need-returns-in-NoPair
+returns_3 c = judged c.before _ c.in-NoPair.is
 
 pub admit_packed_spec : {M : Type 1} → statement M
 admit_packed_spec =

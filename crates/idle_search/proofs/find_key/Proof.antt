@@ -6,46 +6,46 @@ use Rattle.idle_search.proofs.Laws.{passes_none, passes_more, not_yet}
 use Rattle.idle_search.proofs.find_key.Statement.{statement}
 use Rattle.idle_search.proofs.find_key.Tie as tie
 
-abbrev invariant_loop : tie.invariant_loop
+abbrev invariant_loop : tie.invariant-loop-a
 invariant_loop keys from b key a₀ a = Passes keys b from a
 
-abbrev decreases_loop : tie.decreases_loop
+abbrev decreases_loop : tie.decreases-loop-a
 decreases_loop keys from b key a₀ a = b - a
 
-before : (c : tie.Then1 invariant_loop decreases_loop) → c.before.before.loop.a < c.before.before.before.before.args.b
+before : (c : tie.In-loop-a invariant_loop decreases_loop) → c.loop-a.a < c.args.b
 before c =
-    let s = c.before.before.before.before in
-    let l = c.before.before.loop in
-    not_yet s.args.keys.now s.args.b s.args.from l.a c.if1.true l.invariant
+    let s = c in
+    let l = c.loop-a in
+    not_yet s.args.keys.now s.args.b s.args.from l.a c.loop-a-test.true l.invariant
 
-element_copy_out_key : tie.Need-element-copy-out-key invariant_loop decreases_loop
+element_copy_out_key : tie.Need-bounds-keys-b invariant_loop decreases_loop
 element_copy_out_key c = omega (arith, c.requires.0)
 
-loop_holds : tie.Need-loop-init invariant_loop decreases_loop
+loop_holds : tie.Need-loop-a-init invariant_loop decreases_loop
 loop_holds c =
-    let a = c.before.args in
-    passes_none a.keys.now a.b a.from c.before.requires.1
+    let a = c.args in
+    passes_none a.keys.now a.b a.from c.requires.1
 
-mul_if1 : tie.Need-overflow-mul-if1 invariant_loop decreases_loop
-mul_if1 c = omega (arith, c.loop.invariant.at_most)
+mul_if1 : tie.Need-offset_bounds-keys-a invariant_loop decreases_loop
+mul_if1 c = omega (arith, c.loop-a.invariant.at_most)
 
-element_copy_out_if1 : tie.Need-element-copy-out-if1 invariant_loop decreases_loop
-element_copy_out_if1 c = omega (arith, c.loop.invariant.at_most)
+element_copy_out_if1 : tie.Need-bounds-keys-a invariant_loop decreases_loop
+element_copy_out_if1 c = omega (arith, c.loop-a.invariant.at_most)
 
-add_a : tie.Need-overflow-add-a invariant_loop decreases_loop
+add_a : tie.Need-overflow_add-a invariant_loop decreases_loop
 add_a c = omega (arith, before c)
 
-loop_less : tie.Need-loop-smaller invariant_loop decreases_loop
+loop_less : tie.Need-loop-a-smaller invariant_loop decreases_loop
 loop_less c = omega (arith, before c)
 
-loop_again : tie.Need-loop-preserved invariant_loop decreases_loop
+loop_again : tie.Need-loop-a-preserved invariant_loop decreases_loop
 loop_again c =
-    let s = c.before.before.before.before in
-    let l = c.before.before.loop in
-    passes_more s.args.keys.now s.args.b s.args.from l.a c.if1.true l.invariant
+    let s = c in
+    let l = c.loop-a in
+    passes_more s.args.keys.now s.args.b s.args.from l.a c.loop-a-test.true l.invariant
 
 returns : tie.Need-returns invariant_loop decreases_loop
-returns c = c.before.before.loop.invariant
+returns c = c.loop-a.invariant
 
 pub find_key_spec : {M : Type 1} → statement M
 find_key_spec =

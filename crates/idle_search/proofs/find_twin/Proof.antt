@@ -10,10 +10,10 @@ use Rattle.idle_search.proofs.Laws.{none_passed}
 use Rattle.idle_search.proofs.find_twin.Statement.{statement}
 use Rattle.idle_search.proofs.find_twin.Tie as tie
 
-abbrev invariant_loop : tie.invariant_loop
+abbrev invariant_loop : tie.invariant-loop-a
 invariant_loop numbers strides keys b a₀ a = (a ≤ b) × NoneBelow (iters_of numbers strides 1) b a
 
-abbrev decreases_loop : tie.decreases_loop
+abbrev decreases_loop : tie.decreases-loop-a
 decreases_loop numbers strides keys b a₀ a = b - a
 
 abbrev replica : tie.Start invariant_loop decreases_loop → Iters
@@ -23,46 +23,46 @@ replica s = iters_of s.args.numbers.now s.args.strides.now 1
 passed : (s : tie.Start invariant_loop decreases_loop) (from a : ℕ) → Passes s.args.keys.now s.args.b from a → NoneBelow (replica s) s.args.b from → NoneBelow (replica s) s.args.b a
 passed s from a = none_passed (replica s) s.args.b from a s.args.keys.now s.requires.1
 
-find_key_requires : tie.Need-find-key-requires invariant_loop decreases_loop
+find_key_requires : tie.Need-find_key-a-requires invariant_loop decreases_loop
 find_key_requires c κs = (c.requires.1.places, omega arith, c.requires.2)
 
-loop_holds : tie.Need-loop-init invariant_loop decreases_loop
+loop_holds : tie.Need-loop-a-init invariant_loop decreases_loop
 loop_holds c =
-    let s = c.before in
-    (c.find-key.ensures.at_most, passed s 0 c.find-key.result c.find-key.ensures (none_below_zero (replica s) s.args.b))
+    let s = c in
+    (c.find_key-a.ensures.at_most, passed s.before 0 c.find_key-a.result c.find_key-a.ensures (none_below_zero (replica s.before) s.args.b))
 
-same_sums_requires : tie.Need-same-sums-requires invariant_loop decreases_loop
-same_sums_requires c κs = c.before.before.before.requires.0
+same_sums_requires : tie.Need-same_sums-requires invariant_loop decreases_loop
+same_sums_requires c κs = c.requires.0
 
-returns : tie.Need-returns invariant_loop decreases_loop
+returns : tie.Need-returns-then-same_sums invariant_loop decreases_loop
 returns c =
-    let l = c.before.before.before.loop in
-    let s = c.before.before.before.before.before in
-    twin_found (replica s) s.args.b l.a (omega arith) (c.before.same-sums.ensures.yes_holds c.if1.true) l.invariant.1
+    let l = c.loop-a in
+    let s = c in
+    twin_found (replica s.before.before.before.before.before) s.args.b l.a (omega arith) (c.same_sums.ensures.yes_holds c.if-same_sums.true) l.invariant.1
 
-find_key_requires_2 : tie.Need-find-key-requires-2 invariant_loop decreases_loop
+find_key_requires_2 : tie.Need-find_key-a-requires-in-loop-a invariant_loop decreases_loop
 find_key_requires_2 c κs =
-    let s = c.before.before.before.before.before in
+    let s = c in
     (s.requires.1.places, omega arith, s.requires.2)
 
-loop_less : tie.Need-loop-smaller invariant_loop decreases_loop
-loop_less c = omega (arith, c.find-key2.ensures.from_there)
+loop_less : tie.Need-loop-a-smaller invariant_loop decreases_loop
+loop_less c = omega (arith, c.find_key-a-in-loop-a.ensures.from_there)
 
-loop_again : tie.Need-loop-preserved invariant_loop decreases_loop
+loop_again : tie.Need-loop-a-preserved invariant_loop decreases_loop
 loop_again c =
-    let t = c.before.before in
-    let l = t.before.before.loop in
-    let s = t.before.before.before.before in (
-      c.find-key2.ensures.at_most,
-      passed s (l.a + 1) c.find-key2.result c.find-key2.ensures
-          (none_below_more (replica s) s.args.b l.a (t.same-sums.ensures.no_fails c.before.if1.false) l.invariant.1),
+    let t = c in
+    let l = t.loop-a in
+    let s = t in (
+      c.find_key-a-in-loop-a.ensures.at_most,
+      passed s.before.before.before.before.before.before (l.a + 1) c.find_key-a-in-loop-a.result c.find_key-a-in-loop-a.ensures
+          (none_below_more (replica s.before.before.before.before.before.before) s.args.b l.a (t.same_sums.ensures.no_fails c.if-same_sums.false) l.invariant.1),
     )
 
-returns_2 : tie.Need-returns-2 invariant_loop decreases_loop
+returns_2 : tie.Need-returns invariant_loop decreases_loop
 returns_2 c =
-    let l = c.before.loop in
-    let s = c.before.before.before in
-    twin_none (replica s) s.args.b l.a (omega arith) l.invariant.1
+    let l = c.loop-a in
+    let s = c in
+    twin_none (replica s.before.before.before) s.args.b l.a (omega arith) l.invariant.1
 
 pub find_twin_spec : {M : Type 1} → statement M
 find_twin_spec =

@@ -5,7 +5,7 @@ use mir.Facts.{to_z-of_z, Fits-nat_abs}
 use Rattle.idle_search.proofs.mix.Statement.{statement}
 use Rattle.idle_search.proofs.mix.Tie as tie
 
-cast_result : tie.Need-overflow-cast-result
+cast_result : tie.Need-overflow_cast-result
 cast_result c = rw (to_z-of_z c.ranges.sum) (c.requires, Fits-nat_abs {w = w64} tt c.ranges.sum)
 
 pub mix_spec : {M : Type 1} → statement M

@@ -8,19 +8,19 @@ use Rattle.idle_search.proofs.put_key.Statement.{statement}
 use Rattle.idle_search.proofs.put_key.Tie as tie
 
 walk_requires : tie.Need-walk-requires
-walk_requires c κs = (c.before.requires.0, far_sums)
+walk_requires c κs = (c.requires.0, far_sums)
 
-key_of_requires : tie.Need-key-of-requires
+key_of_requires : tie.Need-key_of-key-requires
 key_of_requires c κs =
-    let w = c.before in
-    let s = w.before.before in
+    let w = c in
+    let s = w in
     subst Natural (sym w.walk.ensures) (naturals s.args.numbers.now s.args.strides.now s.requires.0 _)
 
 returns : tie.Need-returns
 returns c =
-    let w = c.before.before in
-    let s = w.before.before in
-    rw (c.key_of.ensures ∙ ap key_of w.walk.ensures)
+    let w = c in
+    let s = w in
+    rw (c.key_of-key.ensures ∙ ap key_of w.walk.ensures)
     (keyed_more (iters_of s.args.numbers.now s.args.strides.now 1) s.args.b s.args.keys.now s.requires.2 s.requires.1)
 
 pub put_key_spec : {M : Type 1} → statement M

@@ -9,26 +9,26 @@ use Rattle.idle_search.proofs.same_sums.Statement.{statement}
 use Rattle.idle_search.proofs.same_sums.Tie as tie
 
 walk_requires : tie.Need-walk-requires
-walk_requires c κs = (c.before.requires, far_sums)
+walk_requires c κs = (c.requires, far_sums)
 
 walk_requires_2 : tie.Need-walk-requires-2
-walk_requires_2 c κs = (c.before.before.before.requires, far_sums)
+walk_requires_2 c κs = (c.requires, far_sums)
 
-are_equal_requires : tie.Need-are-equal-requires
+are_equal_requires : tie.Need-are_equal-requires
 are_equal_requires c κs =
-    let v = c.before.before in
-    let w = v.before.before in
-    let s = w.before.before in
+    let v = c in
+    let w = v in
+    let s = w in
     let iters = iters_of s.args.numbers.now s.args.strides.now 1 in
-    (ap length w.walk.ensures ∙ walked_eight iters _ far, ap length v.walk2.ensures ∙ walked_eight iters _ far)
+    (ap length w.walk.ensures ∙ walked_eight iters _ far, ap length v.walk-2.ensures ∙ walked_eight iters _ far)
 
 returns : tie.Need-returns
 returns c =
-    let v = c.before.before.before in
-    let w = v.before.before in
-    let s = w.before.before in
+    let v = c in
+    let w = v in
+    let s = w in
     let iters = iters_of s.args.numbers.now s.args.strides.now 1 in
-    walks_same iters s.args.a s.args.b w.walk.ensures v.walk2.ensures c.are-equal.ensures
+    walks_same iters s.args.a s.args.b w.walk.ensures v.walk-2.ensures c.are_equal.ensures
 
 pub same_sums_spec : {M : Type 1} → statement M
 same_sums_spec = tie.close (tie.spec walk_requires walk_requires_2 are_equal_requires returns)

@@ -7,15 +7,15 @@ use Rattle.judge.proofs.judge_kept.Tie as tie
 
 returns : tie.Need-returns
 returns c one two e f =
-    let j = c.before.before in
-    let k = j.before.before in
+    let j = c in
+    let k = j in
     record {
       after = _;
-      verdict = j.judge-lines.result;
+      verdict = j.judge_lines-verdict.result;
       promised =
-          judge_kept one two _ _ j.judge-lines.result 4096 (omega arith)
-          (rw (k.before.before.kept.ensures, k.kept2.ensures, ← e, ← f) at j.judge-lines.ensures);
-      numbered = c.verdict-numbers.ensures;
+          judge_kept one two _ _ j.judge_lines-verdict.result 4096 (omega arith)
+          (rw (k.kept-lengths.ensures, k.kept-text.ensures, ← e, ← f) at j.judge_lines-verdict.ensures);
+      numbered = c.verdict_numbers.ensures;
     }
 
 pub judge_kept_spec : {M : Type 1} → statement M

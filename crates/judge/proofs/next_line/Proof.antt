@@ -4,10 +4,10 @@ use borrow.Author.Rules.{rules}
 use Rattle.judge.proofs.next_line.Statement.{statement}
 use Rattle.judge.proofs.next_line.Tie as tie
 
-abbrev invariant_loop : tie.invariant_loop
+abbrev invariant_loop : tie.invariant-loop-turns
 invariant_loop part₀ line₀ input₀ turns₀ part line input turns = Unit
 
-abbrev decreases_loop : tie.decreases_loop
+abbrev decreases_loop : tie.decreases-loop-turns
 decreases_loop part₀ line₀ input₀ turns₀ part line input turns = turns
 
 pub next_line_spec : {M : Type 1} → statement M

@@ -6,10 +6,10 @@ use lib.ListN.{length}
 use Rattle.lister.proofs.list.Statement.{statement}
 use Rattle.lister.proofs.list.Tie as tie
 
-abbrev invariant_loop : tie.invariant_loop
+abbrev invariant_loop : tie.invariant-loop-from
 invariant_loop part first out₀ at place₀ index₀ from₀ out place index from = (from ≤ length part + 512) × (index ≤ first + from)
 
-abbrev decreases_loop : tie.decreases_loop
+abbrev decreases_loop : tie.decreases-loop-from
 decreases_loop part first out₀ at place₀ index₀ from₀ out place index from = length part + 512 - from
 
 pub list_spec : {M : Type 1} → statement M

@@ -5,10 +5,10 @@ use borrow.Author.Rules.{rules}
 use Rattle.lister.proofs.list_input.Statement.{statement}
 use Rattle.lister.proofs.list_input.Tie as tie
 
-abbrev invariant_loop : tie.invariant_loop
+abbrev invariant_loop : tie.invariant-loop-turns
 invariant_loop part₀ out₀ at₀ turns₀ part out at turns = turns ≤ 36028797018963968
 
-abbrev decreases_loop : tie.decreases_loop
+abbrev decreases_loop : tie.decreases-loop-turns
 decreases_loop part₀ out₀ at₀ turns₀ part out at turns = turns
 
 pub list_input_spec : {M : Type 1} → statement M

@@ -10,10 +10,10 @@ use Rattle.mask.proofs.fill_mask.Tie as tie
 
 returns : tie.Need-returns
 returns c =
-    let a = c.before.before.before.before.before.before.before.args in
-    let words = c.before.before.before.before.before.words_of in (
+    let a = c.args in
+    let words = c.words_of-words in (
       ap₂ Mask words.ensures.0 words.ensures.1,
-      c.before.before.write_bytes.ensures ∙ words_bytes (column a.size a.fields) words.result.at (length a.mask.now) words.ensures.2,
+      c.write_bytes.ensures ∙ words_bytes (column a.size a.fields) words.result.at (length a.mask.now) words.ensures.2,
     )
 
 pub fill_mask_spec : {M : Type 1} → statement M

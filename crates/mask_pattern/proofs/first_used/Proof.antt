@@ -18,6 +18,6 @@ sum_fits p word h = omega (arith, trailing_le 64 word)
 pub first_used_spec : {M : Type 1} → statement M
 first_used_spec =
     tie.close
-    (tie.spec (λ c. zeros_fit _) (λ c. sum_fits _ _ c.before.requires)
-    (λ c. rw (eq-eqb c.before.args.before c.before.args.p c.if1.true))
-    (λ c. rw (ne_eqb c.before.args.before c.before.args.p c.if1.false)))
+    (tie.spec (λ c. zeros_fit _) (λ c. sum_fits _ _ c.requires)
+    (λ c. rw (eq-eqb c.args.before c.args.p c.if-before-p.true))
+    (λ c. rw (ne_eqb c.args.before c.args.p c.if-before-p.false)))

@@ -9,32 +9,32 @@ use Rattle.mask_pattern.proofs.Runs.{side, Holds, joined}
 use Rattle.mask_pattern.proofs.mask_word.Statement.{statement}
 use Rattle.mask_pattern.proofs.mask_word.Tie as tie
 
-abbrev invariant_loop : tie.invariant_loop
+abbrev invariant_loop : tie.invariant-loop-k
 invariant_loop size skip used counts spans pattern p count word₀ k₀ word k = (k ≤ count) × (word ≡ columns_number (side skip used size counts spans) p k)
 
-abbrev decreases_loop : tie.decreases_loop
+abbrev decreases_loop : tie.decreases-loop-k
 decreases_loop size skip used counts spans pattern p count word₀ k₀ word k = count - k
 
 -- a column lies within its sub-mask
-within : (c : tie.In-loop invariant_loop decreases_loop) → let a = c.before.before.args in (a.p + c.before.loop.k) % a.size < a.size
-within c = let a = c.before.before.args in mod-lt (a.p + c.before.loop.k) {m = a.size} (omega arith)
+within : (c : tie.In-loop-k invariant_loop decreases_loop) → let a = c.args in (a.p + c.loop-k.k) % a.size < a.size
+within c = let a = c.args in mod-lt (a.p + c.loop-k.k) {m = a.size} (omega arith)
 
 piece_requires : tie.Need-piece-requires invariant_loop decreases_loop
 piece_requires c κs =
-    let start = c.before.before.before in
+    let start = c in
     let w = within c.before in
     (omega arith, start.requires.1, start.requires.2, start.requires.3, start.requires.4, omega arith, omega arith)
 
 -- one piece more
 more : (c : tie.After-piece invariant_loop decreases_loop)
-    → let a = c.before.before.before.before.args in
-    let now = c.before.before.before.loop in
+    → let a = c.args in
+    let now = c.loop-k in
     let set = side a.skip a.used a.size a.counts.now a.spans.now in
-    Holds set a.p (now.k + c.before.lesser.result) (now.word + c.piece.result * 2 ^ now.k % 2 ^ 64)
+    Holds set a.p (now.k + c.lesser-step.result) (now.word + c.piece.result * 2 ^ now.k % 2 ^ 64)
 more c =
-    let a = c.before.before.before.before.args in
-    let now = c.before.before.before.loop in
-    let step = c.before.lesser.result in
+    let a = c.args in
+    let now = c.loop-k in
+    let step = c.lesser-step.result in
     joined (side a.skip a.used a.size a.counts.now a.spans.now) a.p now.k (a.p + now.k) step (now.k + step) now.word c.piece.result
     (omega arith)
     (omega arith)
@@ -44,8 +44,8 @@ more c =
 
 returns : tie.Need-returns invariant_loop decreases_loop
 returns c =
-    let a = c.before.before.args in
-    let now = c.before.loop in
+    let a = c.args in
+    let now = c.loop-k in
     let all : now.k ≡ a.count = omega arith in
     now.invariant.1 ∙ ap (columns_number (side a.skip a.used a.size a.counts.now a.spans.now) a.p) all
 

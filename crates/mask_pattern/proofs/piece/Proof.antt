@@ -13,20 +13,20 @@ below_four c = (div-lt_iff_lt-mul {k = c.args.size} (omega arith)).1 c.requires.
 
 returns : tie.Need-returns
 returns c =
-    let a = c.before.before.before.before.before.before.args in
-    let start = c.before.before.before.wide in
-    let place = c.before.before.place in
-    let word = c.before.word-from in
-    piece_number a.skip a.used a.size a.counts.now a.spans.now a.p a.count place.result start.result word.result c.ones-up-to.result
+    let a = c.args in
+    let start = c.wide-start in
+    let place = c.place-at in
+    let word = c.word_from in
+    piece_number a.skip a.used a.size a.counts.now a.spans.now a.p a.count place.result start.result word.result c.ones_up_to.result
     (omega arith)
     (omega arith)
     start.ensures.0
     place.ensures.1
     word.ensures
-    c.ones-up-to.ensures
+    c.ones_up_to.ensures
 
 pub piece_spec : {M : Type 1} → statement M
 piece_spec =
     tie.close
-    (tie.spec (λ c. search rules) (λ c. omega (arith, below_four c)) (λ c. omega (arith, below_four c.before)) (λ c κs. tt) (λ c. search rules)
+    (tie.spec (λ c. search rules) (λ c. omega (arith, below_four c.before)) (λ c. omega (arith, below_four c.before.before.before)) (λ c κs. tt) (λ c. search rules)
     (λ c. search rules) (λ c κs. search rules) (λ c κs. search rules) (λ c κs. tt) returns)

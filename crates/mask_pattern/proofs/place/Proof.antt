@@ -9,5 +9,5 @@ place_spec =
     tie.close
     (tie.spec (λ c. search rules) (λ c. search rules) (λ c. search rules) (λ c. search rules) (λ c. search rules) (λ c. search rules)
     (λ c. search rules) (λ c. search rules) (λ c. search rules) (λ c. search rules)
-    (λ c. rw c.if1.true (placed_set c.before.args.skip c.before.args.used c.before.args.q))
-    (λ c. rw c.if1.false (placed_clear c.before.args.skip c.before.args.used c.before.args.q)))
+    (λ c. rw c.if-first.true (placed_set c.args.skip c.args.used c.args.q))
+    (λ c. rw c.if-first.false (placed_clear c.args.skip c.args.used c.args.q)))

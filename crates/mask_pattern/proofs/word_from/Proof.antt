@@ -12,20 +12,20 @@ use Rattle.mask_pattern.proofs.word_from.Statement.{statement}
 use Rattle.mask_pattern.proofs.word_from.Tie as tie
 
 -- what is left of the period, as far as a word goes
-lead : (c : tie.After-ones-up-to) (n : ℕ)
-    → let a = c.before.args in
-    n ≡ min (period a.skip a.used - a.at) 64 → c.ones-up-to.result ≡ columns_number (endless true a.skip a.used) a.at n
-lead c n e = let a = c.before.args in c.ones-up-to.ensures ∙ sym (run_left a.skip a.used a.at n c.before.requires.2 e)
+lead : (c : tie.After-ones_up_to-lead) (n : ℕ)
+    → let a = c.args in
+    n ≡ min (period a.skip a.used - a.at) 64 → c.ones_up_to-lead.result ≡ columns_number (endless true a.skip a.used) a.at n
+lead c n e = let a = c.args in c.ones_up_to-lead.ensures ∙ sym (run_left a.skip a.used a.at n c.requires.2 e)
 
-both : (c : tie.Then1)
-    → let a = c.before.before.args in
-    Holds (endless true a.skip a.used) a.at 64 (c.before.ones-up-to.result + a.pattern * 2 ^ (period a.skip a.used - a.at) % 2 ^ 64)
+both : (c : tie.Then-rest-lt64)
+    → let a = c.args in
+    Holds (endless true a.skip a.used) a.at 64 (c.ones_up_to-lead.result + a.pattern * 2 ^ (period a.skip a.used - a.at) % 2 ^ 64)
 both c =
-    let start = c.before.before in
+    let start = c in
     let a = start.args in
     let P = period a.skip a.used in
     let end : a.at + (P - a.at) ≡ P = omega arith in
-    joined (endless true a.skip a.used) a.at (P - a.at) 0 64 64 c.before.ones-up-to.result a.pattern (omega arith) (omega arith)
+    joined (endless true a.skip a.used) a.at (P - a.at) 0 64 64 c.ones_up_to-lead.result a.pattern (omega arith) (omega arith)
     (lead c.before (P - a.at) (omega arith))
     start.requires.3
     (alike_on a.skip a.used (a.at + (P - a.at)) 0 (rw end (mod_self P ∙ sym (zero-mod P))))

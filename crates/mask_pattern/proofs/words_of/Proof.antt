@@ -13,10 +13,10 @@ use Rattle.mask_pattern.proofs.Counted.{columns_set}
 use Rattle.mask_pattern.proofs.words_of.Statement.{statement}
 use Rattle.mask_pattern.proofs.words_of.Tie as tie
 
-returns : tie.Need-returns
+returns : tie.Need-returns-then-not-fields
 returns c =
-    let a = c.before.before.args in
-    let clear = fun_ext (all_clear a.size a.fields (not-true a.fields.non_zero c.if1.true)) in
+    let a = c.args in
+    let clear = fun_ext (all_clear a.size a.fields (not-true a.fields.non_zero c.if-not-fields.true)) in
     rw clear (
       sym (none_zeroed 0 a.n),
       sym (all_used_lem 0 a.n),
@@ -25,12 +25,12 @@ returns c =
           ∙ sym (number_run (λ p. false) (64 * i) 0 (min (a.n - 64 * i) 64) (omega arith) (λ k l. absurd (omega arith)) (λ k l b. refl)),
     )
 
-returns_2 : tie.Need-returns-2
+returns_2 : tie.Need-returns
 returns_2 c =
-    let start = c.before.before.before.before.before.before.before.before.before in
+    let start = c in
     let a = start.args in
-    let on = not-false a.fields.non_zero c.before.before.before.before.before.before.before.if1.false in
-    rw (columns_set a.size a.fields on) c.pattern-words.ensures
+    let on = not-false a.fields.non_zero c.if-not-fields.false in
+    rw (columns_set a.size a.fields on) c.pattern_words.ensures
 
 pub words_of_spec : {M : Type 1} → statement M
 words_of_spec = tie.close (tie.spec returns (λ c. search rules) (λ c. search rules) (λ c κs. search rules) returns_2)

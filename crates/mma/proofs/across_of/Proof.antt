@@ -5,7 +5,7 @@ use Rattle.mma.proofs.across_of.Tie as tie
 
 returns : tie.Need-returns
 returns c =
-    rw (c.step2.ensures.0, c.before.step.ensures.0, c.before.before.before.digit2.ensures.0, c.before.before.before.before.digit.ensures.0, c.before.before.before.before.before.tall.ensures.0)
+    rw (c.step-2.ensures.0, c.step.ensures.0, c.digit-next.ensures.0, c.digit-repeat.ensures.0, c.tall.ensures.0)
 
 pub across_of_spec : {M : Type 1} → statement M
 across_of_spec =

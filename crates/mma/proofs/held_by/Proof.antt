@@ -10,35 +10,35 @@ use Rattle.mma.proofs.Laws.{held_no_kind, held_no_slot, held_there, slot_small}
 use Rattle.mma.proofs.held_by.Statement.{statement}
 use Rattle.mma.proofs.held_by.Tie as tie
 
-returns : tie.Need-returns
+returns : tie.Need-returns-then-not-is_kind
 returns c =
-    let a = c.before.before.before.args in
+    let a = c.args in
     ap HoldsNot c.outside.ensures
-    ∙ sym (held_no_kind a.kind a.warp a.lane a.register (sym c.before.before.is-kind.ensures ∙ not-true _ c.before.if1.true))
+    ∙ sym (held_no_kind a.kind a.warp a.lane a.register (sym c.is_kind.ensures ∙ c.if-not-is_kind.true))
 
-there : (c : tie.Else2) → form_slot c.before.before.form.result c.before.before.before.before.before.args.warp c.before.before.before.before.before.args.lane c.before.before.before.before.before.args.register ≡ true
-there c = sym c.before.is-slot.ensures ∙ not-false _ c.if2.false
+there : (c : tie.Else-not-is_slot) → form_slot c.form-f.result c.args.warp c.args.lane c.args.register ≡ true
+there c = sym c.is_slot.ensures ∙ c.if-not-is_slot.false
 
-returns_2 : tie.Need-returns-2
+returns_2 : tie.Need-returns-then-not-is_slot
 returns_2 c =
-    let a = c.before.before.before.before.before.before.args in
-    ap HoldsNot c.outside2.ensures
-    ∙ sym (held_no_slot a.kind _ c.before.before.before.form.ensures.0 a.warp a.lane a.register (sym c.before.before.is-slot.ensures ∙ not-true _ c.before.if2.true))
+    let a = c.args in
+    ap HoldsNot c.outside-then-not-is_slot.ensures
+    ∙ sym (held_no_slot a.kind _ c.form-f.ensures.0 a.warp a.lane a.register (sym c.is_slot.ensures ∙ c.if-not-is_slot.true))
 
-place_held_requires : tie.Need-place-held-requires
+place_held_requires : tie.Need-place_held-requires
 place_held_requires c κs =
-    let a = c.before.before.before.before.before.args in
-    let s = c.before.before.form.ensures.1 in
-    (s, slot_small c.before.before.form.result s a.warp a.lane a.register (there c))
+    let a = c.args in
+    let s = c.form-f.ensures.1 in
+    (s, slot_small c.form-f.result s a.warp a.lane a.register (there c))
 
-returns_3 : tie.Need-returns-3
+returns_3 : tie.Need-returns
 returns_3 c =
-    let a = c.before.before.before.before.before.before.args in
-    ap Holds c.place-held.ensures
-    ∙ sym (held_there a.kind _ c.before.before.before.form.ensures.0 a.warp a.lane a.register (there c.before))
+    let a = c.args in
+    ap Holds c.place_held.ensures
+    ∙ sym (held_there a.kind _ c.form-f.ensures.0 a.warp a.lane a.register (there c.before))
 
 pub held_by_spec : {M : Type 1} → statement M
 held_by_spec =
     tie.close
-    (tie.spec (λ c κs. search rules) (λ c κs. search rules) returns (λ c κs. sym c.before.is-kind.ensures ∙ not-false _ c.if1.false) (λ c κs. search rules)
+    (tie.spec (λ c κs. search rules) (λ c κs. search rules) returns (λ c κs. sym c.is_kind.ensures ∙ c.if-not-is_kind.false) (λ c κs. search rules)
     (λ c κs. search rules) returns_2 place_held_requires returns_3)

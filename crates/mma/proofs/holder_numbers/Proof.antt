@@ -7,4 +7,4 @@ pub holder_numbers_spec : {M : Type 1} → statement M
 holder_numbers_spec =
     tie.close
     (tie.spec (λ c. search rules) (λ c κs. search rules) (λ c. search rules) (λ c κs. search rules)
-    (λ c. rw c.before.before.holder.given.1 c.answer.ensures) (λ c. rw c.before.before.holder2.given.1 c.refusal-numbers.ensures))
+    (λ c. rw c.in-Slot.is c.answer.ensures) (λ c. rw c.in-Refused.is c.refusal_numbers.ensures))

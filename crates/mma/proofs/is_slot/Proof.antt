@@ -10,7 +10,7 @@ use Rattle.mma.proofs.is_slot.Tie as tie
 
 returns : tie.Need-returns
 returns c =
-    let a = c.before.before.args in
+    let a = c.args in
     ap (λ (n : ℕ). ltb a.warp a.f.warps && ltb a.lane 32 && ltb a.register n) (c.registers.ensures.0 ∙ registers_plain a.f)
 
 pub is_slot_spec : {M : Type 1} → statement M

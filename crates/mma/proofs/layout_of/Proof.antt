@@ -7,17 +7,17 @@ use Rattle.mma.proofs.Laws.{card_of_form}
 use Rattle.mma.proofs.layout_of.Statement.{statement}
 use Rattle.mma.proofs.layout_of.Tie as tie
 
-returns : tie.Need-returns
+returns : tie.Need-returns-then-not-is_kind
 returns c =
-    rw (sym c.before.before.before.is-kind.ensures ∙ not-true _ c.before.before.if1.true, c.before.zeros.ensures, c.outside.ensures)
+    rw (sym c.is_kind.ensures ∙ c.if-not-is_kind.true, c.zeros-card.ensures, c.outside.ensures)
 
-returns_2 : tie.Need-returns-2
+returns_2 : tie.Need-returns
 returns_2 c =
-    let k = c.before.before.before.before.before.before.before.args.kind in
-    rw (sym c.before.before.before.before.before.before.is-kind.ensures ∙ not-false _ c.before.before.before.before.before.if1.false, c.card.ensures ∙ card_of_form k c.before.before.before.before.form.result c.before.before.before.before.form.ensures.0 c.before.registers.result c.before.registers.ensures.0)
+    let k = c.args.kind in
+    rw (sym c.is_kind.ensures ∙ c.if-not-is_kind.false, c.card-card.ensures ∙ card_of_form k c.form-f.result c.form-f.ensures.0 c.registers.result c.registers.ensures.0)
 
 pub layout_of_spec : {M : Type 1} → statement M
 layout_of_spec =
     tie.close
     (tie.spec (λ c κs. search rules) (λ c κs. search rules) (λ c κs. search rules) returns
-    (λ c κs. sym c.before.is-kind.ensures ∙ not-false _ c.if1.false) (λ c κs. search rules) (λ c κs. search rules) (λ c κs. search rules) (λ c κs. search rules) returns_2)
+    (λ c κs. sym c.is_kind.ensures ∙ c.if-not-is_kind.false) (λ c κs. search rules) (λ c κs. search rules) (λ c κs. search rules) (λ c κs. search rules) returns_2)

@@ -11,5 +11,5 @@ length_across_spec =
     tie.close
     (tie.spec
     (λ c. search rules)
-    (λ c. let s = c.before.before.requires in omega (arith, times c.before.before.args.f.repeats (4 * c.before.before.args.f.next) 32 32 s.few_repeats (omega (arith, s.few_next))))
+    (λ c. let s = c.requires in omega (arith, times c.args.f.repeats (4 * c.args.f.next) 32 32 s.few_repeats (omega (arith, s.few_next))))
     (λ c. search rules))

@@ -11,5 +11,5 @@ length_down_spec =
     tie.close
     (tie.spec
     (λ c. search rules)
-    (λ c. let s = c.before.before.requires in omega (arith, times c.before.before.args.f.warps (c.before.before.args.f.halves * 8) 4 16 s.few_warps (omega (arith, s.few_halves))))
+    (λ c. let s = c.requires in omega (arith, times c.args.f.warps (c.args.f.halves * 8) 4 16 s.few_warps (omega (arith, s.few_halves))))
     (λ c. search rules))

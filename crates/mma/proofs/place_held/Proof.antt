@@ -6,19 +6,19 @@ use Rattle.mma.proofs.Laws.{held_turned, held_straight}
 use Rattle.mma.proofs.place_held.Statement.{statement}
 use Rattle.mma.proofs.place_held.Tie as tie
 
-returns : tie.Need-returns
+returns : tie.Need-returns-then-f
 returns c =
-    let a = c.before.before.before.before.before.args in
+    let a = c.args in
     held_turned a.f _ _ _ a.warp a.lane a.i
-    (c.before.before.before.digit.ensures.0 ∙ ap (λ (n : ℕ). a.i / n % a.f.matrices) c.before.before.before.before.wide.ensures.0)
-    c.before.before.down-of.ensures c.before.across-of.ensures c.if1.true
+    (c.digit-matrix.ensures.0 ∙ ap (λ (n : ℕ). a.i / n % a.f.matrices) c.wide.ensures.0)
+    c.down_of-down.ensures c.across_of-across.ensures c.if-f.true
 
-returns_2 : tie.Need-returns-2
+returns_2 : tie.Need-returns
 returns_2 c =
-    let a = c.before.before.before.before.before.args in
+    let a = c.args in
     held_straight a.f _ _ _ a.warp a.lane a.i
-    (c.before.before.before.digit.ensures.0 ∙ ap (λ (n : ℕ). a.i / n % a.f.matrices) c.before.before.before.before.wide.ensures.0)
-    c.before.before.down-of.ensures c.before.across-of.ensures c.if1.false
+    (c.digit-matrix.ensures.0 ∙ ap (λ (n : ℕ). a.i / n % a.f.matrices) c.wide.ensures.0)
+    c.down_of-down.ensures c.across_of-across.ensures c.if-f.false
 
 pub place_held_spec : {M : Type 1} → statement M
 place_held_spec =

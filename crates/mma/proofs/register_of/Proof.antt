@@ -6,14 +6,14 @@ use Rattle.mma.proofs.register_of.Tie as tie
 returns : tie.Need-returns
 returns c =
     rw (
-      c.step3.ensures.0,
-      c.before.step2.ensures.0,
-      c.before.before.step.ensures.0,
-      c.before.before.before.tall.ensures.0,
-      c.before.before.before.before.wide.ensures.0,
-      c.before.before.before.before.before.digit3.ensures.0,
-      c.before.before.before.before.before.before.digit2.ensures.0,
-      c.before.before.before.before.before.before.before.digit.ensures.0,
+      c.step-3.ensures.0,
+      c.step-2.ensures.0,
+      c.step.ensures.0,
+      c.tall.ensures.0,
+      c.wide.ensures.0,
+      c.digit-next.ensures.0,
+      c.digit-half.ensures.0,
+      c.digit-repeat.ensures.0,
     )
 
 pub register_of_spec : {M : Type 1} → statement M

@@ -6,8 +6,8 @@ use Rattle.mma.proofs.slot_holding.Tie as tie
 
 returns : tie.Need-returns
 returns c =
-    let a = c.before.before.before.before.args in
-    holder_of_parts a.f a.matrix a.down a.across _ _ _ c.before.before.digit.ensures.0 c.before.digit2.ensures.0 c.register_of.ensures
+    let a = c.args in
+    holder_of_parts a.f a.matrix a.down a.across _ _ _ c.digit-warp.ensures.0 c.digit-thread.ensures.0 c.register_of-register.ensures
 
 pub slot_holding_spec : {M : Type 1} → statement M
 slot_holding_spec =

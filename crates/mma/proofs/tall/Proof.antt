@@ -9,9 +9,9 @@ pub tall_spec : {M : Type 1} → statement M
 tall_spec =
     tie.close
     (tie.spec
-    (λ c. let s = c.before.requires in omega (arith, times c.before.args.f.halves c.before.args.f.next 2 8 s.few_halves s.few_next))
-    (λ c. let s = c.before.requires in (
+    (λ c. let s = c.requires in omega (arith, times c.args.f.halves c.args.f.next 2 8 s.few_halves s.few_next))
+    (λ c. let s = c.requires in (
       refl,
-      some_times c.before.args.f.halves c.before.args.f.next s.some_halves s.some_next,
-      times c.before.args.f.halves c.before.args.f.next 2 8 s.few_halves s.few_next,
+      some_times c.args.f.halves c.args.f.next s.some_halves s.some_next,
+      times c.args.f.halves c.args.f.next 2 8 s.few_halves s.few_next,
     )))

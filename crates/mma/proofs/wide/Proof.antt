@@ -10,10 +10,10 @@ pub wide_spec : {M : Type 1} → statement M
 wide_spec =
     tie.close
     (tie.spec
-    (λ c. let s = c.before.requires in omega (arith, times c.before.args.f.halves c.before.args.f.next 2 8 s.few_halves s.few_next))
-    (λ c. let s = c.before.before.requires in let a = c.before.before.args.f in
+    (λ c. let s = c.requires in omega (arith, times c.args.f.halves c.args.f.next 2 8 s.few_halves s.few_next))
+    (λ c. let s = c.requires in let a = c.args.f in
     omega (arith, times a.repeats (a.halves * a.next) 32 16 s.few_repeats (times a.halves a.next 2 8 s.few_halves s.few_next)))
-    (λ c. let s = c.before.before.requires in let a = c.before.before.args.f in (
+    (λ c. let s = c.requires in let a = c.args.f in (
       refl,
       some_times a.repeats (a.halves * a.next) s.some_repeats (some_times a.halves a.next s.some_halves s.some_next),
       times a.repeats (a.halves * a.next) 32 16 s.few_repeats (times a.halves a.next 2 8 s.few_halves s.few_next),

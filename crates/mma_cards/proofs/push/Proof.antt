@@ -12,18 +12,18 @@ use Rattle.mma_cards.proofs.Pushed.{follows_one, follows_none}
 use Rattle.mma_cards.proofs.push.Statement.{statement}
 use Rattle.mma_cards.proofs.push.Tie as tie
 
-returns : tie.Need-returns
+returns : tie.Need-returns-then-extent-eq1
 returns c =
-    let a = c.before.args in
-    (omega arith, follows_none a.iters (record { extent = a.extent; stride = pos a.stride; axis = a.axis }) c.if1.true)
+    let a = c.args in
+    (omega arith, follows_none a.iters (record { extent = a.extent; stride = pos a.stride; axis = a.axis }) c.if-extent-eq1.true)
 
-returns_2 : tie.Need-returns-2
+returns_2 : tie.Need-returns
 returns_2 c =
-    let a = c.before.before.before.before.args in
+    let a = c.args in
     let x : Iter = record { extent = a.extent; stride = pos a.stride; axis = a.axis } in (
       omega arith,
       subst (λ (y : Iter). Follows a.iters (record { at = set a.iters.at a.iters.count y; count = a.iters.count + 1 }) (x ∷ []))
-          (sym c.before.iter.ensures) (follows_one a.iters x c.before.before.before.if1.false),
+          (sym c.iter.ensures) (follows_one a.iters x c.if-extent-eq1.false),
     )
 
 pub push_spec : {M : Type 1} → statement M

@@ -12,18 +12,18 @@ use Rattle.mma_cards.proofs.push_across.Tie as tie
 
 returns : tie.Need-returns
 returns c =
-    let f = c.before.before.before.args.f in
-    let same = c.before.before.before.requires.1.1 in (
-      omega (arith, c.push3.ensures.0, c.before.push2.ensures.0, c.before.before.push.ensures.0),
+    let f = c.args.f in
+    let same = c.requires.1.1 in (
+      omega (arith, c.push.ensures.0, c.push-two.ensures.0, c.push-one.ensures.0),
       follows_more _ _ _ (register f.repeats (f.halves * f.next) ∷ []) (lane 4 1 ∷ register f.next 1 ∷ [])
-          (subst (λ (n : ℕ). Follows c.before.before.before.args.iters c.before.before.push.result (register f.repeats n ∷ [])) same c.before.before.push.ensures.1)
-          (follows_more _ _ _ (lane 4 1 ∷ []) (register f.next 1 ∷ []) c.before.push2.ensures.1 c.push3.ensures.1),
+          (subst (λ (n : ℕ). Follows c.args.iters c.push-one.result (register f.repeats n ∷ [])) same c.push-one.ensures.1)
+          (follows_more _ _ _ (lane 4 1 ∷ []) (register f.next 1 ∷ []) c.push-two.ensures.1 c.push.ensures.1),
     )
 
 pub push_across_spec : {M : Type 1} → statement M
 push_across_spec =
     tie.close
     (tie.spec (λ c κs. let s = c.requires in (omega (arith, s.1.0), omega (arith, s.1.2)))
-    (λ c κs. let s = c.before.requires in (omega (arith, c.push.ensures.0, s.1.0), omega arith))
-    (λ c κs. let s = c.before.before.requires in (omega (arith, c.push2.ensures.0, c.before.push.ensures.0, s.1.0), omega arith))
+    (λ c κs. let s = c.requires in (omega (arith, c.push-one.ensures.0, s.1.0), omega arith))
+    (λ c κs. let s = c.requires in (omega (arith, c.push-two.ensures.0, c.push-one.ensures.0, s.1.0), omega arith))
     returns)

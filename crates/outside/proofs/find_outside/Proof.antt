@@ -33,70 +33,70 @@ fits s = (checked (card s) s.requires.admitted).space
 abbrev start : tie.After-ends → tie.Start
 start e = e.before.before.before.before.before
 
-abbrev asked : tie.After-high2 → tie.After-ends
+abbrev asked : tie.After-high-2-1 → tie.After-ends
 asked c = c.before.before
 
 -- both start from the offset
 ends_requires : tie.Need-ends-requires
-ends_requires c κs = let o = c.before.before in (o.before.before.requires, o.before.offset.ensures, o.offset2.ensures)
+ends_requires c κs = let o = c in (o.requires, o.offset-low.ensures, o.offset-high.ensures)
 
-first_axis_requires : tie.Need-first-axis-requires
+first_axis_requires : tie.Need-first_axis-first-requires
 first_axis_requires c κs =
     let e = asked c in
     let s = start e in
-    (e.ends.ensures.0.eight, e.ends.ensures.1.eight, spaced s.args.numbers.now s.args.strides.now s.pre)
+    (e.ends.ensures.0.eight, e.ends.ensures.1.eight, spaced s.args.numbers.now s.args.strides.now s.requires)
 
-abbrev looked : tie.After-first-axis → tie.After-ends
+abbrev looked : tie.After-first_axis-first → tie.After-ends
 looked c = asked c.before
 
-m_between_requires : tie.Need-m-between-requires
-m_between_requires c κs = let s = start (looked c.before.before) in spaced s.args.numbers.now s.args.strides.now s.pre
+m_between_requires : tie.Need-m_between-requires
+m_between_requires c κs = let s = start (looked c.before.before) in spaced s.args.numbers.now s.args.strides.now s.requires
 
-returns : tie.Need-returns
+returns : tie.Need-returns-then-first-m_between
 returns c =
-    let m = c.before in
-    let f = m.before.before.before in
-    let e = looked f in
+    let m = c in
+    let f = m in
+    let e = looked f.before.before.before.before in
     let s = start e in
-    let both = (and-eq-true_iff (eqb f.first-axis.result 7) m.m-between.result).0 c.if1.true in
-    let axes = eqb-true f.first-axis.result 7 both.0 in
+    let both = (and-eq-true_iff (eqb f.first_axis-first.result 7) m.m_between.result).0 c.if-first-m_between.true in
+    let axes = eqb-true f.first_axis-first.result 7 both.0 in
     let on_m_lem = rw (
-      to_z-of_z {w = w64} {z = get_or e.ends.last.1.1.0 7 (pos 0)} (record { sfits = m.before.before.m-between-arg.given }),
-      to_z-of_z {w = w64} {z = get_or e.ends.last.1.1.1.0 7 (pos 0)} (record { sfits = m.before.m-between-arg2.given }),
-    ) at (m.m-between.ensures both.1) in
-    stays_inside (card s) s.pre.admitted (eight s)
-    (ends_stay s.args.numbers.now s.args.strides.now s.pre e.ends.ensures.0 e.ends.ensures.1
-    (record { axes = rw axes at f.first-axis.ensures.1; m = on_m_lem }))
+      to_z-of_z {w = w64} {z = get_or e.ends.last.1.1.0 7 (pos 0)} (record { sfits = m.m_between-arg-1.given }),
+      to_z-of_z {w = w64} {z = get_or e.ends.last.1.1.1.0 7 (pos 0)} (record { sfits = m.m_between-arg-2-1.given }),
+    ) at (m.m_between.ensures both.1) in
+    stays_inside (card s) s.requires.admitted (eight s)
+    (ends_stay s.args.numbers.now s.args.strides.now s.requires e.ends.ensures.0 e.ends.ensures.1
+    (record { axes = rw axes at f.first_axis-first.ensures.1; m = on_m_lem }))
 
-abbrev axes_found : tie.After-first-of-all → tie.After-first-axis
+abbrev axes_found : tie.After-first_of_all-word → tie.After-first_axis-first
 axes_found c = c.before.before.before.before.before.before.before
 
-abbrev found : tie.After-first-of-all → tie.After-ends
+abbrev found : tie.After-first_of_all-word → tie.After-ends
 found c = looked (axes_found c)
 
-first_of_all_requires : tie.Need-first-of-all-requires
+first_of_all_requires : tie.Need-first_of_all-word-requires
 first_of_all_requires c κs =
-    let f = c.before.before.before.before.before.before in
-    let e = looked f in
-    (record { admits = (start e).pre; low_there = e.ends.ensures.0; high_there = e.ends.ensures.1 }, f.first-axis.ensures.0, f.first-axis.ensures.1)
+    let f = c in
+    let e = looked f.before.before.before.before.before.before in
+    (record { admits = (start e).requires; low_there = e.ends.ensures.0; high_there = e.ends.ensures.1 }, f.first_axis-first.ensures.0, f.first_axis-first.ensures.1)
 
 all : (s : tie.Start) → get_or s.args.numbers.now 45 0 ≡ elements (card s)
 all s = (measured s.args.numbers.now s.args.strides.now s.requires).elements_are
 
-returns_2 : tie.Need-returns-2
+returns_2 : tie.Need-returns-then-numbers-word
 returns_2 c =
-    let w = c.before.before in
-    let s = start (found w) in
-    word_none (card s) (eight s) (fits s) w.first-of-all.result w.first-of-all.ensures (omega (arith, c.if2.true, all s))
+    let w = c in
+    let s = start (found w.before.before.before) in
+    word_none (card s) (eight s) (fits s) w.first_of_all-word.result w.first_of_all-word.ensures (omega (arith, c.if-numbers-word.true, all s))
 
-returns_3 : tie.Need-returns-3
+returns_3 : tie.Need-returns
 returns_3 c =
-    let w = c.before.before in
-    let s = start (found w) in
-    word_first (card s) (eight s) (fits s) w.first-of-all.result w.first-of-all.ensures (omega (arith, c.if2.false, all s))
+    let w = c in
+    let s = start (found w.before.before.before) in
+    word_first (card s) (eight s) (fits s) w.first_of_all-word.result w.first_of_all-word.ensures (omega (arith, c.if-numbers-word.false, all s))
 
 pub find_outside_spec : {M : Type 1} → statement M
 find_outside_spec =
     tie.close
-    (tie.spec (λ c κs. c.requires.whole.all_strides) (λ c κs. c.before.requires.whole.all_strides) ends_requires first_axis_requires (λ c. search rules) (λ c. search rules) m_between_requires returns
-    first_of_all_requires (λ c. search rules) (λ c. let s = start (found c.before) in omega (arith, all s, (sized (card s) s.pre.admitted).most-elements)) returns_2 returns_3)
+    (tie.spec (λ c κs. c.requires.whole.all_strides) (λ c κs. c.requires.whole.all_strides) ends_requires first_axis_requires (λ c. search rules) (λ c. search rules) m_between_requires returns
+    first_of_all_requires (λ c. search rules) (λ c. let s = start (found c.before.before) in omega (arith, all s, (sized (card s) s.requires.admitted).most_elements_lem)) returns_2 returns_3)

@@ -20,25 +20,25 @@ use Rattle.outside.proofs.first_on_axis.Tie as tie
 abbrev bound : tie.Start → ℕ
 bound s = get_or s.args.numbers.now (32 + s.args.axis) 0
 
-returns : tie.Need-returns
+returns : tie.Need-returns-then-low-high
 returns c =
-    let i = c.before in
-    let s = i.before.before in
+    let i = c in
+    let s = i in
     let a = s.args in
-    let length_back : to_z w64 (bound s) ≡ pos (bound s) = to_z_pos w64 (omega (arith, s.requires.0.short)) in
-    let both = (and-eq-true_iff (le_z (pos 0) a.low) (lt_z a.high (pos (bound s)))).0 (rw (to_z-of_z s.ranges.low, to_z-of_z s.ranges.high, length_back) at i.if1.true) in
+    let length_back : to_z w64 (bound s.before.before.before.before) ≡ pos (bound s.before.before.before.before) = to_z_pos w64 (omega (arith, s.requires.0.short)) in
+    let both = (and-eq-true_iff (le_z (pos 0) a.low) (lt_z a.high (pos (bound s.before.before.before.before)))).0 (rw (to_z-of_z s.ranges.low, to_z-of_z s.ranges.high, length_back) at i.if-low-high.true) in
     rw (measured a.numbers.now a.strides.now s.requires.0.admits).elements_are
     (leaves_there a.numbers.now a.strides.now s.requires.0.admits a.axis _ s.requires.1
-    (none_astray s.requires.0 (le_z_true (pos 0) a.low both.0) (lt_z_true a.high (pos (bound s)) both.1)))
+    (none_astray s.requires.0 (le_z_true (pos 0) a.low both.0) (lt_z_true a.high (pos (bound s.before.before.before.before)) both.1)))
 
-returns_2 : tie.Need-returns-2
+returns_2 : tie.Need-returns
 returns_2 c =
-    let s = c.before.before.before in
+    let s = c in
     let a = s.args in
     leaves_there a.numbers.now a.strides.now s.requires.0.admits a.axis c.first_astray.result.0 s.requires.1 c.first_astray.ensures
 
 pub first_on_axis_spec : {M : Type 1} → statement M
 first_on_axis_spec =
     tie.close
-    (tie.spec (λ c. omega (arith, c.requires.1)) (λ c. omega (arith, c.requires.1)) (λ c. omega (arith, c.requires.1)) (λ c. far_fits (omega (arith, c.before.requires.0.short))) (λ c. search rules) returns
-    (λ c κs. let s = c.before.before in rw (to_z-of_z s.ranges.low, to_z-of_z s.ranges.high) s.requires.0) returns_2)
+    (tie.spec (λ c. omega (arith, c.requires.1)) (λ c. omega (arith, c.requires.1)) (λ c. omega (arith, c.requires.1)) (λ c. far_fits (omega (arith, c.requires.0.short))) (λ c. search rules) returns
+    (λ c κs. let s = c in rw (to_z-of_z s.ranges.low, to_z-of_z s.ranges.high) s.requires.0) returns_2)

@@ -49,25 +49,25 @@ low_back s = to_z-of_z s.ranges.low
 bound_back : (s : tie.Start) → to_z w64 s.args.bound ≡ pos s.args.bound
 bound_back s = to_z_pos w64 (omega (arith, s.requires.short))
 
-first_over_requires : tie.Need-first-over-requires
+first_over_requires : tie.Need-first_over-above-requires
 first_over_requires c κs = rw (high_back c, bound_back c) (record {
   admits = c.requires.admits;
   there = to_z-of_z (above_fits c) ∙ ap (λ (z : ℤ). z -ℤ pos c.args.bound) c.requires.high_there;
 })
 
-first_over_requires_2 : tie.Need-first-over-requires-2
-first_over_requires_2 c κs = let s = c.before in rw (low_back s) (record {
+first_over_requires_2 : tie.Need-first_over-below-requires
+first_over_requires_2 c κs = let s = c in rw (low_back s.before) (record {
   admits = s.requires.admits;
-  there = to_z-of_z (below_fits s) ∙ ap (λ (z : ℤ). negsuc 0 -ℤ z) s.requires.low_there;
+  there = to_z-of_z (below_fits s.before) ∙ ap (λ (z : ℤ). negsuc 0 -ℤ z) s.requires.low_there;
 })
 
 returns : tie.Need-returns
 returns c =
-    let s = c.before.before.before in
+    let s = c in
     let a = s.args in
     rw c.smaller.ensures
-    (first_astray (card s) s.requires.admits.admitted a.axis a.bound c.before.before.first_over.result.0 c.before.first-over2.result.0
-    c.before.before.first_over.ensures c.before.first-over2.ensures)
+    (first_astray (card s.before.before.before) s.requires.admits.admitted a.axis a.bound c.first_over-above.result.0 c.first_over-below.result.0
+    c.first_over-above.ensures c.first_over-below.ensures)
 
 pub first_astray_spec : {M : Type 1} → statement M
 first_astray_spec =

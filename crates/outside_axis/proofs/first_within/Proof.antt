@@ -22,17 +22,17 @@ use Rattle.rules_linear.proofs.Reaching.{back_most, back_spare}
 use Rattle.outside_axis.proofs.first_within.Statement.{statement}
 use Rattle.outside_axis.proofs.first_within.Tie as tie
 
-abbrev invariant_loop : tie.invariant_loop
+abbrev invariant_loop : tie.invariant-loop-k
 invariant_loop numbers strides list axis upwards spare count left₀ index₀ k₀ left index k =
     let later : ℕ → List Iter = λ i. slice i (get_or numbers (40 + list) 0) (map (iter_at numbers strides list) slots) in
     (k ≤ get_or numbers (40 + list) 0) × (left ≤ spare)
     × Numbering (map extent_of (later 0)) (first_within upwards axis spare (later 0)) (map extent_of (later k)) (first_within upwards axis left (later k)) k index
 
-abbrev decreases_loop : tie.decreases_loop
+abbrev decreases_loop : tie.decreases-loop-k
 decreases_loop numbers strides list axis upwards spare count left₀ index₀ k₀ left index k = count - k
 
-abbrev start : tie.In-loop invariant_loop decreases_loop → tie.Start invariant_loop decreases_loop
-start t = t.before.before.before
+abbrev start : tie.In-loop-k invariant_loop decreases_loop → tie.Start invariant_loop decreases_loop
+start t = t.before.before.before.before
 
 -- the iters that are left from one on
 abbrev later : tie.Start invariant_loop decreases_loop → ℕ → List Iter
@@ -41,83 +41,83 @@ later s i = let a = s.args in slice i (get_or a.numbers.now (40 + a.list) 0) (ma
 abbrev first : tie.Start invariant_loop decreases_loop → ℕ → List Iter → List ℕ
 first s spare l = first_within s.args.upwards s.args.axis spare l
 
-abbrev met : tie.In-loop invariant_loop decreases_loop → Iter
-met t = let a = (start t).args in iter_at a.numbers.now a.strides.now a.list t.before.loop.k
+abbrev met : tie.In-loop-k invariant_loop decreases_loop → Iter
+met t = let a = (start t).args in iter_at a.numbers.now a.strides.now a.list t.loop-k.k
 
-abbrev weight : tie.In-loop invariant_loop decreases_loop → ℕ
+abbrev weight : tie.In-loop-k invariant_loop decreases_loop → ℕ
 weight t = ahead (start t).args.upwards (start t).args.axis (met t)
 
-abbrev back : tie.In-loop invariant_loop decreases_loop → ℕ
-back t = steps_back (met t).extent (weight t) t.before.loop.left
+abbrev back : tie.In-loop-k invariant_loop decreases_loop → ℕ
+back t = steps_back (met t).extent (weight t) t.loop-k.left
 
-turn : (t : tie.In-loop invariant_loop decreases_loop) → Meets (met t)
+turn : (t : tie.In-loop-k invariant_loop decreases_loop) → Meets (met t)
 turn t =
     let s = start t in
-    meets s.args.numbers.now s.args.strides.now s.args.list s.pre.walkable t.before.loop.k t.loop-test.true
+    meets s.args.numbers.now s.args.strides.now s.args.list s.requires.walkable t.loop-k.k t.loop-k-test.true
 
 -- a turn numbers the component of its iter
-numbering : (t : tie.In-loop invariant_loop decreases_loop)
+numbering : (t : tie.In-loop-k invariant_loop decreases_loop)
     → let s = start t in
-    let l = t.before.loop in
+    let l = t.loop-k in
     Numbering (map extent_of (later s 0)) (first s s.args.spare (later s 0)) ((met t).extent ∷ map extent_of (later s (l.k + 1)))
     (((met t).extent - 1 - back t) ∷ first s (l.left - back t * weight t) (later s (l.k + 1))) l.k l.index
 numbering t =
     let s = start t in
     let a = s.args in
-    let l = t.before.loop in
+    let l = t.loop-k in
     subst (λ (m : List Iter). Numbering (map extent_of (later s 0)) (first s a.spare (later s 0)) (map extent_of m) (first s l.left m) l.k l.index)
-    (iters_next a.numbers.now a.strides.now a.list s.pre.walkable l.k t.loop-test.true) l.invariant.2
+    (iters_next a.numbers.now a.strides.now a.list s.requires.walkable l.k t.loop-k-test.true) l.invariant.2
 
-abbrev turned : tie.After-step-ahead invariant_loop decreases_loop → tie.In-loop invariant_loop decreases_loop
-turned c = c.before.before.before.before
+abbrev turned : tie.After-step_ahead-weight invariant_loop decreases_loop → tie.In-loop-k invariant_loop decreases_loop
+turned c = c.before.before.before.before.before
 
 -- what was found is that of the iter
-weighed : (c : tie.After-step-ahead invariant_loop decreases_loop) → c.step-ahead.result ≡ weight (turned c)
+weighed : (c : tie.After-step_ahead-weight invariant_loop decreases_loop) → c.step_ahead-weight.result ≡ weight (turned c)
 weighed c =
     let t = turned c in
-    c.step-ahead.ensures
+    c.step_ahead-weight.ensures
     ∙ ap (λ (z : ℤ). ahead (start t).args.upwards (start t).args.axis (record { extent = 0; stride = z; axis = (met t).axis }))
-    (to_z-of_z {w = w64} {z = (met t).stride} (record { sfits = c.before.step-ahead-arg2.given }))
+    (to_z-of_z {w = w64} {z = (met t).stride} (record { sfits = c.step_ahead-arg-in-loop-k-1.given }))
 
-stayed : (c : tie.After-steps-back invariant_loop decreases_loop) → c.steps_back.result ≡ back (turned c.before)
-stayed c = let t = turned c.before in c.steps_back.ensures ∙ ap (λ (w : ℕ). steps_back (met t).extent w t.before.loop.left) (weighed c.before)
+stayed : (c : tie.After-steps_back-back invariant_loop decreases_loop) → c.steps_back-back.result ≡ back (turned c.before)
+stayed c = let t = turned c.before in c.steps_back-back.ensures ∙ ap (λ (w : ℕ). steps_back (met t).extent w t.loop-k.left) (weighed c.before)
 
-product : (c : tie.After-steps-back invariant_loop decreases_loop) → c.steps_back.result * c.before.step-ahead.result ≡ back (turned c.before) * weight (turned c.before)
+product : (c : tie.After-steps_back-back invariant_loop decreases_loop) → c.steps_back-back.result * c.step_ahead-weight.result ≡ back (turned c.before) * weight (turned c.before)
 product c = ap₂ ◌*◌ (stayed c) (weighed c.before)
 
-spared : (c : tie.After-steps-back invariant_loop decreases_loop) → c.steps_back.result * c.before.step-ahead.result ≤ (turned c.before).before.loop.left
-spared c = let t = turned c.before in omega (arith, product c, back_spare (met t).extent (weight t) t.before.loop.left)
+spared : (c : tie.After-steps_back-back invariant_loop decreases_loop) → c.steps_back-back.result * c.step_ahead-weight.result ≤ (turned c.before).loop-k.left
+spared c = let t = turned c.before in omega (arith, product c, back_spare (met t).extent (weight t) t.loop-k.left)
 
-most : (c : tie.After-steps-back invariant_loop decreases_loop) → c.steps_back.result ≤ (met (turned c.before)).extent - 1
-most c = let t = turned c.before in omega (arith, stayed c, back_most (met t).extent (weight t) t.before.loop.left)
+most : (c : tie.After-steps_back-back invariant_loop decreases_loop) → c.steps_back-back.result ≤ (met (turned c.before)).extent - 1
+most c = let t = turned c.before in omega (arith, stayed c, back_most (met t).extent (weight t) t.loop-k.left)
 
-room : (c : tie.After-steps-back invariant_loop decreases_loop) → let t = turned c.before in t.before.loop.index * (met t).extent + ((met t).extent - 1 - c.steps_back.result) < 2 ^ 32
+room : (c : tie.After-steps_back-back invariant_loop decreases_loop) → let t = turned c.before in t.loop-k.index * (met t).extent + ((met t).extent - 1 - c.steps_back-back.result) < 2 ^ 32
 room c =
     let t = turned c.before in
     let s = start t in
-    let l = t.before.loop in
+    let l = t.loop-k in
     omega (
       arith,
       stayed c,
       (turn t).some_extent,
       numbering_room (met t).extent (map extent_of (later s (l.k + 1))) ((met t).extent - 1 - back t) (first s (l.left - back t * weight t) (later s (l.k + 1))) l.k l.index (numbering t)
           (omega (arith, (turn t).some_extent)),
-      s.pre.small,
+      s.requires.small,
     )
 
-loop_holds : tie.Need-loop-init invariant_loop decreases_loop
+loop_holds : tie.Need-loop-k-init invariant_loop decreases_loop
 loop_holds c =
-    let s = c.before in
-    let some = product_positive most_extent (map extent_of (later s 0)) (fitting (iters_of s.args.numbers.now s.args.strides.now s.args.list) s.requires.walkable.fit).extents in
-    (omega arith, omega arith, numbering_none (map extent_of (later s 0)) (first s s.args.spare (later s 0)) some)
+    let s = c in
+    let some = product_positive most_extent (map extent_of (later s.before.before 0)) (fitting (iters_of s.args.numbers.now s.args.strides.now s.args.list) s.requires.walkable.fit).extents in
+    (omega arith, omega arith, numbering_none (map extent_of (later s.before.before 0)) (first s.before.before s.args.spare (later s.before.before 0)) some)
 
-loop_again : tie.Need-loop-preserved invariant_loop decreases_loop
+loop_again : tie.Need-loop-k-preserved invariant_loop decreases_loop
 loop_again c =
     let t = turned c.before in
     let s = start t in
-    let l = t.before.loop in (
-      omega (arith, t.loop-test.taken),
-      omega (arith, l.inv.1),
+    let l = t.loop-k in (
+      omega (arith, t.loop-k-test.taken),
+      omega (arith, l.invariant.1),
       rw (product c, stayed c)
           (numbering_more (met t).extent (map extent_of (later s (l.k + 1))) ((met t).extent - 1 - back t) (first s (l.left - back t * weight t) (later s (l.k + 1))) l.k l.index
           (numbering t) (omega (arith, (turn t).some_extent))),
@@ -125,12 +125,12 @@ loop_again c =
 
 returns : tie.Need-returns invariant_loop decreases_loop
 returns c =
-    let s = c.before.before.before in
+    let s = c in
     let a = s.args in
-    let l = c.before.loop in
+    let l = c.loop-k in
     let end : l.k ≡ get_or a.numbers.now (40 + a.list) 0 = omega arith in
-    let none : later s l.k ≡ [] = ap (later s) end ∙ slice_empty (get_or a.numbers.now (40 + a.list) 0) (map (iter_at a.numbers.now a.strides.now a.list) slots) in
-    let all = subst (λ (m : List Iter). Numbering (map extent_of (later s 0)) (first s a.spare (later s 0)) (map extent_of m) (first s l.left m) l.k l.index) none l.invariant.2 in
+    let none : later s l.k ≡ [] = ap (later s.before.before.before.before) end ∙ slice_empty (get_or a.numbers.now (40 + a.list) 0) (map (iter_at a.numbers.now a.strides.now a.list) slots) in
+    let all = subst (λ (m : List Iter). Numbering (map extent_of (later s.before.before.before.before 0)) (first s.before.before.before.before a.spare (later s.before.before.before.before 0)) (map extent_of m) (first s.before.before.before.before l.left m) l.k l.index) none l.invariant.2 in
     omega (arith, all.same_number)
 
 pub first_within_spec : {M : Type 1} → statement M
@@ -139,10 +139,10 @@ first_within_spec =
     (tie.spec invariant_loop decreases_loop (λ c. omega (arith, c.requires.walkable.of.one_of_two)) (λ c. omega (arith, c.requires.walkable.of.one_of_two))
     (λ c. omega (arith, c.requires.walkable.of.one_of_two)) loop_holds (λ c. omega (arith, (start c).requires.walkable.of.one_of_two))
     (λ c. omega (arith, (start c).requires.walkable.of)) (λ c. omega (arith, (start c).requires.walkable.of))
-    (λ c. omega (arith, (start c).requires.walkable.of)) (λ c. omega (arith, (start c.before).pre.walkable.of))
-    (λ c. omega (arith, (start c.before).pre.walkable.of)) (λ c. omega (arith, (start c.before).pre.walkable.of)) (λ c. omega (arith, (start c.before).pre.walkable.of))
-    (λ c. omega (arith, (start c.before).pre.walkable.of)) (λ c. omega (arith, (start c.before.before).pre.walkable.of)) (λ c. omega (arith, (start c.before.before).pre.walkable.of))
-    (λ c. omega (arith, (start c.before.before).pre.walkable.of)) (λ c. omega (arith, (start c.before.before).pre.walkable.of))
-    (λ c κs. rw (to_z-of_z {w = w64} {z = (met c.before.before.before).stride} (record { sfits = c.step-ahead-arg2.given })) (turn c.before.before.before).most-stride)
+    (λ c. omega (arith, (start c.before).requires.walkable.of)) (λ c. omega (arith, (start c.before.before).requires.walkable.of))
+    (λ c. omega (arith, (start c.before.before).requires.walkable.of)) (λ c. omega (arith, (start c.before.before).requires.walkable.of)) (λ c. omega (arith, (start c.before.before).requires.walkable.of))
+    (λ c. omega (arith, (start c.before.before).requires.walkable.of)) (λ c. omega (arith, (start c.before.before.before).requires.walkable.of)) (λ c. omega (arith, (start c.before.before.before).requires.walkable.of))
+    (λ c. omega (arith, (start c.before.before.before).requires.walkable.of)) (λ c. omega (arith, (start c.before.before.before).requires.walkable.of))
+    (λ c κs. rw (to_z-of_z {w = w64} {z = (met c.before.before.before).stride} (record { sfits = c.step_ahead-arg-in-loop-k-1.given })) (turn c.before.before.before).most_stride_lem)
     (λ c κs. (turn (turned c)).some_extent) (λ c. omega (arith, room c)) (λ c. omega (arith, (turn (turned c.before)).some_extent)) (λ c. omega (arith, most c)) (λ c. omega (arith, room c))
-    (λ c. let t = turned c.before in omega (arith, spared c, t.before.loop.inv.1, (start t).fits.spare)) (λ c. omega (arith, spared c)) (λ c. omega arith) (λ c. omega arith) loop_again returns)
+    (λ c. let t = turned c.before in omega (arith, spared c, t.loop-k.invariant.1, (start t).fits.spare)) (λ c. omega (arith, spared c)) (λ c. omega arith) (λ c. omega arith) loop_again returns)

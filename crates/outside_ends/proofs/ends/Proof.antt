@@ -23,27 +23,27 @@ abbrev start : tie.After-spread → tie.Start
 start w = w.before.before.before
 
 -- the sums over the shard
-shard_low : (w : tie.After-spread) → let s = start w in w.spread.new.1.1.1.0 ≡ walked (card s).shard (end_index false (card s).shard) (card s).offset
-shard_low w = let s = start w in w.spread.ensures.0 ∙ ap (walked (card s).shard (end_index false (card s).shard)) s.pre.1
+shard_low : (w : tie.After-spread) → let s = start w in w.spread.new.low ≡ walked (card s).shard (end_index false (card s).shard) (card s).offset
+shard_low w = let s = start w in w.spread.ensures.0 ∙ ap (walked (card s).shard (end_index false (card s).shard)) s.requires.1
 
-shard_high : (w : tie.After-spread) → let s = start w in w.spread.new.1.1.1.1.0 ≡ walked (card s).shard (end_index true (card s).shard) (card s).offset
-shard_high w = let s = start w in w.spread.ensures.1 ∙ ap (walked (card s).shard (end_index true (card s).shard)) s.pre.2
+shard_high : (w : tie.After-spread) → let s = start w in w.spread.new.high ≡ walked (card s).shard (end_index true (card s).shard) (card s).offset
+shard_high w = let s = start w in w.spread.ensures.1 ∙ ap (walked (card s).shard (end_index true (card s).shard)) s.requires.2
 
 -- over the offset, and over these
 spread_requires : tie.Need-spread-requires
 spread_requires c κs =
-    let s = c.before.before in
+    let s = c in
     let a = s.args in
     let small = offset_sums a.numbers.now a.strides.now s.requires.0 in
     (walkable_shard a.numbers.now a.strides.now s.requires.0, subst Sums (sym s.requires.1) small, subst Sums (sym s.requires.2) small)
 
 spread_requires_2 : tie.Need-spread-requires-2
 spread_requires_2 c κs =
-    let w = c.before.before in
-    let s = start w in
+    let w = c in
+    let s = start w.before.before in
     let a = s.args in
-    let small : (up : Bool) → Sums (walked (card s).shard (end_index up (card s).shard) (card s).offset) = λ up. (ready a.numbers.now a.strides.now s.pre.0 (end_index up (card s).shard)).sums in
-    (walkable_replica a.numbers.now a.strides.now s.pre.0, subst Sums (sym (shard_low w)) (small false), subst Sums (sym (shard_high w)) (small true))
+    let small : (up : Bool) → Sums (walked (card s).shard (end_index up (card s).shard) (card s).offset) = λ up. (ready a.numbers.now a.strides.now s.requires.0 (end_index up (card s).shard)).sums in
+    (walkable_replica a.numbers.now a.strides.now s.requires.0, subst Sums (sym (shard_low w.before.before)) (small false), subst Sums (sym (shard_high w.before.before)) (small true))
 
 -- over both lists, the sums of the copy there
 both : (card : Card) (up : Bool) {before after : List ℤ} → before ≡ walked card.shard (end_index up card.shard) card.offset → Moves up card.replica before after → EndSums card up after
@@ -61,9 +61,9 @@ both card up {before} {after} e m =
 
 returns : tie.Need-returns
 returns c =
-    let w = c.before.before.before in
-    let k = card (start w) in
-    (both k false (shard_low w) c.spread2.ensures.0, both k true (shard_high w) c.spread2.ensures.1)
+    let w = c in
+    let k = card (start w.before.before.before) in
+    (both k false (shard_low w.before.before.before) c.spread-2.ensures.0, both k true (shard_high w.before.before.before) c.spread-2.ensures.1)
 
 pub ends_spec : {M : Type 1} → statement M
 ends_spec = tie.close (tie.spec spread_requires spread_requires_2 returns)

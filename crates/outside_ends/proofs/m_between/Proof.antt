@@ -15,12 +15,12 @@ use Rattle.outside_ends.proofs.Packed.{few_blocks}
 use Rattle.outside_ends.proofs.m_between.Statement.{statement}
 use Rattle.outside_ends.proofs.m_between.Tie as tie
 
-back : (c : tie.After-whole-blocks) → to_z w64 c.whole-blocks.result ≡ pos (blocks_of c.before.args.numbers.now)
-back c = to_z_pos w64 (omega (arith, c.whole-blocks.ensures, few_blocks c.before.requires)) ∙ ap pos c.whole-blocks.ensures
+back : (c : tie.After-whole_blocks-whole) → to_z w64 c.whole_blocks-whole.result ≡ pos (blocks_of c.args.numbers.now)
+back c = to_z_pos w64 (omega (arith, c.whole_blocks-whole.ensures, few_blocks c.requires)) ∙ ap pos c.whole_blocks-whole.ensures
 
 returns : tie.Need-returns
 returns c = λ e.
-    let s = c.before in
+    let s = c in
     let a = s.args in
     let blocks = blocks_of a.numbers.now in
     let both = (and-eq-true_iff (le_z (pos 0) a.low) (lt_z a.high (pos blocks))).0 (rw (to_z-of_z s.ranges.low, to_z-of_z s.ranges.high, back c) at e) in
@@ -28,4 +28,4 @@ returns c = λ e.
 
 pub m_between_spec : {M : Type 1} → statement M
 m_between_spec =
-    tie.close (tie.spec (λ c κs. search rules) (λ c. far_fits (omega (arith, c.whole-blocks.ensures, few_blocks c.before.requires))) returns)
+    tie.close (tie.spec (λ c κs. search rules) (λ c. far_fits (omega (arith, c.whole_blocks-whole.ensures, few_blocks c.requires))) returns)

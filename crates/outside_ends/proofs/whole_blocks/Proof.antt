@@ -15,5 +15,5 @@ same s = mod-eq_of_lt (omega (arith, few_blocks s.requires))
 pub whole_blocks_spec : {M : Type 1} → statement M
 whole_blocks_spec =
     tie.close
-    (tie.spec (λ c. search rules) (λ c. search rules) (λ c. omega (arith, c.before.before.requires.few_bits)) (λ c. search rules) (λ c. search rules) (λ c. search rules)
-    (λ c. omega (arith, c.before.before.before.requires.few_bits)) (λ c. omega (arith, c.before.before.before.requires.few_bits)) (λ c. same c.before.before.before))
+    (tie.spec (λ c. search rules) (λ c. search rules) (λ c. omega (arith, c.requires.few_bits)) (λ c. search rules) (λ c. search rules) (λ c. search rules)
+    (λ c. omega (arith, c.requires.few_bits)) (λ c. omega (arith, c.requires.few_bits)) (λ c. same c.before.before.before.before))

@@ -22,14 +22,14 @@ use Rattle.outside_swizzled.proofs.Packed.{element_near, adds_all_near, run_leav
 use Rattle.outside_swizzled.proofs.first_m.Statement.{statement}
 use Rattle.outside_swizzled.proofs.first_m.Tie as tie
 
-abbrev invariant_loop : tie.invariant_loop
+abbrev invariant_loop : tie.invariant-loop-flat
 invariant_loop numbers strides adds limit run_length step end flat₀ flat =
     (flat ≤ end) × ((f : ℕ) → f < flat → Leaves (card_of numbers strides) f last_axis → ⊥)
 
-abbrev decreases_loop : tie.decreases_loop
+abbrev decreases_loop : tie.decreases-loop-flat
 decreases_loop numbers strides adds limit run_length step end flat₀ flat = end - flat
 
-abbrev start : tie.In-loop invariant_loop decreases_loop → tie.Start invariant_loop decreases_loop
+abbrev start : tie.In-loop-flat invariant_loop decreases_loop → tie.Start invariant_loop decreases_loop
 start t = t.before.before.before.before
 
 abbrev card : tie.Start invariant_loop decreases_loop → Card
@@ -44,81 +44,81 @@ some s =
     (runs_of (listed k.shard) (fitting k.shard (numbered k (checked k s.requires.0.admits.admitted).numbers).shard).extents).some
 
 -- how many a turn looks at: up to the end of the run, or to the limit
-counted : (c : tie.After-smaller invariant_loop decreases_loop)
+counted : (c : tie.After-smaller-count invariant_loop decreases_loop)
     → let s = start c.before in
-    let flat = c.before.before.loop.flat in
-    c.smaller.result ≡ min (length s - flat % length s) (s.args.limit.0 - flat)
+    let flat = c.loop-flat.flat in
+    c.smaller-count.result ≡ min (length s - flat % length s) (s.args.limit.0 - flat)
 counted c =
     let s = start c.before in
-    let flat = c.before.before.loop.flat in
-    c.smaller.ensures ∙ ap (λ (n : ℕ). min (n - flat % n) (s.args.limit.0 - flat)) (c.before.before.before.before.run_length.ensures s.args.strides.now)
+    let flat = c.loop-flat.flat in
+    c.smaller-count.ensures ∙ ap (λ (n : ℕ). min (n - flat % n) (s.args.limit.0 - flat)) (c.run_length-run.ensures s.args.strides.now)
 
-several : (c : tie.After-smaller invariant_loop decreases_loop) → 1 ≤ c.smaller.result
-several c = let t = c.before in omega (arith, counted c, t.loop-test.true, mod-lt t.before.loop.flat (some (start t)))
+several : (c : tie.After-smaller-count invariant_loop decreases_loop) → 1 ≤ c.smaller-count.result
+several c = let t = c in omega (arith, counted c, t.loop-flat-test.true, mod-lt t.loop-flat.flat (some (start t.before)))
 
-few : (c : tie.After-smaller invariant_loop decreases_loop) → c.before.before.loop.flat + c.smaller.result ≤ (start c.before).args.limit.0
-few c = omega (arith, counted c, c.before.loop-test.true)
+few : (c : tie.After-smaller-count invariant_loop decreases_loop) → c.loop-flat.flat + c.smaller-count.result ≤ (start c.before).args.limit.0
+few c = omega (arith, counted c, c.loop-flat-test.true)
 
 -- m where it starts, and its step
-base_is : (c : tie.After-m-sum2 invariant_loop decreases_loop) → let t = c.before.before in to_z w64 (of_z w64 c.m-sum2.result) ≡ part (card (start t)).shard t.before.loop.flat last_axis
-base_is c = to_z-of_z {w = w64} {z = c.m-sum2.result} (record { sfits = c.m-sum2.type-inv }) ∙ c.m-sum2.ensures
+base_is : (c : tie.After-m_sum-base invariant_loop decreases_loop) → let t = c in to_z w64 (of_z w64 c.m_sum-base.result) ≡ part (card (start t.before.before)).shard t.loop-flat.flat last_axis
+base_is c = to_z-of_z {w = w64} {z = c.m_sum-base.result} (record { sfits = c.m_sum-base.type_inv }) ∙ c.m_sum-base.ensures
 
-step_is : (c : tie.After-m-sum invariant_loop decreases_loop) → to_z w64 (of_z w64 c.m-sum.result) ≡ part (card c.before.before).shard 1 last_axis
-step_is c = to_z-of_z {w = w64} {z = c.m-sum.result} (record { sfits = c.m-sum.type-inv }) ∙ c.m-sum.ensures
+step_is : (c : tie.After-m_sum-step invariant_loop decreases_loop) → to_z w64 (of_z w64 c.m_sum-step.result) ≡ part (card c.before.before).shard 1 last_axis
+step_is c = to_z-of_z {w = w64} {z = c.m_sum-step.result} (record { sfits = c.m_sum-step.type_inv }) ∙ c.m_sum-step.ensures
 
-first_of_run_requires : tie.Need-first-of-run-requires invariant_loop decreases_loop
+first_of_run_requires : tie.Need-first_of_run-found-requires invariant_loop decreases_loop
 first_of_run_requires c κs =
-    let t = c.before.before in
-    let s = start t in
+    let t = c in
+    let s = start t.before.before in
     let n = s.args.numbers.now in
     let m = s.args.strides.now in
-    let a = s.pre.0.admits in
-    rw (base_is c, step_is t.before.before) (record {
+    let a = s.requires.0.admits in
+    rw (base_is c, step_is t.before.before.before.before) (record {
       permits = (checked (card s) a.admitted).swizzle;
-      near_adds = adds_all_near n m a s.args.adds.now s.pre.0.adds_there;
-      near_base = element_near n m a t.before.loop.flat;
+      near_adds = adds_all_near n m a s.args.adds.now s.requires.0.adds_there;
+      near_base = element_near n m a t.loop-flat.flat;
       near_step = element_near n m a 1;
-      few = omega (arith, few c.before, s.pre.1.most, (sized (card s) a.admitted).most-elements);
+      few = omega (arith, few c.before, s.requires.1.most, (sized (card s) a.admitted).most_elements_lem);
     })
 
 -- what a turn finds, among the elements of the card
-found : (c : tie.After-first-of-run invariant_loop decreases_loop)
-    → let t = c.before.before.before in
-    Sought (λ x. Leaves (card (start t)) (t.before.loop.flat + x) last_axis) c.before.before.smaller.result c.first-of-run.result
+found : (c : tie.After-first_of_run-found invariant_loop decreases_loop)
+    → let t = c in
+    Sought (λ x. Leaves (card (start t.before.before.before)) (t.loop-flat.flat + x) last_axis) c.smaller-count.result c.first_of_run-found.result
 found c =
-    let t = c.before.before.before in
-    let s = start t in
-    run_leaves s.args.numbers.now s.args.strides.now s.pre.0.admits s.args.adds.now s.pre.0.adds_there t.before.loop.flat
-    c.before.before.smaller.result c.first-of-run.result (some s) (omega (arith, counted c.before.before))
-    (rw (base_is c.before, step_is t.before.before) at c.first-of-run.ensures)
+    let t = c in
+    let s = start t.before.before.before in
+    run_leaves s.args.numbers.now s.args.strides.now s.requires.0.admits s.args.adds.now s.requires.0.adds_there t.loop-flat.flat
+    c.smaller-count.result c.first_of_run-found.result (some s) (omega (arith, counted c.before.before))
+    (rw (base_is c.before, step_is t.before.before.before.before.before) at c.first_of_run-found.ensures)
 
-returns : tie.Need-returns invariant_loop decreases_loop
+returns : tie.Need-returns-then-found-count invariant_loop decreases_loop
 returns c =
-    let f = c.before in
-    let t = f.before.before.before in
-    part_found t.before.loop.flat f.before.before.smaller.result f.first-of-run.result t.before.loop.invariant.1 (found f) (start t).args.limit.0
-    (few f.before.before) c.if1.true
+    let f = c in
+    let t = f in
+    part_found t.loop-flat.flat f.smaller-count.result f.first_of_run-found.result t.loop-flat.invariant.1 (found f.before) (start t.before.before.before.before).args.limit.0
+    (few f.before.before.before) c.if-found-count.true
 
-loop_again : tie.Need-loop-preserved invariant_loop decreases_loop
+loop_again : tie.Need-loop-flat-preserved invariant_loop decreases_loop
 loop_again c =
-    let f = c.before in
-    let t = f.before.before.before in (
-      omega (arith, few f.before.before, (found f).most),
-      part_passed t.before.loop.flat f.before.before.smaller.result f.first-of-run.result t.before.loop.invariant.1 (found f),
+    let f = c in
+    let t = f in (
+      omega (arith, few f.before.before.before, (found f).most),
+      part_passed t.loop-flat.flat f.smaller-count.result f.first_of_run-found.result t.loop-flat.invariant.1 (found f.before),
     )
 
-returns_2 : tie.Need-returns-2 invariant_loop decreases_loop
-returns_2 c = let l = c.before.loop in sought_none (λ j h. l.invariant.1 j (omega (arith, c.loop-test.false)))
+returns_2 : tie.Need-returns invariant_loop decreases_loop
+returns_2 c = let l = c.loop-flat in sought_none (λ j h. l.invariant.1 j (omega (arith, c.loop-flat-test.false)))
 
 pub first_m_spec : {M : Type 1} → statement M
 first_m_spec =
     tie.close
     (tie.spec invariant_loop decreases_loop (λ c κs. (walkable_shard c.args.numbers.now c.args.strides.now c.requires.0.admits).of)
-    (λ c κs. let s = c.before in walkable_shard s.args.numbers.now s.args.strides.now s.requires.0.admits)
-    (λ c. let s = c.before.before in (s.requires.2, s.requires.1.none_before))
-    (λ c. omega (arith, some (start c), c.before.before.before.run_length.ensures (start c).args.strides.now))
-    (λ c. let e = c.before.before.before.run_length.ensures (start c).args.strides.now in omega (arith, mod-lt c.before.loop.flat {m = c.before.before.before.run_length.result} (omega (arith, some (start c), e))))
+    (λ c κs. let s = c in walkable_shard s.args.numbers.now s.args.strides.now s.requires.0.admits)
+    (λ c. let s = c in (s.requires.2, s.requires.1.none_before))
+    (λ c. omega (arith, some (start c), c.run_length-run.ensures (start c).args.strides.now))
+    (λ c. let e = c.run_length-run.ensures (start c).args.strides.now in omega (arith, mod-lt c.loop-flat.flat {m = c.run_length-run.result} (omega (arith, some (start c), e))))
     (λ c. omega arith) (λ c κs. search rules)
-    (λ c κs. let s = start c.before in walkable_shard s.args.numbers.now s.args.strides.now s.pre.0.admits)
-    first_of_run_requires (λ f. let s = start f.before.before.before in omega (arith, few f.before.before, (found f).most, s.pre.1.most, (sized (card s) s.pre.0.admits.admitted).most-elements)) returns
-    (λ c. let f = c.before in omega (arith, several f.before.before, few f.before.before, c.if1.false)) loop_again returns_2)
+    (λ c κs. let s = start c.before in walkable_shard s.args.numbers.now s.args.strides.now s.requires.0.admits)
+    first_of_run_requires (λ f. let s = start f.before.before.before in omega (arith, few f.before.before, (found f).most, s.requires.1.most, (sized (card s) s.requires.0.admits.admitted).most_elements_lem)) returns
+    (λ c. let f = c in omega (arith, several f.before.before.before, few f.before.before.before, c.if-found-count.false)) loop_again returns_2)

@@ -17,29 +17,29 @@ use Rattle.outside_swizzled.proofs.m_lies.Tie as tie
 back : (s : tie.Start) → to_z w64 (of_z w64 s.args.m) ≡ s.args.m
 back s = to_z-of_z s.ranges.m
 
-natural : (c : tie.Else1) → T (non_neg c.before.args.m)
-natural c = let s = c.before in from_zero s.args.m (rw (back s) at c.if1.false)
+natural : (c : tie.Else-m-lt0) → T (non_neg c.args.m)
+natural c = let s = c in from_zero s.args.m (rw (back s.before) at c.if-m-lt0.false)
 
-returns : tie.Need-returns
+returns : tie.Need-returns-then-m-lt0
 returns c =
-    let s = c.before in
+    let s = c in
     let n = s.args.numbers.now in
-    below_lies (swizzle_of n) (get_or n 39 0) s.args.m (rw (back s) at c.if1.true)
+    below_lies (swizzle_of n) (get_or n 39 0) s.args.m (rw (back s.before) at c.if-m-lt0.true)
 
-cast_swizzle_permitted : tie.Need-overflow-cast-swizzle-permitted
+cast_swizzle_permitted : tie.Need-overflow_cast-m
 cast_swizzle_permitted c =
-    let e = c.before.before.before in
-    let s = e.before in
-    rw (back s) (natural e, Fits-nat_abs {w = w64} tt s.ranges.m)
+    let e = c in
+    let s = e in
+    rw (back s.before.before.before.before.before) (natural e.before.before.before.before, Fits-nat_abs {w = w64} tt s.ranges.m)
 
-returns_2 : tie.Need-returns-2
+returns_2 : tie.Need-returns
 returns_2 c =
-    let p = c.before in
-    let e = p.before.before.before.before in
-    let s = e.before in
+    let p = c in
+    let e = p in
+    let s = e in
     let n = s.args.numbers.now in
-    natural_lies (swizzle_of n) (get_or n 39 0) s.args.m (natural e) _
-    (ap (λ (x : ℕ). ltb x (get_or n 39 0)) (rw (back s) at p.swizzle-permitted.ensures))
+    natural_lies (swizzle_of n) (get_or n 39 0) s.args.m (natural e.before.before.before.before.before.before) _
+    (ap (λ (x : ℕ). ltb x (get_or n 39 0)) (rw (back s.before.before.before.before.before.before.before) at p.swizzle_permitted-swizzled.ensures))
 
 pub m_lies_spec : {M : Type 1} → statement M
 m_lies_spec =

@@ -15,11 +15,11 @@ use Rattle.outside_swizzled.proofs.m_sum.Tie as tie
 
 returns : tie.Need-returns
 returns c =
-    let s = c.before.before.before in
-    let sums = c.before.walk.new.1.1.1.1.0 in
-    to_z-of_z {w = w64} {z = get_or sums last_axis (pos 0)} (record { sfits = c.result.given })
-    ∙ ap (λ (l : List ℤ). get_or l last_axis (pos 0)) c.before.walk.ensures
+    let s = c in
+    let sums = c.walk.new.sums in
+    to_z-of_z {w = w64} {z = get_or sums last_axis (pos 0)} (record { sfits = c.result-1.given })
+    ∙ ap (λ (l : List ℤ). get_or l last_axis (pos 0)) c.walk.ensures
     ∙ m_walked (iters_of s.args.numbers.now s.args.strides.now s.args.list) s.args.index
 
 pub m_sum_spec : {M : Type 1} → statement M
-m_sum_spec = tie.close (tie.spec (λ c κs. (c.before.requires, zero_sums)) (λ c. search rules) returns)
+m_sum_spec = tie.close (tie.spec (λ c κs. (c.requires, zero_sums)) (λ c. search rules) returns)

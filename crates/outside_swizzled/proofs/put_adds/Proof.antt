@@ -19,73 +19,73 @@ use Rattle.outside_swizzled.proofs.Packed.{offset_at, offset_near, copy_near}
 use Rattle.outside_swizzled.proofs.put_adds.Statement.{statement}
 use Rattle.outside_swizzled.proofs.put_adds.Tie as tie
 
-abbrev invariant_loop : tie.invariant_loop
+abbrev invariant_loop : tie.invariant-loop-r
 invariant_loop numbers strides adds₀ offset r₀ adds r =
     (r ≤ length adds) × (length adds ≡ length adds₀) × ((j : ℕ) → j < r → get_or adds j (pos 0) ≡ m_adds (card_of numbers strides) j)
 
-abbrev decreases_loop : tie.decreases_loop
+abbrev decreases_loop : tie.decreases-loop-r
 decreases_loop numbers strides adds₀ offset r₀ adds r = length adds₀ - r
 
-loop_holds : tie.Need-loop-init invariant_loop decreases_loop
+loop_holds : tie.Need-loop-r-init invariant_loop decreases_loop
 loop_holds c = (omega arith, refl, λ j h. absurd (omega arith))
 
-abbrev start : tie.After-m-sum invariant_loop decreases_loop → tie.Start invariant_loop decreases_loop
+abbrev start : tie.After-m_sum-sum invariant_loop decreases_loop → tie.Start invariant_loop decreases_loop
 start c = c.before.before.before.before
 
 -- what a turn adds up, and that it fits
-abbrev offset : tie.After-m-sum invariant_loop decreases_loop → ℤ
+abbrev offset : tie.After-m_sum-sum invariant_loop decreases_loop → ℤ
 offset c = get_or (start c).args.strides.now 23 (pos 0)
 
-offset_back : (c : tie.After-m-sum invariant_loop decreases_loop) → to_z w64 (of_z w64 (offset c)) ≡ offset c
-offset_back c = let s = start c in to_z-of_z (far_fits (omega (arith, offset_near s.args.numbers.now s.args.strides.now s.pre.0)))
+offset_back : (c : tie.After-m_sum-sum invariant_loop decreases_loop) → to_z w64 (of_z w64 (offset c)) ≡ offset c
+offset_back c = let s = start c in to_z-of_z (far_fits (omega (arith, offset_near s.args.numbers.now s.args.strides.now s.requires.0)))
 
-result_back : (c : tie.After-m-sum invariant_loop decreases_loop) → to_z w64 (of_z w64 c.m-sum.result) ≡ c.m-sum.result
-result_back c = to_z-of_z {w = w64} {z = c.m-sum.result} (record { sfits = c.m-sum.type-inv })
+result_back : (c : tie.After-m_sum-sum invariant_loop decreases_loop) → to_z w64 (of_z w64 c.m_sum-sum.result) ≡ c.m_sum-sum.result
+result_back c = to_z-of_z {w = w64} {z = c.m_sum-sum.result} (record { sfits = c.m_sum-sum.type_inv })
 
-fits : (c : tie.After-m-sum invariant_loop decreases_loop) → SFits w64 (offset c +ℤ c.m-sum.result)
+fits : (c : tie.After-m_sum-sum invariant_loop decreases_loop) → SFits w64 (offset c +ℤ c.m_sum-sum.result)
 fits c =
     let s = start c in
     let a = s.args in
     far_fits (omega (
       arith,
-      sum_far (offset c) c.m-sum.result,
-      ap nat_abs c.m-sum.ensures,
-      offset_near a.numbers.now a.strides.now s.pre.0,
-      copy_near a.numbers.now a.strides.now s.pre.0 c.before.before.loop.r,
+      sum_far (offset c) c.m_sum-sum.result,
+      ap nat_abs c.m_sum-sum.ensures,
+      offset_near a.numbers.now a.strides.now s.requires.0,
+      copy_near a.numbers.now a.strides.now s.requires.0 c.loop-r.r,
     ))
 
-written : (c : tie.After-m-sum invariant_loop decreases_loop)
-    → to_z w64 (of_z w64 (to_z w64 (of_z w64 (offset c)) +ℤ to_z w64 (of_z w64 c.m-sum.result)))
-    ≡ m_adds (card_of (start c).args.numbers.now (start c).args.strides.now) c.before.before.loop.r
+written : (c : tie.After-m_sum-sum invariant_loop decreases_loop)
+    → to_z w64 (of_z w64 (to_z w64 (of_z w64 (offset c)) +ℤ to_z w64 (of_z w64 c.m_sum-sum.result)))
+    ≡ m_adds (card_of (start c).args.numbers.now (start c).args.strides.now) c.loop-r.r
 written c =
     let s = start c in
     let a = s.args in
     rw (offset_back c, result_back c) (to_z-of_z (fits c))
-    ∙ ap₂ ◌+ℤ◌ (sym (offset_at a.numbers.now a.strides.now s.pre.0)) c.m-sum.ensures
+    ∙ ap₂ ◌+ℤ◌ (sym (offset_at a.numbers.now a.strides.now s.requires.0)) c.m_sum-sum.ensures
 
-loop_again : tie.Need-loop-preserved invariant_loop decreases_loop
+loop_again : tie.Need-loop-r-preserved invariant_loop decreases_loop
 loop_again c =
     let s = start c in
     let a = s.args in
-    let l = c.before.before.loop in
+    let l = c.loop-r in
     rw (written c)
     (let z = m_adds (card_of a.numbers.now a.strides.now) l.r in (
-      omega (arith, c.before.loop-test.true, length-set l.adds l.r z),
+      omega (arith, c.loop-r-test.true, length-set l.adds l.r z),
       length-set l.adds l.r z ∙ l.invariant.1,
       below_more (λ j. get_or (set l.adds l.r z) j (pos 0) ≡ m_adds (card_of a.numbers.now a.strides.now) j) l.r
           (λ j h. get_or-set_other l.adds l.r j z (pos 0) (ne_of_lt h) ∙ l.invariant.2 j h)
-          (get_or-set_same l.adds l.r z (pos 0) c.before.loop-test.true),
+          (get_or-set_same l.adds l.r z (pos 0) c.loop-r-test.true),
     ))
 
 returns : tie.Need-returns invariant_loop decreases_loop
 returns c =
-    let l = c.before.loop in
-    let s = c.before.before.before in
-    record { one_each = l.invariant.1 ∙ s.requires.1; there = λ r h. l.invariant.2 r (omega (arith, c.loop-test.false)) }
+    let l = c.loop-r in
+    let s = c in
+    record { one_each = l.invariant.1 ∙ s.requires.1; there = λ r h. l.invariant.2 r (omega (arith, c.loop-r-test.false)) }
 
 pub put_adds_spec : {M : Type 1} → statement M
 put_adds_spec =
     tie.close
     (tie.spec invariant_loop decreases_loop (λ c. search rules) (λ c. search rules) (λ c. search rules) loop_holds
-    (λ c κs. let s = c.before.before.before in walkable_replica s.args.numbers.now s.args.strides.now s.requires.0) (λ c. rw (offset_back c, result_back c) (fits c)) (λ c. search rules) (λ c. search rules) (λ c. search rules) (λ c. search rules) loop_again
+    (λ c κs. let s = c in walkable_replica s.args.numbers.now s.args.strides.now s.requires.0) (λ c. rw (offset_back c, result_back c) (fits c)) (λ c. search rules) (λ c. search rules) (λ c. search rules) (λ c. search rules) loop_again
     (λ c. search rules) returns)

@@ -5,4 +5,4 @@ use Rattle.owners.proofs.cell_with.Statement.{statement}
 use Rattle.owners.proofs.cell_with.Tie as tie
 
 pub cell_with_spec : {M : Type 1} → statement M
-cell_with_spec = tie.close (tie.spec (λ c. search rules) (λ c. rw (eq-eqb _ _ c.before.if1.true)) (λ c. rw (ne_eqb _ _ c.if1.false)))
+cell_with_spec = tie.close (tie.spec (λ c. search rules) (λ c. rw (eq-eqb _ _ c.if-found-wanted.true)) (λ c. rw (ne_eqb _ _ c.if-found-wanted.false)))

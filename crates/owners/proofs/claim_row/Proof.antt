@@ -6,18 +6,18 @@ use borrow.Author.Rules.{rules}
 use Rattle.owners.proofs.claim_row.Statement.{statement}
 use Rattle.owners.proofs.claim_row.Tie as tie
 
-returns : tie.Need-returns
+returns : tie.Need-returns-then-entry_met-ne0
 returns c =
-    let a = c.before.before.before.before.before.args in
-    claim_none a.row.now a.flat.0 a.table.now (pos_of_ne-zero (λ e. c.if1.true (c.before.entry-met.ensures ∙ e)))
+    let a = c.args in
+    claim_none a.row.now a.flat.0 a.table.now (pos_of_ne-zero (λ e. c.if-entry_met-ne0.true (c.entry_met.ensures ∙ e)))
 
-returns_2 : tie.Need-returns-2
+returns_2 : tie.Need-returns
 returns_2 c =
-    let s = c.before.before.before.before.before.before.before.before.before in
+    let s = c in
     let a = s.args in
-    let write = c.before.before.write-row in
-    let free = sym c.before.before.before.before.before.entry-met.ensures ∙ c.before.before.before.before.if1.false in
-    claim_all a.row.now a.flat.0 write.result a.table.now write.new.0 s.requires.0 s.requires.1.0 free write.ensures.0 write.ensures.1
+    let write = c.write_row in
+    let free = sym c.entry_met.ensures ∙ c.if-entry_met-ne0.false in
+    claim_all a.row.now a.flat.0 write.result a.table.now write.new.table s.requires.0 s.requires.1.0 free write.ensures.0 write.ensures.1
 
 pub claim_row_spec : {M : Type 1} → statement M
 claim_row_spec = tie.close (tie.spec (λ c κs. search rules) (λ c. search rules) returns (λ c κs. search rules) (λ c. search rules) returns_2)

@@ -5,4 +5,4 @@ use Rattle.owners.proofs.free.Statement.{statement}
 use Rattle.owners.proofs.free.Tie as tie
 
 pub free_spec : {M : Type 1} → statement M
-free_spec = tie.close (tie.spec (λ c. rw c.if1.true) (λ c. omega (arith, taken_owned c.before.args.entry (omega arith))))
+free_spec = tie.close (tie.spec (λ c. rw c.if-entry-eq0.true) (λ c. omega (arith, taken_owned c.args.entry (omega arith))))

@@ -6,5 +6,5 @@ use Rattle.owners.proofs.min_some.Tie as tie
 pub min_some_spec : {M : Type 1} → statement M
 min_some_spec =
     tie.close
-    (tie.spec (λ c. rw c.if1.true at (smaller_test c.before.args.best c.before.args.found))
-    (λ c. rw c.if1.false at (smaller_test c.before.args.best c.before.args.found)))
+    (tie.spec (λ c. rw c.if-found-best.true at (smaller_test c.args.best c.args.found))
+    (λ c. rw c.if-found-best.false at (smaller_test c.args.best c.args.found)))

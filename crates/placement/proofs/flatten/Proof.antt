@@ -8,26 +8,26 @@ use Rattle.placement.proofs.Elements.{element_uncounted, element_found, element_
 use Rattle.placement.proofs.flatten.Statement.{statement}
 use Rattle.placement.proofs.flatten.Tie as tie
 
-returns : tie.Need-returns
-returns c = let a = c.before.before.before.before.before.args in element_uncounted a.shape a.coordinates c.if1.true
+returns : tie.Need-returns-then-coordinates-shape
+returns c = let a = c.args in element_uncounted a.shape a.coordinates c.if-coordinates-shape.true
 
-returns_2 : tie.Need-returns-2
+returns_2 : tie.Need-returns-in-At
 returns_2 c =
-    let l = c.before.before.before in
-    let i = l.before.before.before in
-    let a = i.before.before.before.before.before.args in
-    element_found a.shape a.coordinates i.if1.false c.before.number.given.0.0 (sym l.locate.ensures ∙ c.before.number.given.1)
+    let l = c in
+    let i = l in
+    let a = i.args in
+    element_found a.shape a.coordinates i.if-coordinates-shape.false c.in-At.number (sym l.locate.ensures ∙ c.in-At.is)
 
-returns_3 : tie.Need-returns-3
+returns_3 : tie.Need-returns-in-Past
 returns_3 c =
-    let l = c.before.before in
-    let i = l.before.before.before in
-    let a = i.before.before.before.before.before.args in
-    element_past a.shape a.coordinates i.if1.false c.enum_told.given.0.0 (sym l.locate.ensures ∙ c.enum_told.given.1)
+    let l = c in
+    let i = l in
+    let a = i.args in
+    element_past a.shape a.coordinates i.if-coordinates-shape.false c.in-Past.field-0 (sym l.locate.ensures ∙ c.in-Past.is)
 
 locate_requires : tie.Need-locate-requires
 locate_requires c κs =
-    let s = c.before.before.before.before.before.before.before in
+    let s = c in
     let at = s.args.shape.at in
     let eight : length at ≡ 8 = search rules in
     let p = s.requires in

@@ -13,18 +13,18 @@ use Rattle.placement.proofs.is_admitted.Tie as tie
 
 product_requires : tie.Need-product-requires
 product_requires c κs =
-    let count = c.before.before.args.shape.count in
-    leb-true count most_dimensions ((and-eq-true_iff (leb 1 count) (leb count most_dimensions)).0 c.if1.true).1
+    let count = c.args.shape.count in
+    leb-true count most_dimensions ((and-eq-true_iff (leb 1 count) (leb count most_dimensions)).0 c.if-count.true).1
 
-returns : tie.Need-returns
+returns : tie.Need-returns-then-count
 returns c =
-    let s = c.before.before.before in
-    rw c.before.if1.true
+    let s = c in
+    rw c.if-count.true
     (ap (λ (n : ℕ). eqb n s.args.elements) c.product.ensures
     ∙ capped_eqb beyond (product (entries s.args.shape)) s.args.elements s.requires)
 
-returns_2 : tie.Need-returns-2
-returns_2 c = rw c.if1.false
+returns_2 : tie.Need-returns-else-count
+returns_2 c = rw c.if-count.false
 
 pub is_admitted_spec : {M : Type 1} → statement M
 is_admitted_spec = tie.close (tie.spec product_requires returns returns_2)

@@ -16,7 +16,7 @@ use Rattle.placement.proofs.place_copies.Statement.{statement}
 use Rattle.placement.proofs.place_copies.Tie as tie
 
 fits : (s : tie.Start) → length s.args.memory.now ≤ 64
-fits s = let n = sized (card_of s.args.numbers.now s.args.strides.now) s.requires.0.admitted in omega (arith, s.requires.1, n.most-copies)
+fits s = let n = sized (card_of s.args.numbers.now s.args.strides.now) s.requires.0.admitted in omega (arith, s.requires.1, n.most_copies_lem)
 
 long : (s : tie.Start) → length {A = ℕ} (take (length s.args.memory.now) (replicate 64 0)) ≡ length s.args.memory.now
 long s = length-take-le (length s.args.memory.now) (replicate 64 0) (fits s)
@@ -25,57 +25,57 @@ abbrev asked : tie.Start → Card
 asked s = card_of s.args.numbers.now s.args.strides.now
 
 -- the row that was placed
-abbrev start : tie.After-place-row → tie.Start
+abbrev start : tie.After-place_row-outside → tie.Start
 start p = p.before.before.before
 
-abbrev cells : tie.After-place-row → List ℕ
+abbrev cells : tie.After-place_row-outside → List ℕ
 cells p = cells_of (spot (asked (start p)) (start p).args.flat.0) (length {A = ℕ} (take (length (start p).args.memory.now) (replicate 64 0)))
 
-cells_long : (p : tie.After-place-row) → length (cells p) ≡ length (start p).args.memory.now
+cells_long : (p : tie.After-place_row-outside) → length (cells p) ≡ length (start p).args.memory.now
 cells_long p = cells_length (spot (asked (start p)) (start p).args.flat.0) _ ∙ long (start p)
 
-axis_is : (p : tie.After-place-row) → p.place-row.result ≡ outside_axis (asked (start p)) (start p).args.flat.0
+axis_is : (p : tie.After-place_row-outside) → p.place_row-outside.result ≡ outside_axis (asked (start p)) (start p).args.flat.0
 unfolding outside_axis
 axis_is p =
     let s = start p in
-    p.place-row.ensures.smallest_axis ∙ ap (outside_of (spot (asked s) s.args.flat.0)) (long s ∙ s.pre.1)
+    p.place_row-outside.ensures.smallest_axis ∙ ap (outside_of (spot (asked s) s.args.flat.0)) (long s ∙ s.requires.1)
 
-cells_are : (p : tie.After-place-row) → cells p ≡ copy_cells (asked (start p)) (start p).args.flat.0
+cells_are : (p : tie.After-place_row-outside) → cells p ≡ copy_cells (asked (start p)) (start p).args.flat.0
 unfolding copy_cells
-cells_are p = let s = start p in ap (cells_of (spot (asked s) s.args.flat.0)) (long s ∙ s.pre.1)
+cells_are p = let s = start p in ap (cells_of (spot (asked s) s.args.flat.0)) (long s ∙ s.requires.1)
 
-array_borrow_prefix_row : tie.Need-array-borrow-prefix-row
+array_borrow_prefix_row : tie.Need-slice_bounds-row-end
 array_borrow_prefix_row c = fits c.before
 
-slice_aggregate_place_row : tie.Need-slice-aggregate-place-row
+slice_aggregate_place_row : tie.Need-slice_bounds-place_row-end
 slice_aggregate_place_row c = sym (long c.before.before)
 
-place_row_requires : tie.Need-place-row-requires
-place_row_requires c κs = c.before.before.requires.0
+place_row_requires : tie.Need-place_row-outside-requires
+place_row_requires c κs = c.requires.0
 
-returns : tie.Need-returns
-returns c = record { smallest_axis = axis_is c.before.before; refused = λ h. refl; placed = λ h. absurd (omega (arith, c.if1.true)) }
+returns : tie.Need-returns-then-outside-lt-AXES
+returns c = record { smallest_axis = axis_is c.before.before; refused = λ h. refl; placed = λ h. absurd (omega (arith, c.if-outside-lt-AXES.true)) }
 
 write_requires : tie.Need-write-requires
 write_requires c κs =
-    let p = c.before.before.before.before in
-    let n = length (start p).args.memory.now in
-    (rw p.place-row.ensures.cells (length_front (replicate 64 0) (cells p) n (cells_long p ∙ sym (long (start p)))), fits (start p))
+    let p = c in
+    let n = length (start p.before.before.before.before).args.memory.now in
+    (rw p.place_row-outside.ensures.cells (length_front (replicate 64 0) (cells p.before.before.before.before) n (cells_long p.before.before.before.before ∙ sym (long (start p.before.before.before.before)))), fits (start p.before.before.before.before))
 
-returns_2 : tie.Need-returns-2
+returns_2 : tie.Need-returns
 returns_2 c =
-    let w = c.before.before in
-    let two = w.before.before.before in
-    let p = two.before.before in
-    let n = length (start p).args.memory.now in
+    let w = c in
+    let two = w in
+    let p = two in
+    let n = length (start p.before.before.before.before.before.before.before).args.memory.now in
     record {
-      smallest_axis = axis_is p;
-      refused = λ h. absurd (omega (arith, two.if1.false));
+      smallest_axis = axis_is p.before.before.before.before.before.before.before;
+      refused = λ h. absurd (omega (arith, two.if-outside-lt-AXES.false));
       placed = λ h.
           w.write.ensures
-          ∙ ap (λ (l : List ℕ). take n (l ++ drop n (replicate 64 0))) p.place-row.ensures.cells
-          ∙ take_at (cells p) (drop n (replicate 64 0)) n (cells_long p)
-          ∙ cells_are p;
+          ∙ ap (λ (l : List ℕ). take n (l ++ drop n (replicate 64 0))) p.place_row-outside.ensures.cells
+          ∙ take_at (cells p.before.before.before.before.before.before.before) (drop n (replicate 64 0)) n (cells_long p.before.before.before.before.before.before.before)
+          ∙ cells_are p.before.before.before.before.before.before.before;
     }
 
 pub place_copies_spec : {M : Type 1} → statement M

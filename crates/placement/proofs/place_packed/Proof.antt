@@ -26,124 +26,124 @@ use Rattle.placement.proofs.place_packed.Tie as tie
 abbrev asked : tie.Start → Card
 asked s = card_of s.args.numbers.now s.args.strides.now
 
-returns : tie.Need-returns
+returns : tie.Need-returns-in-Refused
 returns c =
-    let d = c.before.before.before in
-    let s = d.before.before in
-    not_admitted (asked s) s.args.shape s.args.coordinates s.args.memory.now _ (sym d.admit-packed.ensures ∙ c.before.admission.given.1)
+    let d = c in
+    let s = d in
+    not_admitted (asked s.before.before.before) s.args.shape s.args.coordinates s.args.memory.now _ (sym d.admit_packed-admission.ensures ∙ c.in-Refused.is)
 
 -- what each check that was passed says
-abbrev start : tie.After-enum-told → tie.Start
-start e = e.before.before.before.before
+abbrev start : tie.In_default → tie.Start
+start e = e.before.before.before
 
-admitted : (e : tie.After-enum-told) → full_admission (asked (start e)) ≡ Admitted
-admitted e = sym e.before.before.admit-packed.ensures ∙ e.enum_told.given.1
+admitted : (e : tie.In_default) → full_admission (asked (start e)) ≡ Admitted
+admitted e = sym e.admit_packed-admission.ensures ∙ e.in_default.is
 
-admits : (e : tie.After-enum-told) → Admits (start e).args.numbers.now (start e).args.strides.now
-admits e = let s = start e in record { whole = s.pre; admitted = checks_passed (asked s) (admitted e) }
+admits : (e : tie.In_default) → Admits (start e).args.numbers.now (start e).args.strides.now
+admits e = let s = start e in record { whole = s.requires; admitted = checks_passed (asked s) (admitted e) }
 
-is_copies : (e : tie.After-enum-told) → get_or (start e).args.numbers.now 46 0 ≡ copies (asked (start e))
+is_copies : (e : tie.In_default) → get_or (start e).args.numbers.now 46 0 ≡ copies (asked (start e))
 is_copies e = (measured (start e).args.numbers.now (start e).args.strides.now (admits e)).copies_are
 
-is_elements : (e : tie.After-enum-told) → get_or (start e).args.numbers.now 45 0 ≡ elements (asked (start e))
+is_elements : (e : tie.In_default) → get_or (start e).args.numbers.now 45 0 ≡ elements (asked (start e))
 is_elements e = (measured (start e).args.numbers.now (start e).args.strides.now (admits e)).elements_are
 
-is_shape : (i : tie.After-is-admitted) → let s = start i.before.before in shape_admitted s.args.shape (elements (asked s)) ≡ i.is_admitted.result
+is_shape : (i : tie.After-is_admitted) → let s = start i.before.before.before in shape_admitted s.args.shape (elements (asked s)) ≡ i.is_admitted.result
 is_shape i =
-    let e = i.before.before in
-    sym (i.is_admitted.ensures ∙ ap (shape_admitted (start e).args.shape) (is_elements e))
+    let e = i in
+    sym (i.is_admitted.ensures ∙ ap (shape_admitted (start e.before.before.before).args.shape) (is_elements e.before.before.before))
 
-shape_fits : (c : tie.Else1) → let s = start c.before.before.before in shape_admitted s.args.shape (elements (asked s)) ≡ true
-shape_fits c = is_shape c.before ∙ not-false _ c.if1.false
+shape_fits : (c : tie.Else-not-is_admitted) → let s = start c.before.before.before.before in shape_admitted s.args.shape (elements (asked s)) ≡ true
+shape_fits c = is_shape c.before ∙ c.if-not-is_admitted.false
 
-is_admitted_requires : tie.Need-is-admitted-requires
+is_admitted_requires : tie.Need-is_admitted-requires
 is_admitted_requires c κs =
-    let e = c.before in
-    let n = sized (asked (start e)) (admits e).admitted in
-    omega (arith, is_elements e, n.most-elements)
+    let e = c in
+    let n = sized (asked (start e.before.before)) (admits e).admitted in
+    omega (arith, is_elements e.before.before, n.most_elements_lem)
 
-returns_2 : tie.Need-returns-2
+returns_2 : tie.Need-returns-then-not-is_admitted
 returns_2 c =
-    let e = c.before.before.before in
-    let s = start e in
-    not_shaped (asked s) s.args.shape s.args.coordinates s.args.memory.now (admitted e) (is_shape c.before ∙ not-true _ c.if1.true)
+    let e = c in
+    let s = start e.before.before.before.before in
+    not_shaped (asked s) s.args.shape s.args.coordinates s.args.memory.now (admitted e.before.before.before.before) (is_shape c.before ∙ c.if-not-is_admitted.true)
 
-flatten_requires : tie.Need-flatten-requires
+flatten_requires : tie.Need-flatten-found-requires
 flatten_requires c κs =
-    let e = c.before.before.before in
-    let s = start e in
+    let e = c in
+    let s = start e.before.before.before.before in
     let n = sized (asked s) (admits e).admitted in
-    shaped s.args.shape (elements (asked s)) n.some_elements n.most-elements (shape_fits c)
+    shaped s.args.shape (elements (asked s)) n.some_elements n.most_elements_lem (shape_fits c)
 
-returns_3 : tie.Need-returns-3
+returns_3 : tie.Need-returns-in_default-found
 returns_3 c =
-    let f = c.before.before in
-    let e = f.before.before.before.before in
-    let s = start e in
-    not_fitting (asked s) s.args.shape s.args.coordinates s.args.memory.now (admitted e) (shape_fits f.before)
-    (unnamed s.args.shape s.args.coordinates (sym f.flatten.ensures ∙ c.enum-told2.given.1))
+    let f = c in
+    let e = f in
+    let s = start e.before.before.before.before.before.before in
+    not_fitting (asked s) s.args.shape s.args.coordinates s.args.memory.now (admitted e.before.before.before.before.before.before) (shape_fits f.before.before)
+    (unnamed s.args.shape s.args.coordinates (sym f.flatten-found.ensures ∙ c.in_default-found.is))
 
 -- the element that the coordinates name
-abbrev shape_of : tie.After-known-told2 → tie.Else1
-shape_of k = k.before.before.before.before
+abbrev shape_of : tie.In-Element → tie.Else-not-is_admitted
+shape_of k = k.before.before
 
-abbrev told : tie.After-known-told2 → tie.After-enum-told
-told k = (shape_of k).before.before.before
+abbrev told : tie.In-Element → tie.In_default
+told k = (shape_of k).before.before.before.before
 
-abbrev flat_of : tie.After-known-told2 → Flat
-flat_of k = k.before.found.given.0.0
+abbrev flat_of : tie.In-Element → Flat
+flat_of k = k.in-Element.flat
 
-name_it : (k : tie.After-known-told2)
+name_it : (k : tie.In-Element)
     → (coordinates_fit (start (told k)).args.shape (start (told k)).args.coordinates ≡ true)
     × (flatten (start (told k)).args.shape (start (told k)).args.coordinates ≡ (flat_of k).0)
 name_it k =
-    let f = k.before.before.before in
+    let f = k in
     let a = (start (told k)).args in
-    named a.shape a.coordinates (flat_of k) (sym f.flatten.ensures ∙ k.before.found.given.1)
+    named a.shape a.coordinates (flat_of k) (sym f.flatten-found.ensures ∙ k.in-Element.is)
 
-returns_4 : tie.Need-returns-4
+returns_4 : tie.Need-returns-then-memory-copies
 returns_4 c =
-    let k = c.before.before in
-    let e = told k in
+    let k = c in
+    let e = told k.before.before in
     let s = start e in
-    too_short (asked s) s.args.shape s.args.coordinates s.args.memory.now (admitted e) (shape_fits (shape_of k)) (flat_of k) (name_it k)
-    _ (is_copies e) c.if2.true
+    too_short (asked s) s.args.shape s.args.coordinates s.args.memory.now (admitted e) (shape_fits (shape_of k.before.before)) (flat_of k.before.before) (name_it k.before.before)
+    _ (is_copies e) c.if-memory-copies.true
 
-slice_aggregate_place_cells : tie.Need-slice-aggregate-place-cells
+slice_aggregate_place_cells : tie.Need-slice_bounds-place_cells-end-2
 slice_aggregate_place_cells c =
-    let two = c.before in
-    sym (length-take-le _ (start (told two.before.before)).args.memory.now two.if2.false)
+    let two = c in
+    sym (length-take-le _ (start (told two.before.before.before)).args.memory.now two.if-memory-copies.false)
 
-place_cells_requires : tie.Need-place-cells-requires
+place_cells_requires : tie.Need-place_cells-axis-requires
 place_cells_requires c κs =
-    let two = c.before in
-    let e = told two.before.before in
-    (admits e, length-take-le _ (start e).args.memory.now two.if2.false ∙ is_copies e)
+    let two = c in
+    let e = told two.before.before.before in
+    (admits e, length-take-le _ (start e).args.memory.now two.if-memory-copies.false ∙ is_copies e)
 
-returns_5 : tie.Need-returns-5
+returns_5 : tie.Need-returns-then-axis-lt-AXES
 returns_5 c =
-    let p = c.before.before.before in
-    let two = p.before.before in
-    let k = two.before.before in
-    let e = told k in
+    let p = c in
+    let two = p in
+    let k = two in
+    let e = told k.before.before.before.before.before.before.before in
     let s = start e in
     let n = get_or s.args.numbers.now 46 0 in
     let memory = s.args.memory.now in
-    rw (ap (λ (l : List ℕ). l ++ drop n memory) (p.place-cells.ensures.refused c.if3.true) ∙ take-append-drop n memory)
-    (lies_outside (asked s) s.args.shape s.args.coordinates memory (admitted e) (shape_fits (shape_of k)) (flat_of k) (name_it k)
-    n p.place-cells.result (is_copies e) two.if2.false p.place-cells.ensures.smallest_axis c.if3.true)
+    rw (ap (λ (l : List ℕ). l ++ drop n memory) (p.place_cells-axis.ensures.refused c.if-axis-lt-AXES.true) ∙ take-append-drop n memory)
+    (lies_outside (asked s) s.args.shape s.args.coordinates memory (admitted e) (shape_fits (shape_of k.before.before.before.before.before.before.before)) (flat_of k.before.before.before.before.before.before.before) (name_it k.before.before.before.before.before.before.before)
+    n p.place_cells-axis.result (is_copies e) two.if-memory-copies.false p.place_cells-axis.ensures.smallest_axis c.if-axis-lt-AXES.true)
 
-returns_6 : tie.Need-returns-6
+returns_6 : tie.Need-returns
 returns_6 c =
-    let p = c.before.before.before in
-    let two = p.before.before in
-    let k = two.before.before in
-    let e = told k in
+    let p = c in
+    let two = p in
+    let k = two in
+    let e = told k.before.before.before.before.before.before.before in
     let s = start e in
     let n = get_or s.args.numbers.now 46 0 in
-    copied (asked s) s.args.shape s.args.coordinates s.args.memory.now (admitted e) (shape_fits (shape_of k)) (flat_of k) (name_it k)
-    n p.place-cells.result (is_copies e) two.if2.false p.place-cells.ensures.smallest_axis c.if3.false
-    (ap (λ (l : List ℕ). l ++ drop n s.args.memory.now) (p.place-cells.ensures.placed c.if3.false))
+    copied (asked s) s.args.shape s.args.coordinates s.args.memory.now (admitted e) (shape_fits (shape_of k.before.before.before.before.before.before.before)) (flat_of k.before.before.before.before.before.before.before) (name_it k.before.before.before.before.before.before.before)
+    n p.place_cells-axis.result (is_copies e) two.if-memory-copies.false p.place_cells-axis.ensures.smallest_axis c.if-axis-lt-AXES.false
+    (ap (λ (l : List ℕ). l ++ drop n s.args.memory.now) (p.place_cells-axis.ensures.placed c.if-axis-lt-AXES.false))
 
 pub place_packed_spec : {M : Type 1} → statement M
 place_packed_spec =

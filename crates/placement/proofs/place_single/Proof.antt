@@ -21,35 +21,35 @@ one_entry (x ∷ []) [] h k = absurd (omega (arith, k))
 one_entry (x ∷ []) (y ∷ []) h k = refl
 one_entry (x ∷ []) (y ∷ z ∷ m) h k = absurd (omega (arith, k))
 
-abbrev start : tie.After-place-row → tie.Start
+abbrev start : tie.After-place_row-smallest → tie.Start
 start p = p.before.before.before
 
-abbrev asked : tie.After-place-row → Card
+abbrev asked : tie.After-place_row-smallest → Card
 asked p = card_of (start p).args.numbers.now (start p).args.strides.now
 
-one_copy : (p : tie.After-place-row) → 1 ≡ copies (asked p)
+one_copy : (p : tie.After-place_row-smallest) → 1 ≡ copies (asked p)
 one_copy p = sym (start p).requires.2 ∙ (start p).requires.1
 
-axis_is : (p : tie.After-place-row) → p.place-row.result ≡ outside_axis (asked p) (start p).args.flat.0
+axis_is : (p : tie.After-place_row-smallest) → p.place_row-smallest.result ≡ outside_axis (asked p) (start p).args.flat.0
 unfolding outside_axis
-axis_is p = p.place-row.ensures.smallest_axis ∙ ap (outside_of (spot (asked p) (start p).args.flat.0)) (one_copy p)
+axis_is p = p.place_row-smallest.ensures.smallest_axis ∙ ap (outside_of (spot (asked p) (start p).args.flat.0)) (one_copy p)
 
-cells_are : (p : tie.After-place-row) → cells_of (spot (asked p) (start p).args.flat.0) 1 ≡ copy_cells (asked p) (start p).args.flat.0
+cells_are : (p : tie.After-place_row-smallest) → cells_of (spot (asked p) (start p).args.flat.0) 1 ≡ copy_cells (asked p) (start p).args.flat.0
 unfolding copy_cells
 cells_are p = ap (cells_of (spot (asked p) (start p).args.flat.0)) (one_copy p)
 
-returns : tie.Need-returns
-returns c = record { smallest_axis = axis_is c.before.before; refused = λ h. refl; placed = λ h. absurd (omega (arith, c.if1.true)) }
+returns : tie.Need-returns-then-smallest-lt-AXES
+returns c = record { smallest_axis = axis_is c.before.before; refused = λ h. refl; placed = λ h. absurd (omega (arith, c.if-smallest-lt-AXES.true)) }
 
-returns_2 : tie.Need-returns-2
+returns_2 : tie.Need-returns
 returns_2 c =
-    let p = c.before.before in
-    let goes = spot (asked p) (start p).args.flat.0 in
-    let made = p.place-row.ensures.cells in
+    let p = c in
+    let goes = spot (asked p.before.before) (start p.before.before).args.flat.0 in
+    let made = p.place_row-smallest.ensures.cells in
     record {
-      smallest_axis = axis_is p;
-      refused = λ h. absurd (omega (arith, c.if1.false));
-      placed = λ h. one_entry (start p).args.memory.now _ (start p).requires.2 (ap length made ∙ cells_length goes 1) ∙ made ∙ cells_are p;
+      smallest_axis = axis_is p.before.before;
+      refused = λ h. absurd (omega (arith, c.if-smallest-lt-AXES.false));
+      placed = λ h. one_entry (start p.before.before).args.memory.now _ (start p.before.before).requires.2 (ap length made ∙ cells_length goes 1) ∙ made ∙ cells_are p.before.before;
     }
 
 pub place_single_spec : {M : Type 1} → statement M

@@ -3,10 +3,10 @@ use borrow.Author.Rules.{rules}
 use Rattle.placement.proofs.placement_numbers.Statement.{statement}
 use Rattle.placement.proofs.placement_numbers.Tie as tie
 
-returns : tie.Need-returns
-returns c = rw c.before.before.placement.given.1 c.answer.ensures
+returns : tie.Need-returns-in-Copies
+returns c = rw c.in-Copies.is c.answer.ensures
 
 pub placement_numbers_spec : {M : Type 1} → statement M
 placement_numbers_spec =
     tie.close
-    (tie.spec (λ c. search rules) (λ c κs. search rules) (λ c. search rules) (λ c κs. search rules) returns (λ c. rw c.before.before.placement2.given.1 c.refusal-numbers.ensures))
+    (tie.spec (λ c. search rules) (λ c κs. search rules) (λ c. search rules) (λ c κs. search rules) returns (λ c. rw c.in-Refused.is c.refusal_numbers.ensures))

@@ -8,36 +8,36 @@ use borrow.Author.Rules.{rules}
 use Rattle.plans_cells.proofs.check_cells.Statement.{statement}
 use Rattle.plans_cells.proofs.check_cells.Tie as tie
 
-returns : tie.Need-returns
+returns : tie.Need-returns-then-copy-ne0
 returns c =
-    let other = c.before.before in
-    let call = other.before.before.before.before in
-    let k = call.before.before in
-    let s = k.before.before.before.before.before in
-    copy_outside s.args.plan.now s.args.first.now s.args.second.now s.requires k.before.first-outside.ensures (omega (arith, k.if1.true))
-    call.clear.ensures other.clear2.ensures
+    let other = c in
+    let call = other in
+    let k = call in
+    let s = k in
+    copy_outside s.args.plan.now s.args.first.now s.args.second.now s.requires k.first_outside-copy.ensures (omega (arith, k.if-copy-ne0.true))
+    call.clear.ensures other.clear-then-copy-ne0.ensures
 
 -- no copy is outside
-inside : (c : tie.Else1) → let a = c.before.before.before.before.before.args in first_outside (length a.first.now) a.plan.now ≡ 0
-inside c = sym c.before.first-outside.ensures ∙ omega (arith, c.if1.false)
+inside : (c : tie.Else-copy-ne0) → let a = c.args in first_outside (length a.first.now) a.plan.now ≡ 0
+inside c = sym c.first_outside-copy.ensures ∙ omega (arith, c.if-copy-ne0.false)
 
-returns_2 : tie.Need-returns-2
+returns_2 : tie.Need-returns-then-wrong-ne0
 returns_2 c =
-    let w = c.before in
-    let run = w.before.before.before.before.before in
-    let k = run.before.before in
-    let s = k.before.before.before.before.before in
-    ends_wrong s.args.plan.now s.args.first.now s.args.second.now s.requires (inside k) run.run-copies.ensures w.first-wrong.ensures
-    (omega (arith, c.if2.true))
+    let w = c in
+    let run = w in
+    let k = run in
+    let s = k in
+    ends_wrong s.args.plan.now s.args.first.now s.args.second.now s.requires (inside k.before.before.before.before.before.before) run.run_copies.ensures w.first_wrong-wrong.ensures
+    (omega (arith, c.if-wrong-ne0.true))
 
-returns_3 : tie.Need-returns-3
+returns_3 : tie.Need-returns
 returns_3 c =
-    let w = c.before in
-    let run = w.before.before.before.before.before in
-    let k = run.before.before in
-    let s = k.before.before.before.before.before in
-    ends_right s.args.plan.now s.args.first.now s.args.second.now s.requires (inside k) run.run-copies.ensures w.first-wrong.ensures
-    (omega (arith, c.if2.false))
+    let w = c in
+    let run = w in
+    let k = run in
+    let s = k in
+    ends_right s.args.plan.now s.args.first.now s.args.second.now s.requires (inside k.before.before.before.before.before.before) run.run_copies.ensures w.first_wrong-wrong.ensures
+    (omega (arith, c.if-wrong-ne0.false))
 
 pub check_cells_spec : {M : Type 1} → statement M
 check_cells_spec =

@@ -12,59 +12,59 @@ use borrow.Author.Rules.{rules}
 use Rattle.plans_cells.proofs.write_cells.Statement.{statement}
 use Rattle.plans_cells.proofs.write_cells.Tie as tie
 
-returns : tie.Need-returns
+returns : tie.Need-returns-then-shared-ne0
 returns c =
-    let other = c.before.before in
-    let call = other.before.before.before.before in
-    let k = call.before.before in
-    let s = k.before.before.before.before.before.before.before in
-    overlaps s.args.plan.now s.args.first.now s.args.second.now s.requires.1.0 k.before.first-shared.ensures (omega (arith, k.if1.true))
-    call.clear.ensures other.clear2.ensures
+    let other = c in
+    let call = other in
+    let k = call in
+    let s = k in
+    overlaps s.args.plan.now s.args.first.now s.args.second.now s.requires.1.0 k.first_shared-shared.ensures (omega (arith, k.if-shared-ne0.true))
+    call.clear.ensures other.clear-then-shared-ne0.ensures
 
 -- no cell is shared
-none : (c : tie.Else1) →
-    let a = c.before.before.before.before.before.before.before.args in
+none : (c : tie.Else-shared-ne0) →
+    let a = c.args in
     first_shared a.first.now a.second.now ≡ 0
-none c = sym c.before.first-shared.ensures ∙ omega (arith, c.if1.false)
+none c = sym c.first_shared-shared.ensures ∙ omega (arith, c.if-shared-ne0.false)
 
 -- twice the occupied cells is a number
-mul_numbers : tie.Need-overflow-mul-numbers
+mul_numbers : tie.Need-overflow_mul-numbers
 mul_numbers c =
-    let s = c.before.before.before.before.before.before.before in
+    let s = c in
     omega (arith, s.requires.1.1, occupied_most s.args.second.now)
 
-returns_2 : tie.Need-returns-2
+returns_2 : tie.Need-returns-then-plan-numbers
 returns_2 c =
-    let other = c.before.before in
-    let call = other.before.before.before.before in
-    let k = call.before.before.before in
-    let s = k.before.before.before.before.before.before.before in
-    too_few s.args.plan.now s.args.first.now s.args.second.now s.requires.1.0 (none k) (ap (λ (n : ℕ). 2 * n) s.requires.1.1)
-    (omega (arith, call.before.before.if2.true)) call.clear3.ensures other.clear4.ensures
+    let other = c in
+    let call = other in
+    let k = call in
+    let s = k in
+    too_few s.args.plan.now s.args.first.now s.args.second.now s.requires.1.0 (none k.before.before.before.before.before.before.before.before.before) (ap (λ (n : ℕ). 2 * n) s.requires.1.1)
+    (omega (arith, call.if-plan-numbers.true)) call.clear-then-plan-numbers.ensures other.clear-then-plan-numbers-2.ensures
 
 -- there is room
-abbrev called : tie.After-put-plan-arg3 → tie.Else2
-called c = c.before.before.before
+abbrev called : tie.After-put_plan-arg-1 → tie.Else-plan-numbers
+called c = c.before
 
-abbrev start : tie.Else2 → tie.Start
-start c = c.before.before.before.before.before.before.before.before
+abbrev start : tie.Else-plan-numbers → tie.Start
+start c = c.before.before.before.before.before.before
 
-room : (c : tie.Else2) → 2 * (start c).args.targets ≤ length (start c).args.plan.now
-room c = omega (arith, c.if2.false)
+room : (c : tie.Else-plan-numbers) → 2 * (start c).args.targets ≤ length (start c).args.plan.now
+room c = omega (arith, c.if-plan-numbers.false)
 
-put_plan_requires : tie.Need-put-plan-requires
+put_plan_requires : tie.Need-put_plan-requires
 put_plan_requires c κs =
     let k = called c in
     let s = start k in
-    (s.pre.0, length-take-le (2 * s.args.targets) s.args.plan.now (room k) ∙ ap (λ (n : ℕ). 2 * n) s.pre.1.1)
+    (s.requires.0, length-take-le (2 * s.args.targets) s.args.plan.now (room k) ∙ ap (λ (n : ℕ). 2 * n) s.requires.1.1)
 
-returns_3 : tie.Need-returns-3
+returns_3 : tie.Need-returns
 returns_3 c =
-    let call = c.before.before in
-    let k = called call.before in
+    let call = c in
+    let k = called call.before.before.before in
     let s = start k in
-    filled s.args.plan.now s.args.first.now s.args.second.now s.pre.1.0 (none k.before) (ap (λ (n : ℕ). 2 * n) s.pre.1.1) (room k)
-    (ap (λ (l : List ℕ). l ++ drop (2 * s.args.targets) s.args.plan.now) call.put-plan.ensures)
+    filled s.args.plan.now s.args.first.now s.args.second.now s.requires.1.0 (none k.before) (ap (λ (n : ℕ). 2 * n) s.requires.1.1) (room k)
+    (ap (λ (l : List ℕ). l ++ drop (2 * s.args.targets) s.args.plan.now) call.put_plan.ensures)
 
 pub write_cells_spec : {M : Type 1} → statement M
 write_cells_spec =

@@ -8,36 +8,36 @@ use Rattle.plans.proofs.Plans.{carried_step, carried_end, none_outside}
 use Rattle.plans_copies.proofs.run_copies.Statement.{statement}
 use Rattle.plans_copies.proofs.run_copies.Tie as tie
 
-abbrev invariant_loop : tie.invariant_loop
+abbrev invariant_loop : tie.invariant-loop-copy
 invariant_loop plan table₀ copies copy₀ table copy =
     (copy ≤ length plan / 2) × (length table ≡ length table₀) × (carried (drop (2 * copy) plan) table ≡ carried plan table₀)
 
-abbrev decreases_loop : tie.decreases_loop
+abbrev decreases_loop : tie.decreases-loop-copy
 decreases_loop plan table₀ copies copy₀ table copy = length plan / 2 - copy
 
 -- both numbers of this copy are cells of the table
-cell : (c : tie.In-loop invariant_loop decreases_loop) (i : ℕ) → i < length c.before.before.args.plan.now
-    → get_or c.before.before.args.plan.now i 0 < length c.before.loop.table
+cell : (c : tie.In-loop-copy invariant_loop decreases_loop) (i : ℕ) → i < length c.args.plan.now
+    → get_or c.args.plan.now i 0 < length c.loop-copy.table
 cell c i h =
-    let a = c.before.before.args in
-    omega (arith, (none_outside (length a.table.now) 0 a.plan.now c.before.before.requires).cell i h)
+    let a = c.args in
+    omega (arith, (none_outside (length a.table.now) 0 a.plan.now c.requires).cell i h)
 
-from_cell : (c : tie.In-loop invariant_loop decreases_loop) → get_or c.before.before.args.plan.now (2 * c.before.loop.copy) 0 < length c.before.loop.table
-from_cell c = cell c (2 * c.before.loop.copy) (omega arith)
+from_cell : (c : tie.In-loop-copy invariant_loop decreases_loop) → get_or c.args.plan.now (2 * c.loop-copy.copy) 0 < length c.loop-copy.table
+from_cell c = cell c (2 * c.loop-copy.copy) (omega arith)
 
-to_cell : (c : tie.In-loop invariant_loop decreases_loop) → get_or c.before.before.args.plan.now (2 * c.before.loop.copy + 1) 0 < length c.before.loop.table
-to_cell c = cell c (2 * c.before.loop.copy + 1) (omega arith)
+to_cell : (c : tie.In-loop-copy invariant_loop decreases_loop) → get_or c.args.plan.now (2 * c.loop-copy.copy + 1) 0 < length c.loop-copy.table
+to_cell c = cell c (2 * c.loop-copy.copy + 1) (omega arith)
 
-loop_again : tie.Need-loop-preserved invariant_loop decreases_loop
+loop_again : tie.Need-loop-copy-preserved invariant_loop decreases_loop
 loop_again c =
-    let head = c.before.before.before.before.loop in
-    let a = c.before.before.before.before.before.args in
+    let head = c.loop-copy in
+    let a = c.args in
     (omega arith, simp length-set head.invariant.1, carried_step a.plan.now head.table head.copy (omega arith) ∙ head.invariant.2)
 
 returns : tie.Need-returns invariant_loop decreases_loop
 returns c =
-    let head = c.before.loop in
-    let a = c.before.before.args in
+    let head = c.loop-copy in
+    let a = c.args in
     sym (carried_end a.plan.now head.table head.copy (omega arith)) ∙ head.invariant.2
 
 pub run_copies_spec : {M : Type 1} → statement M

@@ -7,5 +7,5 @@ pub checked_numbers_spec : {M : Type 1} → statement M
 checked_numbers_spec =
     tie.close
     (tie.spec (λ c. search rules) (λ c κs. search rules) (λ c. search rules) (λ c κs. search rules)
-    (λ c. rw c.before.enum_told.given.1 c.answer.ensures)
-    (λ c. rw c.before.before.checked.given.1 c.refusal-numbers.ensures))
+    (λ c. rw c.in-Accepted.is c.answer.ensures)
+    (λ c. rw c.in-Refused.is c.refusal_numbers.ensures))

@@ -7,5 +7,5 @@ pub planning_numbers_spec : {M : Type 1} → statement M
 planning_numbers_spec =
     tie.close
     (tie.spec (λ c. search rules) (λ c κs. search rules) (λ c. search rules) (λ c κs. search rules)
-    (λ c. rw c.before.before.planning.given.1 c.answer.ensures)
-    (λ c. rw c.before.before.planning2.given.1 c.refusal-numbers.ensures))
+    (λ c. rw c.in-Written.is c.answer.ensures)
+    (λ c. rw c.in-Refused.is c.refusal_numbers.ensures))

@@ -4,18 +4,18 @@ use borrow.Author.Rules.{rules}
 use Rattle.plans_pair.proofs.judge_both.Statement.{statement}
 use Rattle.plans_pair.proofs.judge_both.Tie as tie
 
-returns : tie.Need-returns
+returns : tie.Need-returns-in-Approved
 returns c =
-    let call = c.before.before in
-    let told = call.before.before.before in
-    let s = told.before.before.before.before.before.before.before.before in
-    both_judged s.args.two s.args.second.now told.before.before.before.before.judge.ensures told.verdict.given.1 call.judge-other.ensures
+    let call = c in
+    let told = call in
+    let s = told in
+    both_judged s.args.two s.args.second.now told.judge-verdict.ensures told.in-Approved.is call.judge_other.ensures
 
-returns_2 : tie.Need-returns-2
+returns_2 : tie.Need-returns-in-Refused
 returns_2 c =
-    let told = c.before in
-    let s = told.before.before.before.before.before.before.before.before in
-    first_refused s.args.two s.args.second.now told.before.before.before.before.judge.ensures told.verdict2.given.1
+    let told = c in
+    let s = told in
+    first_refused s.args.two s.args.second.now told.judge-verdict.ensures told.in-Refused.is
 
 pub judge_both_spec : {M : Type 1} → statement M
 judge_both_spec =

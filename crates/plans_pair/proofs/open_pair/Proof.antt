@@ -19,44 +19,44 @@ use Rattle.plans_pair.proofs.open_pair.Tie as tie
 eight : (s : tie.Start) → length s.args.one.lengths ≡ 8
 eight s = search rules
 
-abbrev start : tie.Else1 → tie.Start
+abbrev start : tie.Else-not-same_lengths-space_fits → tie.Start
 start c = c.before.before.before.before.before.before.before
 
 -- one space
-space : (c : tie.Else1) → one_space (start c).args.one.lengths (start c).args.two.lengths ≡ true
+space : (c : tie.Else-not-same_lengths-space_fits) → one_space (start c).args.one.lengths (start c).args.two.lengths ≡ true
 space c =
-    sym (ap₂ (λ (a b : Bool). a && b) c.before.before.same-lengths.ensures c.before.space-fits.ensures) ∙ not-false _ c.if1.false
+    sym (ap₂ (λ (a b : Bool). a && b) c.same_lengths.ensures c.space_fits.ensures) ∙ c.if-not-same_lengths-space_fits.false
 
 -- the cells
-cells_are : (c : tie.After-product) → c.product.result ≡ cells (start c.before).args.one
+cells_are : (c : tie.After-product-cells) → c.product-cells.result ≡ cells (start c.before).args.one
 cells_are c =
     let s = start c.before in
-    cells_whole s.args.one.lengths c.product.result (eight s)
+    cells_whole s.args.one.lengths c.product-cells.result (eight s)
     ((and-eq-true_iff (same s.args.one.lengths s.args.two.lengths) (space_fits s.args.one.lengths)).0 (space c.before)).1
-    c.product.ensures
+    c.product-cells.ensures
 
-returns : tie.Need-returns
+returns : tie.Need-returns-then-not-same_lengths-space_fits
 returns c =
-    let s = c.before.before.before.before.before.before.before in
+    let s = c in
     no_space s.args.one s.args.two s.args.first.now s.args.second.now
-    (sym (ap₂ (λ (a b : Bool). a && b) c.before.before.same-lengths.ensures c.before.space-fits.ensures) ∙ not-true _ c.if1.true)
+    (sym (ap₂ (λ (a b : Bool). a && b) c.same_lengths.ensures c.space_fits.ensures) ∙ c.if-not-same_lengths-space_fits.true)
 
-returns_2 : tie.Need-returns-2
+returns_2 : tie.Need-returns-then-is_one_short
 returns_2 c =
-    let p = c.before.before in
-    let s = start p.before in
-    no_room s.args.one s.args.two s.args.first.now s.args.second.now (space p.before) (cells_are p)
-    (sym c.before.is-one-short.ensures ∙ c.if2.true)
+    let p = c in
+    let s = start p.before.before.before in
+    no_room s.args.one s.args.two s.args.first.now s.args.second.now (space p.before.before.before) (cells_are p.before.before)
+    (sym c.is_one_short.ensures ∙ c.if-is_one_short.true)
 
-settle_both_requires : tie.Need-settle-both-requires
+settle_both_requires : tie.Need-settle_both-requires
 settle_both_requires c κs =
-    let k = c.before.before in
-    let p = k.before.before in
-    let s = start p.before in
+    let k = c in
+    let p = k in
+    let s = start p.before.before.before.before.before in
     let enough =
-    neither (ltb (length s.args.first.now) p.product.result) (ltb (length s.args.second.now) p.product.result)
-    (sym k.before.is-one-short.ensures ∙ k.if2.false) in
-    (space p.before, (cells_are p, ltb-false _ _ enough.0, ltb-false _ _ enough.1))
+    neither (ltb (length s.args.first.now) p.product-cells.result) (ltb (length s.args.second.now) p.product-cells.result)
+    (sym k.is_one_short.ensures ∙ k.if-is_one_short.false) in
+    (space p.before.before.before.before.before, (cells_are p.before.before.before.before, ltb-false _ _ enough.0, ltb-false _ _ enough.1))
 
 pub open_pair_spec : {M : Type 1} → statement M
 open_pair_spec =

@@ -15,22 +15,22 @@ long s = omega (arith, s.requires.1)
 long_other : (s : tie.Start) → cells s.args.one ≤ length s.args.second.now
 long_other s = omega (arith, s.requires.1)
 
-returns : tie.Need-returns
+returns : tie.Need-returns-in-Matching
 returns c =
-    let told = c.before in
-    let call = told.before.before.before.before.before.before in
-    let s = call.before.before.before.before.before in
-    opens_matching s.args.one s.args.two s.args.first.now s.args.second.now s.requires.0 (long s) (long_other s) call.judge-both.ensures
-    told.pairing.given.1
+    let told = c in
+    let call = told in
+    let s = call in
+    opens_matching s.args.one s.args.two s.args.first.now s.args.second.now s.requires.0 (long s.before.before.before.before.before.before.before.before.before.before) (long_other s.before.before.before.before.before.before.before.before.before.before) call.judge_both-pairing.ensures
+    told.in-Matching.is
 
-returns_2 : tie.Need-returns-2
+returns_2 : tie.Need-returns-in-Refused
 returns_2 c =
-    let emptied = c.before.before.before.before in
-    let told = emptied.before.before.before.before in
-    let call = told.before.before.before.before.before.before in
-    let s = call.before.before.before.before.before in
-    opens_refused s.args.one s.args.two s.args.first.now s.args.second.now s.requires.0 (long s) (long_other s) call.judge-both.ensures
-    told.pairing2.given.1 s.requires.1.0 emptied.empty-both.ensures.0 emptied.empty-both.ensures.1
+    let emptied = c in
+    let told = emptied in
+    let call = told in
+    let s = call in
+    opens_refused s.args.one s.args.two s.args.first.now s.args.second.now s.requires.0 (long s.before.before.before.before.before.before.before.before.before.before.before.before.before.before.before.before.before) (long_other s.before.before.before.before.before.before.before.before.before.before.before.before.before.before.before.before.before) call.judge_both-pairing.ensures
+    told.in-Refused.is s.requires.1.0 emptied.empty_both.ensures.0 emptied.empty_both.ensures.1
 
 pub settle_both_spec : {M : Type 1} → statement M
 settle_both_spec =

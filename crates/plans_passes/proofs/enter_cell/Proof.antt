@@ -5,9 +5,9 @@ use borrow.Author.Rules.{rules}
 use Rattle.plans_passes.proofs.enter_cell.Statement.{statement}
 use Rattle.plans_passes.proofs.enter_cell.Tie as tie
 
-returns : tie.Need-returns
+returns : tie.Need-returns-then-owner-ne0
 returns c =
-    let a = c.before.args in
+    let a = c.args in
     entered_some a.owner a.cell a.plan.now (omega arith)
 
 pub enter_cell_spec : {M : Type 1} → statement M

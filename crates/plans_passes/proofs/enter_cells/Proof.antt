@@ -10,40 +10,40 @@ use borrow.Author.Rules.{rules}
 use Rattle.plans_passes.proofs.enter_cells.Statement.{statement}
 use Rattle.plans_passes.proofs.enter_cells.Tie as tie
 
-abbrev invariant_loop : tie.invariant_loop
+abbrev invariant_loop : tie.invariant-loop-cell
 invariant_loop first plan₀ cell₀ plan cell = (cell ≤ length first) × (length plan ≡ length plan₀) × (plan ≡ entered_from (drop cell first) cell plan₀)
 
-abbrev decreases_loop : tie.decreases_loop
+abbrev decreases_loop : tie.decreases-loop-cell
 decreases_loop first plan₀ cell₀ plan cell = cell
 
-loop_holds : tie.Need-loop-init invariant_loop decreases_loop
+loop_holds : tie.Need-loop-cell-init invariant_loop decreases_loop
 loop_holds c =
-    let a = c.before.before.args in
+    let a = c.args in
     (omega arith, refl, sym (entered_end a.first.now (length a.first.now) a.plan.now (omega arith)))
 
-enter_cell_requires : tie.Need-enter-cell-requires invariant_loop decreases_loop
+enter_cell_requires : tie.Need-enter_cell-requires invariant_loop decreases_loop
 enter_cell_requires c κs =
-    let head = c.before.before.before.loop in
-    let s = c.before.before.before.before.before.before in
+    let head = c.loop-cell in
+    let s = c in
     omega (arith, s.requires (head.cell - 1), head.invariant.1)
 
-loop_again : tie.Need-loop-preserved invariant_loop decreases_loop
+loop_again : tie.Need-loop-cell-preserved invariant_loop decreases_loop
 loop_again c =
-    let call = c.before.before in
-    let head = call.before.before.before.before.loop in
-    let a = call.before.before.before.before.before.before.before.args in
+    let call = c in
+    let head = call.loop-cell in
+    let a = call.args in
     let cell : ℕ = head.cell in (
       omega arith,
-      call.enter-cell.auto.0 ∙ head.invariant.1,
-      call.enter-cell.ensures
+      call.enter_cell.auto.plan ∙ head.invariant.1,
+      call.enter_cell.ensures
           ∙ ap (λ (p : List ℕ). entered (get_or a.first.now (cell - 1) 0) (cell - 1) p) head.invariant.2
           ∙ entered_down a.first.now cell a.plan.now (omega arith) (omega arith),
     )
 
 returns : tie.Need-returns invariant_loop decreases_loop
 returns c =
-    let head = c.before.loop in
-    let a = c.before.before.before.before.args in
+    let head = c.loop-cell in
+    let a = c.args in
     let none : head.cell ≡ 0 = omega arith in
     rw none at head.invariant.2
 

@@ -16,22 +16,22 @@ fits_first s = first_fits s.requires.0.elements s.args.first.now s.args.second.n
 fits_second : (s : tie.Start) → Fits s.args.second.now s.args.plan.now
 fits_second s = second_fits s.requires.0.elements s.args.first.now s.args.second.now s.args.plan.now s.requires.0.one s.requires.0.two s.requires.1
 
-put_sources_requires : tie.Need-put-sources-requires
+put_sources_requires : tie.Need-put_sources-requires
 put_sources_requires c κs =
-    let call = c.before.before.before in
-    let s = call.before.before.before.before.before in
-    (λ d. omega (arith, fits_second s d, call.enter-cells.auto.1.0), omega (arith, s.requires.1, call.enter-cells.auto.1.0))
+    let call = c in
+    let s = call in
+    (λ d. omega (arith, fits_second s.before.before.before.before.before.before.before.before d, call.enter_cells.auto.plan), omega (arith, s.requires.1, call.enter_cells.auto.plan))
 
 returns : tie.Need-returns
 returns c =
-    let third = c.before.before in
-    let next = third.before.before.before.before in
-    let call = next.before.before.before.before in
-    let s = call.before.before.before.before.before in
+    let third = c in
+    let next = third in
+    let call = next in
+    let s = call in
     let a = s.args in
-    third.put-targets.ensures
-    ∙ ap (λ (p : List ℕ). aimed_from a.second.now 0 0 p) next.put-sources.ensures
-    ∙ ap (λ (p : List ℕ). aimed_from a.second.now 0 0 (sourced_from a.second.now 0 p)) call.enter-cells.ensures
+    third.put_targets.ensures
+    ∙ ap (λ (p : List ℕ). aimed_from a.second.now 0 0 p) next.put_sources.ensures
+    ∙ ap (λ (p : List ℕ). aimed_from a.second.now 0 0 (sourced_from a.second.now 0 p)) call.enter_cells.ensures
     ∙ written_is_plan s.requires.0.elements a.first.now a.second.now a.plan.now s.requires.0.one s.requires.0.two s.requires.1
 
 pub put_plan_spec : {M : Type 1} → statement M

@@ -10,41 +10,41 @@ use Rattle.plans.proofs.Passes.{sourced_step, sourced_end, occupied_step}
 use Rattle.plans_passes.proofs.put_sources.Statement.{statement}
 use Rattle.plans_passes.proofs.put_sources.Tie as tie
 
-abbrev invariant_loop : tie.invariant_loop
+abbrev invariant_loop : tie.invariant-loop-cell
 invariant_loop second plan₀ copy₀ cell₀ plan copy cell =
     (cell ≤ length second)
     × (length plan ≡ length plan₀)
     × (copy + occupied (drop cell second) ≡ occupied second)
     × (sourced_from (drop cell second) copy plan ≡ sourced_from second 0 plan₀)
 
-abbrev decreases_loop : tie.decreases_loop
+abbrev decreases_loop : tie.decreases-loop-cell
 decreases_loop second plan₀ copy₀ cell₀ plan copy cell = length second - cell
 
-put_source_requires : tie.Need-put-source-requires invariant_loop decreases_loop
+put_source_requires : tie.Need-put_source-copy-requires invariant_loop decreases_loop
 put_source_requires c κs =
-    let head = c.before.before.before.loop in
-    let s = c.before.before.before.before.before.before in
+    let head = c.loop-cell in
+    let s = c in
     let step = occupied_step s.args.second.now head.cell (omega arith) in
     (omega (arith, s.requires.0 head.cell, head.invariant.1), omega (arith, s.requires.1, head.invariant.1, head.invariant.2, step))
 
-loop_again : tie.Need-loop-preserved invariant_loop decreases_loop
+loop_again : tie.Need-loop-cell-preserved invariant_loop decreases_loop
 loop_again c =
-    let call = c.before.before in
-    let head = call.before.before.before.before.loop in
-    let a = call.before.before.before.before.before.before.before.args in
+    let call = c in
+    let head = call.loop-cell in
+    let a = call.args in
     let owner : ℕ = get_or a.second.now head.cell 0 in
     let step = occupied_step a.second.now head.cell (omega arith) in (
       omega arith,
-      call.put-source.auto.0 ∙ head.invariant.1,
-      omega (arith, call.put-source.ensures.1, head.invariant.2, step),
-      rw (call.put-source.ensures.0, call.put-source.ensures.1)
+      call.put_source-copy.auto.plan ∙ head.invariant.1,
+      omega (arith, call.put_source-copy.ensures.1, head.invariant.2, step),
+      rw (call.put_source-copy.ensures.0, call.put_source-copy.ensures.1)
           (sourced_step a.second.now head.cell head.copy head.plan (omega arith) ∙ head.invariant.3),
     )
 
 returns : tie.Need-returns invariant_loop decreases_loop
 returns c =
-    let head = c.before.loop in
-    let a = c.before.before.before.before.args in
+    let head = c.loop-cell in
+    let a = c.args in
     sym (sourced_end a.second.now head.cell head.copy head.plan (omega arith)) ∙ head.invariant.3
 
 pub put_sources_spec : {M : Type 1} → statement M

@@ -9,18 +9,18 @@ use borrow.Author.Rules.{rules}
 use Rattle.plans_passes.proofs.put_target.Statement.{statement}
 use Rattle.plans_passes.proofs.put_target.Tie as tie
 
-returns : tie.Need-returns
+returns : tie.Need-returns-then-owner-eq0
 returns c =
-    let a = c.before.args in
+    let a = c.args in
     let none : a.owner ≡ 0 = omega arith in
     (rw none refl, rw none (omega arith))
 
-slice_write_plan : tie.Need-slice-write-plan
-slice_write_plan c = omega (arith, c.before.requires, taken_some c.before.args.owner (omega arith))
+slice_write_plan : tie.Need-bounds-plan-copy
+slice_write_plan c = omega (arith, c.requires, taken_some c.args.owner (omega arith))
 
-returns_2 : tie.Need-returns-2
+returns_2 : tie.Need-returns
 returns_2 c =
-    let a = c.before.args in
+    let a = c.args in
     (aimed_some a.owner a.copy a.cell a.plan.now (omega arith), omega (arith, taken_some a.owner (omega arith)))
 
 pub put_target_spec : {M : Type 1} → statement M

@@ -10,7 +10,7 @@ returns c =
     let first-mark = second-mark.before in
     let call = first-mark.before.before.before in
     other_judged call.judge.ensures first-mark.is-marked.result second-mark.is-marked2.result first-mark.is-marked.ensures
-    second-mark.is-marked2.ensures c.pair-up.ensures
+    second-mark.is-marked2.ensures c.pair_up.ensures
 
 pub judge_other_spec : {M : Type 1} → statement M
 judge_other_spec =

@@ -11,13 +11,13 @@ use Rattle.plans_tables.proofs.empty_cells.Tie as tie
 
 returns : tie.Need-returns
 returns c =
-    let call = c.before.before in
-    let s = call.before.before.before in
+    let call = c in
+    let s = call in
     ap (λ (l : List ℕ). l ++ drop s.args.cells s.args.table.now)
     (call.clear.ensures ∙ ap (λ (n : ℕ). replicate {A = ℕ} n 0) (length-take-le s.args.cells s.args.table.now s.requires))
 
 pub empty_cells_spec : {M : Type 1} → statement M
 empty_cells_spec =
     tie.close
-    (tie.spec (λ c. search rules) (λ c. let s = c.before.before in sym (length-take-le s.args.cells s.args.table.now s.requires))
+    (tie.spec (λ c. search rules) (λ c. let s = c in sym (length-take-le s.args.cells s.args.table.now s.requires))
     (λ c κs. search rules) (λ c. search rules) returns)

@@ -11,52 +11,52 @@ use Rattle.reading.proofs.Laws.{open_wrong, shard_wrong, shard_right, shard_layo
 use Rattle.reading.proofs.read.Statement.{statement}
 use Rattle.reading.proofs.read.Tie as tie
 
-returns : tie.Need-returns
+returns : tie.Need-returns-then-not-open
 returns c =
-    let w = c.before.before.before in
-    rw c.refuse.ensures ((read_exactly _ _).1 (open_wrong w.before.before.args.text.now w.word.result w.word.ensures (not-true _ c.before.if1.true)))
+    let w = c in
+    rw c.refuse.ensures ((read_exactly _ _).1 (open_wrong w.args.text.now w.word-open.result w.word-open.ensures (c.if-not-open.true)))
 
-returns_2 : tie.Need-returns-2
+returns_2 : tie.Need-returns-then-not-part
 returns_2 c =
-    let k = c.before.before.before.before.before in
-    let w = k.before.before.before in
-    rw c.refuse2.ensures ((read_exactly _ _).1 (shard_wrong w.before.before.args.text.now w.word.result k.read-list.result w.word.ensures (not-false _ k.before.if1.false) k.read-list.ensures (not-true _ c.before.if2.true)))
+    let k = c in
+    let w = k in
+    rw c.refuse-then-not-part.ensures ((read_exactly _ _).1 (shard_wrong w.args.text.now w.word-open.result k.read_list-part.result w.word-open.ensures (k.if-not-open.false) k.read_list-part.ensures (c.if-not-part.true)))
 
 -- where the shard ends
-shard : (c : tie.After-shard-alone)
-    → let k = c.before.before.before.before.before in
-    let t = k.before.before.before.before.before.args.text.now in
-    Standing t k.read-list.result.next Closed (spot_in Shard k.read-list.result.iters.count k.read-list.result.iters.count) (shard_layout k.read-list.result.iters k.read-list.result.marks)
+shard : (c : tie.After-shard_alone-layout)
+    → let k = c in
+    let t = k.args.text.now in
+    Standing t k.read_list-part.result.next Closed (spot_in Shard k.read_list-part.result.iters.count k.read_list-part.result.iters.count) (shard_layout k.read_list-part.result.iters k.read_list-part.result.marks)
 shard c =
-    let k = c.before.before.before.before.before in
-    let w = k.before.before.before in
-    shard_right w.before.before.args.text.now w.word.result k.read-list.result w.word.ensures (not-false _ k.before.if1.false) k.read-list.ensures (not-false _ c.before.if2.false)
+    let k = c in
+    let w = k in
+    shard_right w.args.text.now w.word-open.result k.read_list-part.result w.word-open.ensures (k.if-not-open.false) k.read_list-part.ensures (c.if-not-part.false)
 
-returns_3 : tie.Need-returns-3
+returns_3 : tie.Need-returns-then-text-from
 returns_3 c =
-    let s = c.before.before in
-    let k = s.before.before.before.before.before in
-    let t = k.before.before.before.before.before.args.text.now in
-    let n = k.read-list.result.iters.count in
-    rw (c.done.ensures, s.shard-alone.ensures) ((read_exactly _ _).1 (shard_stops t k.read-list.result.next (spot_in Shard n n) (shard_layout k.read-list.result.iters k.read-list.result.marks) (omega arith) (shard s)))
+    let s = c in
+    let k = s in
+    let t = k.args.text.now in
+    let n = k.read_list-part.result.iters.count in
+    rw (c.done.ensures, s.shard_alone-layout.ensures) ((read_exactly _ _).1 (shard_stops t k.read_list-part.result.next (spot_in Shard n n) (shard_layout k.read_list-part.result.iters k.read_list-part.result.marks) (omega arith) (shard s.before.before)))
 
-returns_4 : tie.Need-returns-4
+returns_4 : tie.Need-returns-then-text-from-ne43
 returns_4 c =
-    let s = c.before.before.before.before in
-    let k = s.before.before.before.before.before in
-    let t = k.before.before.before.before.before.args.text.now in
-    let n = k.read-list.result.iters.count in
-    rw c.refuse3.ensures ((read_exactly _ _).1 (closed_wrong t k.read-list.result.next (spot_in Shard n n) (shard_layout k.read-list.result.iters k.read-list.result.marks) (omega arith) c.before.if4.true (shard s)))
+    let s = c in
+    let k = s in
+    let t = k.args.text.now in
+    let n = k.read_list-part.result.iters.count in
+    rw c.refuse-then-text-from-ne43.ensures ((read_exactly _ _).1 (closed_wrong t k.read_list-part.result.next (spot_in Shard n n) (shard_layout k.read_list-part.result.iters k.read_list-part.result.marks) (omega arith) c.if-text-from-ne43.true (shard s.before.before.before.before)))
 
-returns_5 : tie.Need-returns-5
+returns_5 : tie.Need-returns
 returns_5 c =
-    let s = c.before.before.before.before in
-    let k = s.before.before.before.before.before in
-    let t = k.before.before.before.before.before.args.text.now in
-    let n = k.read-list.result.iters.count in
+    let s = c in
+    let k = s in
+    let t = k.args.text.now in
+    let n = k.read_list-part.result.iters.count in
     (read_exactly t c.after_plus.result).1
-    ((rw s.shard-alone.ensures at c.after_plus.ensures) (refl, refl) (spot_in Shard n n)
-    (closed_plus t k.read-list.result.next (spot_in Shard n n) (shard_layout k.read-list.result.iters k.read-list.result.marks) (omega arith) c.before.if4.false (shard s)))
+    ((rw s.shard_alone-layout.ensures at c.after_plus.ensures) (refl, refl) (spot_in Shard n n)
+    (closed_plus t k.read_list-part.result.next (spot_in Shard n n) (shard_layout k.read_list-part.result.iters k.read_list-part.result.marks) (omega arith) c.if-text-from-ne43.false (shard s.before.before.before.before)))
 
 pub read_spec : {M : Type 1} → statement M
 read_spec =

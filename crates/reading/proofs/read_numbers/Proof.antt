@@ -3,11 +3,11 @@ use borrow.Author.Rules.{rules}
 use Rattle.reading.proofs.read_numbers.Statement.{statement}
 use Rattle.reading.proofs.read_numbers.Tie as tie
 
-returns : tie.Need-returns
-returns c = rw c.before.enum_told.given.1 c.answer.ensures
+returns : tie.Need-returns-in-Done
+returns c = rw c.in-Done.is c.answer.ensures
 
-returns_2 : tie.Need-returns-2
-returns_2 c = rw c.before.before.read.given.1 c.refusal-numbers.ensures
+returns_2 : tie.Need-returns-in-Refused
+returns_2 c = rw c.in-Refused.is c.refusal_numbers.ensures
 
 pub read_numbers_spec : {M : Type 1} → statement M
 read_numbers_spec = tie.close (tie.spec (λ c. search rules) (λ c κs. search rules) (λ c. search rules) (λ c κs. search rules) returns returns_2)

@@ -6,17 +6,17 @@ use Rattle.reading.proofs.Laws.{several_right, several_wrong}
 use Rattle.reading.proofs.several.Statement.{statement}
 use Rattle.reading.proofs.several.Tie as tie
 
-returns : tie.Need-returns
+returns : tie.Need-returns-then-not-part
 returns c =
-    let k = c.before.before.before.before in
-    let a = k.before.before.args in
-    rw c.refuse.ensures (several_wrong a.text.now a.from a.layout k.read-list.result k.read-list.ensures (not-true _ c.before.if1.true))
+    let k = c in
+    let a = k.args in
+    rw c.refuse.ensures (several_wrong a.text.now a.from a.layout k.read_list-part.result k.read_list-part.ensures (c.if-not-part.true))
 
-returns_2 : tie.Need-returns-2
+returns_2 : tie.Need-returns
 returns_2 c =
-    let k = c.before.before.before.before.before in
-    let a = k.before.before.args in
-    several_right a.text.now a.from a.layout k.read-list.result c.after_replica.result k.read-list.ensures (not-false _ c.before.before.if1.false) (rw c.before.with-replica.ensures at c.after_replica.ensures)
+    let k = c in
+    let a = k.args in
+    several_right a.text.now a.from a.layout k.read_list-part.result c.after_replica.result k.read_list-part.ensures (c.if-not-part.false) (rw c.with_replica.ensures at c.after_replica.ensures)
 
 pub several_spec : {M : Type 1} → statement M
 several_spec = tie.close (tie.spec (λ c κs. (omega arith, omega arith)) (λ c κs. search rules) returns (λ c κs. search rules) (λ c κs. search rules) returns_2)

@@ -6,17 +6,17 @@ use Rattle.reading.proofs.Laws.{single_right, single_wrong}
 use Rattle.reading.proofs.single.Statement.{statement}
 use Rattle.reading.proofs.single.Tie as tie
 
-returns : tie.Need-returns
+returns : tie.Need-returns-then-not-part
 returns c =
-    let k = c.before.before.before in
-    let a = k.before.before.args in
-    rw c.refuse.ensures (single_wrong a.text.now a.from a.layout k.read-single.result k.read-single.ensures (not-true _ c.before.if1.true))
+    let k = c in
+    let a = k.args in
+    rw c.refuse.ensures (single_wrong a.text.now a.from a.layout k.read_single-part.result k.read_single-part.ensures (c.if-not-part.true))
 
-returns_2 : tie.Need-returns-2
+returns_2 : tie.Need-returns
 returns_2 c =
-    let k = c.before.before.before.before.before in
-    let a = k.before.before.args in
-    single_right a.text.now a.from a.layout k.read-single.result c.after_replica.result k.read-single.ensures (not-false _ c.before.before.before.if1.false) (rw c.before.with-replica.ensures at c.after_replica.ensures)
+    let k = c in
+    let a = k.args in
+    single_right a.text.now a.from a.layout k.read_single-part.result c.after_replica.result k.read_single-part.ensures (c.if-not-part.false) (rw c.with_replica.ensures at c.after_replica.ensures)
 
 pub single_spec : {M : Type 1} → statement M
 single_spec = tie.close (tie.spec (λ c κs. search rules) (λ c κs. search rules) returns (λ c. omega arith) (λ c κs. search rules) (λ c κs. search rules) returns_2)

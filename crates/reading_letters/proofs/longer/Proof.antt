@@ -8,14 +8,14 @@ use lib.Dec.{leb, ltb}
 use Rattle.reading_letters.proofs.longer.Statement.{statement}
 use Rattle.reading_letters.proofs.longer.Tie as tie
 
-mul_result : tie.Need-overflow-mul-result
+mul_result : tie.Need-overflow_mul-result
 mul_result c =
     let v = c.args.value in
     let d = c.args.d in
     let both = (and-eq-true_iff (ltb d 10) (leb 1 v && ltb v 10000)).0 c.requires in
     omega (arith, ltb-true v 10000 ((and-eq-true_iff (leb 1 v) (ltb v 10000)).0 both.1).1, ltb-true d 10 both.0)
 
-add_result : tie.Need-overflow-add-result
+add_result : tie.Need-overflow_add-result
 add_result c =
     let v = c.args.value in
     let d = c.args.d in

@@ -10,96 +10,96 @@ use Rattle.reading_lists.proofs.Laws.{steps_more, steps_none, steps_bad, steps_g
 use Rattle.reading_lists.proofs.read_steps.Statement.{statement}
 use Rattle.reading_lists.proofs.read_steps.Tie as tie
 
-abbrev invariant_loop : tie.invariant_loop
+abbrev invariant_loop : tie.invariant-loop-at
 invariant_loop text from count shard at₀ marks₀ i₀ k₀ at marks i k = (k < count) × (count ≤ 8) × PaceRun text from at₀ count shard i k at marks
 
-abbrev decreases_loop : tie.decreases_loop
+abbrev decreases_loop : tie.decreases-loop-at
 decreases_loop text from count shard at₀ marks₀ i₀ k₀ at marks i k = count - k
 
-loop_holds : tie.Need-loop-init invariant_loop decreases_loop
-loop_holds c = (omega (arith, c.before.requires.0), c.before.requires.1, λ part l g e h. h)
+loop_holds : tie.Need-loop-at-init invariant_loop decreases_loop
+loop_holds c = (omega (arith, c.requires.0), c.requires.1, λ part l g e h. h)
 
-returns : tie.Need-returns invariant_loop decreases_loop
+returns : tie.Need-returns-then-not-one invariant_loop decreases_loop
 returns c =
-    let n = c.before.before.before in
-    let l = n.before in
-    let a = l.before.before.args in
+    let n = c in
+    let l = n in
+    let a = l.args in
     rw c.no_steps.ensures
-    (steps_none a.text.now a.from a.iters a.count a.shard l.loop.i l.loop.k l.loop.at l.loop.marks n.Read-step.result l.loop.invariant.2 n.Read-step.ensures _ _ (not-true _ c.before.if1.true))
+    (steps_none a.text.now a.from a.iters a.count a.shard l.loop-at.i l.loop-at.k l.loop-at.at l.loop-at.marks n.read_step-one.result l.loop-at.invariant.2 n.read_step-one.ensures _ _ (c.if-not-one.true))
 
-with_step_requires : tie.Need-with-step-requires invariant_loop decreases_loop
-with_step_requires c κs = let n = c.before.before.before.before in n.Read-step.ensures.small (not-false _ c.before.before.if1.false)
+with_step_requires : tie.Need-with_step-requires invariant_loop decreases_loop
+with_step_requires c κs = let n = c in n.read_step-one.ensures.small (c.if-not-one.false)
 
-add_word : tie.Need-overflow-add-word invariant_loop decreases_loop
+add_word : tie.Need-overflow_add-next invariant_loop decreases_loop
 add_word c =
-    let d = c.before.before in
-    let n = d.before.before.before.before.before.before.before.before in
-    let l = n.before in
-    let a = l.before.before.args in
-    omega (arith, within_yes a.text.now n.Read-step.result.next (eqb (get_or a.text.now n.Read-step.result.next 0) 41) (eqb (l.loop.k + 1) a.count) (rw c.before.stands2.ensures at c.if3.true))
+    let d = c in
+    let n = d in
+    let l = n in
+    let a = l.args in
+    omega (arith, within_yes a.text.now n.read_step-one.result.next (eqb (get_or a.text.now n.read_step-one.result.next 0) 41) (eqb (l.loop-at.k + 1) a.count) (rw c.stands-then-not-stands-k.ensures at c.if-stands-k.true))
 
-word_requires : tie.Need-word-requires invariant_loop decreases_loop
+word_requires : tie.Need-word-shut-requires invariant_loop decreases_loop
 word_requires c κs =
-    let d = c.before.before in
-    let n = d.before.before.before.before.before.before.before.before in
-    let l = n.before in
-    let a = l.before.before.args in
-    omega (arith, within_yes a.text.now n.Read-step.result.next (eqb (get_or a.text.now n.Read-step.result.next 0) 41) (eqb (l.loop.k + 1) a.count) (rw c.before.stands2.ensures at c.if3.true))
+    let d = c in
+    let n = d in
+    let l = n in
+    let a = l.args in
+    omega (arith, within_yes a.text.now n.read_step-one.result.next (eqb (get_or a.text.now n.read_step-one.result.next 0) 41) (eqb (l.loop-at.k + 1) a.count) (rw c.stands-then-not-stands-k.ensures at c.if-stands-k.true))
 
-returns_2 : tie.Need-returns-2 invariant_loop decreases_loop
+returns_2 : tie.Need-returns-then-stands-k invariant_loop decreases_loop
 returns_2 c =
-    let d = c.before.before.before in
-    let m = d.before.before in
-    let n = m.before.before.before.before.before.before in
-    let l = n.before in
-    let a = l.before.before.args in
-    rw (m.is-marked.ensures, m.before.with-step.ensures)
-    (steps_good a.text.now a.from a.iters a.count a.shard l.loop.i l.loop.k l.loop.at l.loop.marks n.Read-step.result l.loop.invariant.2 n.Read-step.ensures c.word.result
-    (not-false _ m.before.before.before.before.if1.false) (not-true _ (rw d.before.stands.ensures at d.if2.true)) (rw c.before.before.stands2.ensures at c.before.if3.true) c.word.ensures)
+    let d = c in
+    let m = d in
+    let n = m in
+    let l = n in
+    let a = l.args in
+    rw (m.is_marked.ensures, m.with_step.ensures)
+    (steps_good a.text.now a.from a.iters a.count a.shard l.loop-at.i l.loop-at.k l.loop-at.at l.loop-at.marks n.read_step-one.result l.loop-at.invariant.2 n.read_step-one.ensures c.word-shut.result
+    (m.if-not-one.false) (not-true _ (rw d.stands.ensures at d.if-not-stands-k.true)) (rw c.stands-then-not-stands-k.ensures at c.if-stands-k.true) c.word-shut.ensures)
 
-returns_3 : tie.Need-returns-3 invariant_loop decreases_loop
+returns_3 : tie.Need-returns-then-not-stands-k invariant_loop decreases_loop
 returns_3 c =
-    let d = c.before.before.before in
-    let m = d.before.before in
-    let n = m.before.before.before.before.before.before in
-    let l = n.before in
-    let a = l.before.before.args in
-    rw c.no-steps2.ensures
-    (steps_bad a.text.now a.from a.iters a.count a.shard l.loop.i l.loop.k l.loop.at l.loop.marks n.Read-step.result l.loop.invariant.2 n.Read-step.ensures _ _
-    (not-false _ m.before.before.before.before.if1.false) (not-true _ (rw d.before.stands.ensures at d.if2.true)) (rw c.before.before.stands2.ensures at c.before.if3.false))
+    let d = c in
+    let m = d in
+    let n = m in
+    let l = n in
+    let a = l.args in
+    rw c.no_steps-then-not-stands-k.ensures
+    (steps_bad a.text.now a.from a.iters a.count a.shard l.loop-at.i l.loop-at.k l.loop-at.at l.loop-at.marks n.read_step-one.result l.loop-at.invariant.2 n.read_step-one.ensures _ _
+    (m.if-not-one.false) (not-true _ (rw d.stands.ensures at d.if-not-stands-k.true)) (rw c.stands-then-not-stands-k.ensures at c.if-stands-k.false))
 
-add_i : tie.Need-overflow-add-i invariant_loop decreases_loop
+add_i : tie.Need-overflow_add-i invariant_loop decreases_loop
 add_i c =
-    let m = c.before.before in
-    let n = m.before.before.before.before.before.before in
-    let l = n.before in
-    let a = l.before.before.args in
-    omega (arith, within_yes a.text.now n.Read-step.result.next (eqb (get_or a.text.now n.Read-step.result.next 0) 44) (ltb (l.loop.k + 1) a.count) (not-false _ (rw c.before.stands.ensures at c.if2.false)))
+    let m = c in
+    let n = m in
+    let l = n in
+    let a = l.args in
+    omega (arith, within_yes a.text.now n.read_step-one.result.next (eqb (get_or a.text.now n.read_step-one.result.next 0) 44) (ltb (l.loop-at.k + 1) a.count) (not-false _ (rw c.stands.ensures at c.if-not-stands-k.false)))
 
-loop_again : tie.Need-loop-preserved invariant_loop decreases_loop
+loop_again : tie.Need-loop-at-preserved invariant_loop decreases_loop
 loop_again c =
-    let m = c.before.before in
-    let n = m.before.before.before.before.before.before in
-    let l = n.before in
-    let a = l.before.before.args in
-    let comma = not-false _ (rw c.before.stands.ensures at c.if2.false) in
-    rw (m.is-marked.ensures, m.before.with-step.ensures) (
-      second_less a.text.now n.Read-step.result.next 44 (l.loop.k + 1) a.count comma,
-      l.loop.invariant.1,
-      steps_more a.text.now a.from a.iters a.count a.shard l.loop.i l.loop.k l.loop.at l.loop.marks n.Read-step.result l.loop.invariant.2 n.Read-step.ensures (not-false _ m.before.before.before.before.if1.false) comma,
+    let m = c in
+    let n = m in
+    let l = n in
+    let a = l.args in
+    let comma = not-false _ (rw c.stands.ensures at c.if-not-stands-k.false) in
+    rw (m.is_marked.ensures, m.with_step.ensures) (
+      second_less a.text.now n.read_step-one.result.next 44 (l.loop-at.k + 1) a.count comma,
+      l.loop-at.invariant.1,
+      steps_more a.text.now a.from a.iters a.count a.shard l.loop-at.i l.loop-at.k l.loop-at.at l.loop-at.marks n.read_step-one.result l.loop-at.invariant.2 n.read_step-one.ensures (m.if-not-one.false) comma,
     )
 
 pub read_steps_spec : {M : Type 1} → statement M
 read_steps_spec =
     tie.close
     (tie.spec invariant_loop decreases_loop loop_holds (λ c κs. search rules) (λ c κs. search rules) returns
-    (λ c. let i = c.before.before.before.before.loop.invariant in omega (arith, i.0, i.1))
-    (λ c. let i = c.before.before.before.before.loop.invariant in omega (arith, i.0, i.1))
+    (λ c. let i = c.loop-at.invariant in omega (arith, i.0, i.1))
+    (λ c. let i = c.loop-at.invariant in omega (arith, i.0, i.1))
     with_step_requires
-    (λ c. let i = c.before.before.before.before.before.before.loop.invariant in omega (arith, i.0, i.1))
-    (λ c. let i = c.before.before.before.before.before.before.loop.invariant in omega (arith, i.0, i.1))
+    (λ c. let i = c.loop-at.invariant in omega (arith, i.0, i.1))
+    (λ c. let i = c.loop-at.invariant in omega (arith, i.0, i.1))
     (λ c κs. search rules)
-    (λ c. let i = c.before.before.before.before.before.before.before.loop.invariant in omega (arith, i.0, i.1))
-    (λ c. let i = c.before.before.before.before.before.before.before.loop.invariant in omega (arith, i.0, i.1))
+    (λ c. let i = c.loop-at.invariant in omega (arith, i.0, i.1))
+    (λ c. let i = c.loop-at.invariant in omega (arith, i.0, i.1))
     (λ c κs. search rules) (λ c κs. search rules) add_word word_requires
     returns_2 (λ c κs. search rules) returns_3 add_i (λ c. omega arith) loop_again)

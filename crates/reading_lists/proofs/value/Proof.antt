@@ -15,16 +15,16 @@ use Rattle.reading_lists.proofs.value.Tie as tie
 read : (n : ℕ) → n < 100000 → pos 0 -ℤ to_z w64 n ≡ neg_ℤ (pos n)
 read n h = ap (λ (z : ℤ). pos 0 -ℤ z) (to_z_pos w64 {n = n} (omega arith)) ∙ less n
 
-sub_result : tie.Need-overflow-sub-result
-sub_result c = rw (read c.before.args.size c.before.requires) (fits true c.before.args.size c.before.requires)
+sub_result : tie.Need-overflow_sub-result
+sub_result c = rw (read c.args.size c.requires) (fits true c.args.size c.requires)
 
-returns : tie.Need-returns
+returns : tie.Need-returns-then-negative
 returns c =
-    let n = c.before.args.size in
-    ap (λ (z : ℤ). to_z w64 (of_z w64 z)) (read n c.before.requires) ∙ to_z-of_z (fits true n c.before.requires) ∙ rw c.if1.true
+    let n = c.args.size in
+    ap (λ (z : ℤ). to_z w64 (of_z w64 z)) (read n c.requires) ∙ to_z-of_z (fits true n c.requires) ∙ rw c.if-negative.true
 
-returns_2 : tie.Need-returns-2
-returns_2 c = rw c.if1.false (to_z_pos w64 {n = c.before.args.size} (omega (arith, c.before.requires)))
+returns_2 : tie.Need-returns
+returns_2 c = rw c.if-negative.false (to_z_pos w64 {n = c.args.size} (omega (arith, c.requires)))
 
 pub value_spec : {M : Type 1} → statement M
 value_spec = tie.close (tie.spec (λ c. search rules) sub_result returns (λ c. search rules) returns_2)

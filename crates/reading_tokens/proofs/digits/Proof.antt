@@ -11,38 +11,38 @@ use Rattle.reading_tokens.proofs.Laws.{digits_more, still_small}
 use Rattle.reading_tokens.proofs.digits.Statement.{statement}
 use Rattle.reading_tokens.proofs.digits.Tie as tie
 
-abbrev invariant_loop : tie.invariant_loop
+abbrev invariant_loop : tie.invariant-loop-i
 invariant_loop text from first i₀ value₀ i value = (i ≤ length text) × DigitRun text from first i value × (first < 100000 → value < 100000)
 
-abbrev decreases_loop : tie.decreases_loop
+abbrev decreases_loop : tie.decreases-loop-i
 decreases_loop text from first i₀ value₀ i value = length text - i
 
-loop_holds : tie.Need-loop-init invariant_loop decreases_loop
-loop_holds c = (c.before.requires, (λ q p s l n h. h), λ h. h)
+loop_holds : tie.Need-loop-i-init invariant_loop decreases_loop
+loop_holds c = (c.requires, (λ q p s l n h. h), λ h. h)
 
-returns : tie.Need-returns invariant_loop decreases_loop
+returns : tie.Need-returns-then-not-goes_on invariant_loop decreases_loop
 returns c =
-    let d = c.before.before.before in
-    let l = d.before.before.before in
+    let d = c in
+    let l = d in
     rw c.right.ensures
-    record { fit = refl; runs_to = l.loop.invariant.1; stops = λ _. rw d.digit.ensures at (sym c.before.before.goes_on.ensures ∙ not-true _ c.before.if1.true); small = l.loop.invariant.2 }
+    record { fit = refl; runs_to = l.loop-i.invariant.1; stops = λ _. rw d.digit-d.ensures at (sym c.goes_on.ensures ∙ c.if-not-goes_on.true); small = l.loop-i.invariant.2 }
 
-longer_requires : tie.Need-longer-requires invariant_loop decreases_loop
-longer_requires c κs = sym c.before.goes_on.ensures ∙ not-false _ c.if1.false
+longer_requires : tie.Need-longer-value-requires invariant_loop decreases_loop
+longer_requires c κs = sym c.goes_on.ensures ∙ c.if-not-goes_on.false
 
-loop_again : tie.Need-loop-preserved invariant_loop decreases_loop
+loop_again : tie.Need-loop-i-preserved invariant_loop decreases_loop
 loop_again c =
-    let d = c.before.before.before in
-    let l = d.before.before.before in
-    let t = l.before.before.args.text.now in
-    let on = rw d.digit.ensures at (sym c.before.before.goes_on.ensures ∙ not-false _ c.before.if1.false) in
-    rw (c.longer.ensures, d.digit.ensures)
-    (omega arith, digits_more t l.before.before.args.from l.before.before.args.first l.loop.i l.loop.value l.loop.invariant.1 (omega arith) on, λ _. still_small l.loop.value (digit_of (get_or t l.loop.i 0)) on)
+    let d = c in
+    let l = d in
+    let t = l.args.text.now in
+    let on = rw d.digit-d.ensures at (sym c.goes_on.ensures ∙ c.if-not-goes_on.false) in
+    rw (c.longer-value.ensures, d.digit-d.ensures)
+    (omega arith, digits_more t l.args.from l.args.first l.loop-i.i l.loop-i.value l.loop-i.invariant.1 (omega arith) on, λ _. still_small l.loop-i.value (digit_of (get_or t l.loop-i.i 0)) on)
 
-returns_2 : tie.Need-returns-2 invariant_loop decreases_loop
+returns_2 : tie.Need-returns invariant_loop decreases_loop
 returns_2 c =
-    let l = c.before.before in
-    rw c.right2.ensures record { fit = refl; runs_to = l.loop.invariant.1; stops = λ h. absurd (omega (arith, h)); small = l.loop.invariant.2 }
+    let l = c in
+    rw c.right-2.ensures record { fit = refl; runs_to = l.loop-i.invariant.1; stops = λ h. absurd (omega (arith, h)); small = l.loop-i.invariant.2 }
 
 pub digits_spec : {M : Type 1} → statement M
 digits_spec =

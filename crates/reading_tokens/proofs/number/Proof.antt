@@ -5,22 +5,22 @@ use Rattle.reading_tokens.proofs.Laws.{number_good, number_bad}
 use Rattle.reading_tokens.proofs.number.Statement.{statement}
 use Rattle.reading_tokens.proofs.number.Tie as tie
 
-returns : tie.Need-returns
+returns : tie.Need-returns-then-text-from
 returns c =
-    let a = c.before.before.before.args in
+    let a = c.args in
     rw c.wrong.ensures (number_bad a.text.now a.from a.least (λ h. absurd (omega (arith, h))))
 
-returns_2 : tie.Need-returns-2
+returns_2 : tie.Need-returns-then-least-d
 returns_2 c =
-    let d = c.before.before in
-    let a = d.before.before.before.before.args in
-    number_good a.text.now a.from a.least _ (omega arith) (rw d.digit.ensures at c.before.if2.true) (rw d.digit.ensures at c.digits.ensures)
+    let d = c in
+    let a = d.args in
+    number_good a.text.now a.from a.least _ (omega arith) (rw d.digit-d.ensures at c.if-least-d.true) (rw d.digit-d.ensures at c.digits.ensures)
 
-returns_3 : tie.Need-returns-3
+returns_3 : tie.Need-returns
 returns_3 c =
-    let d = c.before.before in
-    let a = d.before.before.before.before.args in
-    rw c.wrong2.ensures (number_bad a.text.now a.from a.least (λ _. rw d.digit.ensures at c.before.if2.false))
+    let d = c in
+    let a = d.args in
+    rw c.wrong-2.ensures (number_bad a.text.now a.from a.least (λ _. rw d.digit-d.ensures at c.if-least-d.false))
 
 pub number_spec : {M : Type 1} → statement M
 number_spec =

@@ -6,21 +6,21 @@ use Rattle.reading_tokens.proofs.Laws.{stands_yes, stands_no, size_plain, size_m
 use Rattle.reading_tokens.proofs.size.Statement.{statement}
 use Rattle.reading_tokens.proofs.size.Tie as tie
 
-add_number : tie.Need-overflow-add-number
+add_number : tie.Need-overflow_add-from
 add_number c =
-    let a = c.before.before.before.args in
-    omega (arith, (stands_yes a.text.now a.from 45 (sym c.before.stands.ensures ∙ c.if1.true)).0)
+    let a = c.args in
+    omega (arith, (stands_yes a.text.now a.from 45 (sym c.stands.ensures ∙ c.if-stands.true)).0)
 
-returns : tie.Need-returns
+returns : tie.Need-returns-then-stands
 returns c =
-    let a = c.before.before.before.before.args in
-    let y = stands_yes a.text.now a.from 45 (sym c.before.before.stands.ensures ∙ c.before.if1.true) in
-    size_minus a.text.now a.from c.number.result y.0 y.1 c.number.ensures
+    let a = c.args in
+    let y = stands_yes a.text.now a.from 45 (sym c.stands.ensures ∙ c.if-stands.true) in
+    size_minus a.text.now a.from c.number-below.result y.0 y.1 c.number-below.ensures
 
-returns_2 : tie.Need-returns-2
+returns_2 : tie.Need-returns
 returns_2 c =
-    let a = c.before.before.before.before.args in
-    size_plain a.text.now a.from c.number2.result (stands_no a.text.now a.from 45 (sym c.before.before.stands.ensures ∙ c.before.if1.false)) c.number2.ensures
+    let a = c.args in
+    size_plain a.text.now a.from c.number-n.result (stands_no a.text.now a.from 45 (sym c.stands.ensures ∙ c.if-stands.false)) c.number-n.ensures
 
 pub size_spec : {M : Type 1} → statement M
 size_spec = tie.close (tie.spec (λ c κs. search rules) add_number (λ c κs. search rules) returns (λ c κs. search rules) returns_2)

@@ -10,28 +10,28 @@ use Rattle.notation.specs.declared.Phase.TheVariants.{Tee}
 use Rattle.reading_tokens.proofs.tee.Statement.{statement}
 use Rattle.reading_tokens.proofs.tee.Tie as tie
 
-returns : tie.Need-returns
+returns : tie.Need-returns-then-text-from
 returns c =
-    let a = c.before.before.before.args in
+    let a = c.args in
     rw c.wrong.ensures (axis_bad Tee a.text.now a.from a.least (λ p s. refl) (λ h. absurd (omega (arith, h))))
 
-returns_2 : tie.Need-returns-2
+returns_2 : tie.Need-returns-then-b-eq67
 returns_2 c =
-    let a = c.before.before.before.before.before.args in
-    axis_good Tee a.text.now a.from a.least 20 6 c.word.result (omega arith) (omega arith) c.before.before.before.before.before.requires (λ p s _. tee_c p s (get_or a.text.now a.from 0) c.before.if2.true) c.word.ensures
+    let a = c.args in
+    axis_good Tee a.text.now a.from a.least 20 6 c.word.result (omega arith) (omega arith) c.requires (λ p s _. tee_c p s (get_or a.text.now a.from 0) c.if-b-eq67.true) c.word.ensures
 
-returns_3 : tie.Need-returns-3
+returns_3 : tie.Need-returns-then-b-least
 returns_3 c =
-    let a = c.before.before.before.before.before.before.args in
-    axis_good Tee a.text.now a.from a.least 16 5 c.word2.result (omega arith) (omega arith) (leb-true a.least 5 (second_yes (eqb (get_or a.text.now a.from 0) 76) (leb a.least 5) c.before.if3.true))
-    (λ p s e. tee_l p s (get_or a.text.now a.from 0) a.least c.before.before.if2.false c.before.if3.true e) c.word2.ensures
+    let a = c.args in
+    axis_good Tee a.text.now a.from a.least 16 5 c.word-then-b-least.result (omega arith) (omega arith) (leb-true a.least 5 (second_yes (eqb (get_or a.text.now a.from 0) 76) (leb a.least 5) c.if-b-least.true))
+    (λ p s e. tee_l p s (get_or a.text.now a.from 0) a.least c.if-b-eq67.false c.if-b-least.true e) c.word-then-b-least.ensures
 
-returns_4 : tie.Need-returns-4
+returns_4 : tie.Need-returns
 returns_4 c =
-    let a = c.before.before.before.before.before.before.args in
-    rw c.wrong2.ensures
+    let a = c.args in
+    rw c.wrong-2.ensures
     (axis_bad Tee a.text.now a.from a.least (λ p s. refl)
-    (λ _ p s e. tee_stuck p s (get_or a.text.now a.from 0) a.least c.before.before.if2.false c.before.if3.false e))
+    (λ _ p s e. tee_stuck p s (get_or a.text.now a.from 0) a.least c.if-b-eq67.false c.if-b-least.false e))
 
 pub tee_spec : {M : Type 1} → statement M
 tee_spec =

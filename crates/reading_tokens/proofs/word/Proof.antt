@@ -8,50 +8,50 @@ use Rattle.reading_tokens.proofs.Laws.{word_more, word_good, word_bad}
 use Rattle.reading_tokens.proofs.word.Statement.{statement}
 use Rattle.reading_tokens.proofs.word.Tie as tie
 
-abbrev invariant_loop : tie.invariant_loop
+abbrev invariant_loop : tie.invariant-loop-i
 invariant_loop text from owed value i₀ o₀ i o = (i ≤ length text) × WordRun text from owed i o
 
-abbrev decreases_loop : tie.decreases_loop
+abbrev decreases_loop : tie.decreases-loop-i
 decreases_loop text from owed value i₀ o₀ i o = length text - i
 
-loop_holds : tie.Need-loop-init invariant_loop decreases_loop
-loop_holds c = (c.before.requires, λ q p s l h. h)
+loop_holds : tie.Need-loop-i-init invariant_loop decreases_loop
+loop_holds c = (c.requires, λ q p s l h. h)
 
-returns : tie.Need-returns invariant_loop decreases_loop
+returns : tie.Need-returns-then-wanted-eq0 invariant_loop decreases_loop
 returns c =
-    let w = c.before.before in
-    let l = w.before.before in
-    let a = l.before.before.args in
-    rw c.right.ensures (word_good a.text.now a.from a.owed a.value l.loop.i l.loop.o l.loop.invariant.1 (rw w.expected.ensures at c.before.if1.true))
+    let w = c in
+    let l = w in
+    let a = l.args in
+    rw c.right.ensures (word_good a.text.now a.from a.owed a.value l.loop-i.i l.loop-i.o l.loop-i.invariant.1 (rw w.expected-wanted.ensures at c.if-wanted-eq0.true))
 
-returns_2 : tie.Need-returns-2 invariant_loop decreases_loop
+returns_2 : tie.Need-returns-then-text-i invariant_loop decreases_loop
 returns_2 c =
-    let w = c.before.before.before.before in
-    let l = w.before.before in
-    let a = l.before.before.args in
+    let w = c in
+    let l = w in
+    let a = l.args in
     rw c.wrong.ensures
-    (word_bad a.text.now a.from a.owed a.value l.loop.i l.loop.o l.loop.invariant.1 (rw w.expected.ensures at c.before.before.before.if1.false) (λ _. rw w.expected.ensures at c.before.if2.true))
+    (word_bad a.text.now a.from a.owed a.value l.loop-i.i l.loop-i.o l.loop-i.invariant.1 (rw w.expected-wanted.ensures at c.if-wanted-eq0.false) (λ _. rw w.expected-wanted.ensures at c.if-text-i.true))
 
-loop_again : tie.Need-loop-preserved invariant_loop decreases_loop
+loop_again : tie.Need-loop-i-preserved invariant_loop decreases_loop
 loop_again c =
-    let w = c.before.before.before in
-    let l = w.before.before in
-    let a = l.before.before.args in
-    (omega arith, word_more a.text.now a.from a.owed l.loop.i l.loop.o l.loop.invariant.1 (omega arith) (rw w.expected.ensures at c.before.before.if1.false) (rw w.expected.ensures at c.if2.false))
+    let w = c in
+    let l = w in
+    let a = l.args in
+    (omega arith, word_more a.text.now a.from a.owed l.loop-i.i l.loop-i.o l.loop-i.invariant.1 (omega arith) (rw w.expected-wanted.ensures at c.if-wanted-eq0.false) (rw w.expected-wanted.ensures at c.if-text-i.false))
 
-returns_3 : tie.Need-returns-3 invariant_loop decreases_loop
+returns_3 : tie.Need-returns-then-expected-eq0 invariant_loop decreases_loop
 returns_3 c =
-    let w = c.before.before in
-    let l = w.before.before in
-    let a = l.before.before.args in
-    rw c.right2.ensures (word_good a.text.now a.from a.owed a.value l.loop.i l.loop.o l.loop.invariant.1 (rw w.expected2.ensures at c.before.if3.true))
+    let w = c in
+    let l = w in
+    let a = l.args in
+    rw c.right-then-expected-eq0.ensures (word_good a.text.now a.from a.owed a.value l.loop-i.i l.loop-i.o l.loop-i.invariant.1 (rw w.expected.ensures at c.if-expected-eq0.true))
 
-returns_4 : tie.Need-returns-4 invariant_loop decreases_loop
+returns_4 : tie.Need-returns invariant_loop decreases_loop
 returns_4 c =
-    let w = c.before.before in
-    let l = w.before.before in
-    let a = l.before.before.args in
-    rw c.wrong2.ensures (word_bad a.text.now a.from a.owed a.value l.loop.i l.loop.o l.loop.invariant.1 (rw w.expected2.ensures at c.before.if3.false) (λ h. absurd (omega (arith, h))))
+    let w = c in
+    let l = w in
+    let a = l.args in
+    rw c.wrong-2.ensures (word_bad a.text.now a.from a.owed a.value l.loop-i.i l.loop-i.o l.loop-i.invariant.1 (rw w.expected.ensures at c.if-expected-eq0.false) (λ h. absurd (omega (arith, h))))
 
 pub word_spec : {M : Type 1} → statement M
 word_spec =

@@ -4,11 +4,11 @@ use borrow.Author.Rules.{rules}
 use Rattle.storing.proofs.answer_numbers.Statement.{statement}
 use Rattle.storing.proofs.answer_numbers.Tie as tie
 
-returns : tie.Need-returns
-returns c = rw c.before.enum_told.given.1 c.answer.ensures
+returns : tie.Need-returns-in-Done
+returns c = rw c.in-Done.is c.answer.ensures
 
-returns_2 : tie.Need-returns-2
-returns_2 c = rw c.before.before.answer2.given.1 c.refusal-numbers.ensures
+returns_2 : tie.Need-returns-in-Refused
+returns_2 c = rw c.in-Refused.is c.refusal_numbers.ensures
 
 pub answer_numbers_spec : {M : Type 1} → statement M
 answer_numbers_spec = tie.close (tie.spec (λ c. search rules) (λ c κs. search rules) (λ c. search rules) (λ c κs. search rules) returns returns_2)

@@ -13,25 +13,25 @@ use borrow.Author.Rules.{rules}
 use Rattle.storing.proofs.read_note.Statement.{statement}
 use Rattle.storing.proofs.read_note.Tie as tie
 
-done : (c : tie.After-enum-told) → read_answer c.before.before.before.before.args.block.now ≡ Done
-done c = ap (λ (p : Page). p.answer) (sym c.before.before.read-block.ensures) ∙ c.enum_told.given.1
+done : (c : tie.In-Done) → read_answer c.args.block.now ≡ Done
+done c = ap (λ (p : Page). p.answer) (sym c.read_block-page.ensures) ∙ c.in-Done.is
 
-was : (c : tie.After-enum-told) → Passed c.before.before.before.before.args.block.now
-was c = passed c.before.before.before.before.args.block.now (done c)
+was : (c : tie.In-Done) → Passed c.args.block.now
+was c = passed c.args.block.now (done c)
 
-part_result_end : tie.Need-slice-bounds-result-end
+part_result_end : tie.Need-slice_bounds-result-end
 part_result_end c = let p = was c.before in omega (arith, p.room, p.noted, c.noted_in.ensures.0)
 
-returns : tie.Need-returns
+returns : tie.Need-returns-in-Done
 returns c =
-    let n = c.before in
-    let e = n.before in
-    rw (done e, add-sub_cancel_left 216 n.noted_in.result, n.noted_in.ensures.0) (refl, (refl, omega arith))
+    let n = c in
+    let e = n in
+    rw (done e.before.before, add-sub_cancel_left 216 n.noted_in.result, n.noted_in.ensures.0) (refl, (refl, omega arith))
 
-returns_2 : tie.Need-returns-2
+returns_2 : tie.Need-returns-in-Refused
 returns_2 c =
-    let e = c.before in
-    rw (ap (λ (p : Page). p.answer) (sym e.before.before.read-block.ensures) ∙ e.enum-told2.given.1) (refl, (refl, omega arith))
+    let e = c in
+    rw (ap (λ (p : Page). p.answer) (sym e.read_block-page.ensures) ∙ e.in-Refused.is) (refl, (refl, omega arith))
 
 pub read_note_spec : {M : Type 1} → statement M
 read_note_spec = tie.close (tie.spec (λ c κs. search rules) (λ c. search rules) (λ c κs. (was c).room) (λ c. search rules) (λ c. search rules) (λ c. search rules) part_result_end (λ c. search rules) (λ c. search rules) (λ c. search rules) (λ c. search rules) returns returns_2)

@@ -14,47 +14,47 @@ use borrow.Author.Rules.{rules}
 use Rattle.storing.proofs.write_block.Statement.{statement}
 use Rattle.storing.proofs.write_block.Tie as tie
 
-admitted : (c : tie.After-enum-told) → admission c.before.before.before.before.before.args.card ≡ Admitted
-admitted c = sym c.before.before.admit.ensures ∙ c.enum_told.given.1
+admitted : (c : tie.In_default) → admission c.args.card ≡ Admitted
+admitted c = sym c.admit.ensures ∙ c.in_default.is
 
-returns : tie.Need-returns
+returns : tie.Need-returns-in-Refused
 returns c =
-    let r = c.before in
-    (rw (sym r.before.before.admit.ensures ∙ r.refusal.given.1), refl)
+    let r = c in
+    (rw (sym r.admit.ensures ∙ r.in-Refused.is), refl)
 
-returns_2 : tie.Need-returns-2
+returns_2 : tie.Need-returns-then-note-gt-MOST_NOTE
 returns_2 c =
-    let e = c.before in
-    let s = e.before.before.before.before.before in
-    (rw (admitted e, lt-ltb most_note (length s.args.note.now) c.if1.true), refl)
+    let e = c in
+    let s = e in
+    (rw (admitted e.before, lt-ltb most_note (length s.args.note.now) c.if-note-gt-MOST_NOTE.true), refl)
 
-returns_3 : tie.Need-returns-3
+returns_3 : tie.Need-returns-then-memory-lt-BLOCK
 returns_3 c =
-    let n = c.before in
-    let e = n.before in
-    let s = e.before.before.before.before.before in
-    (rw (admitted e, le-ltb most_note (length s.args.note.now) n.if1.false, lt-ltb (length s.args.memory.now) block_length c.if2.true), refl)
+    let n = c in
+    let e = n in
+    let s = e in
+    (rw (admitted e.before.before, le-ltb most_note (length s.args.note.now) n.if-note-gt-MOST_NOTE.false, lt-ltb (length s.args.memory.now) block_length c.if-memory-lt-BLOCK.true), refl)
 
 fill_requires : tie.Need-fill-requires
 fill_requires c κs =
-    let m = c.before in
-    let s = m.before.before.before.before.before.before.before in
-    (length-take-le 512 s.args.memory.now m.if2.false, m.before.if1.false)
+    let m = c in
+    let s = m in
+    (length-take-le 512 s.args.memory.now m.if-memory-lt-BLOCK.false, m.if-note-gt-MOST_NOTE.false)
 
-slice_aggregate_fill : tie.Need-slice-aggregate-fill
+slice_aggregate_fill : tie.Need-slice_bounds-fill-end-2
 slice_aggregate_fill c =
-    let m = c.before in
-    let s = m.before.before.before.before.before.before.before in
-    sym (length-take-le 512 s.args.memory.now m.if2.false)
+    let m = c in
+    let s = m in
+    sym (length-take-le 512 s.args.memory.now m.if-memory-lt-BLOCK.false)
 
-returns_4 : tie.Need-returns-4
+returns_4 : tie.Need-returns
 returns_4 c =
-    let f = c.before.before in
-    let m = f.before.before in
-    let n = m.before in
-    let e = n.before in
-    let s = e.before.before.before.before.before in (
-      rw (admitted e, le-ltb most_note (length s.args.note.now) n.if1.false, le-ltb (length s.args.memory.now) block_length m.if2.false),
+    let f = c in
+    let m = f in
+    let n = m in
+    let e = n in
+    let s = e in (
+      rw (admitted e.before.before.before.before.before.before, le-ltb most_note (length s.args.note.now) n.if-note-gt-MOST_NOTE.false, le-ltb (length s.args.memory.now) block_length m.if-memory-lt-BLOCK.false),
       ap (λ (x : List ℕ). x ++ drop 512 s.args.memory.now) f.fill.ensures,
     )
 

@@ -11,28 +11,28 @@ use Rattle.stretch.proofs.stretch.Statement.{statement}
 use Rattle.stretch.proofs.stretch.Tie as tie
 
 -- the answer, and that the stretch lies within the table
-found : (c : tie.After-known-told) →
-    let s = c.before.before.before.before.before in
-    let v = c.before.located.given.0 in
+found : (c : tie.In-Stretch) →
+    let s = c in
+    let v = c.located-1.given.0 in
     stretch_answer s.args.lengths s.args.axis s.args.coordinates (length s.args.table.now) ≡ Stretch v.0 v.1.0
-found c = sym c.before.before.before.locate-stretch.ensures ∙ c.before.located.given.1
+found c = sym c.locate_stretch-located.ensures ∙ c.in-Stretch.is
 
-within : (c : tie.After-known-told) →
-    let s = c.before.before.before.before.before in
-    let v = c.before.located.given.0 in
+within : (c : tie.In-Stretch) →
+    let s = c in
+    let v = c.located-1.given.0 in
     StretchWithin s.args.lengths (length s.args.table.now) v.0.0 v.1.0
 within c =
-    let s = c.before.before.before.before.before in
-    let v = c.before.located.given.0 in
+    let s = c in
+    let v = c.located-1.given.0 in
     answer_within s.args.lengths s.args.axis s.args.coordinates (length s.args.table.now) v.0 v.1.0 (found c)
 
-returns : tie.Need-returns
+returns : tie.Need-returns-in-Stretch
 returns c =
-    let v = c.before.before.located.given.0 in
+    let v = c.located-1.given.0 in
     rw (found c.before, add-sub_cancel_left v.0.0 v.1.0) (refl, (refl, omega arith))
 
-returns_2 : tie.Need-returns-2
-returns_2 c = rw (sym c.before.before.before.locate-stretch.ensures ∙ c.before.enum_told.given.1) (refl, (refl, omega arith))
+returns_2 : tie.Need-returns-in-Refused
+returns_2 c = rw (sym c.locate_stretch-located.ensures ∙ c.in-Refused.is) (refl, (refl, omega arith))
 
 pub stretch_spec : {M : Type 1} → statement M
 stretch_spec =

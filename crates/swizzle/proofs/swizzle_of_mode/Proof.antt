@@ -6,14 +6,14 @@ use Rattle.swizzle.proofs.Widths.{known_parts}
 use Rattle.swizzle.proofs.swizzle_of_mode.Statement.{statement}
 use Rattle.swizzle.proofs.swizzle_of_mode.Tie as tie
 
-is_known : (c : tie.Then1) → known c.before.before.args.bits c.before.before.args.mode ≡ true
-is_known c = sym c.before.is_known.ensures ∙ c.if1.true
+is_known : (c : tie.Then-is_known) → known c.args.bits c.args.mode ≡ true
+is_known c = sym c.is_known.ensures ∙ c.if-is_known.true
 
-chosen : tie.Need-returns
-chosen c = rw (is_known c.before, c.kept-bits.ensures)
+chosen : tie.Need-returns-then-is_known
+chosen c = rw (is_known c.before, c.kept_bits.ensures)
 
 pub swizzle_of_mode_spec : {M : Type 1} → statement M
 swizzle_of_mode_spec =
     tie.close
-    (tie.spec (λ c κs. tt) (λ c κs. (known_parts c.before.before.args.bits c.before.before.args.mode (is_known c)).0)
-    chosen (λ c. rw (sym c.before.is_known.ensures ∙ c.if1.false)))
+    (tie.spec (λ c κs. tt) (λ c κs. (known_parts c.args.bits c.args.mode (is_known c)).0)
+    chosen (λ c. rw (sym c.is_known.ensures ∙ c.if-is_known.false)))

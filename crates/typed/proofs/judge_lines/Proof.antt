@@ -7,15 +7,15 @@ use Rattle.typed.proofs.judge_lines.Tie as tie
 
 returns : tie.Need-returns
 returns c =
-    let j = c.before.before in
-    let r = j.before.before in
+    let j = c in
+    let r = j in
     (judge_exactly _ _ _ _ _).1
     (record {
-      line = r.before.read.result;
-      line_read = r.before.read.ensures;
-      reading = r.read2.result;
-      text_read = (read_exactly _ r.read2.result).0 r.read2.ensures;
-      outcome = j.judge-read.ensures;
+      line = r.read-line.result;
+      line_read = r.read-line.ensures;
+      reading = r.read-reading.result;
+      text_read = (read_exactly _ r.read2.result).0 r.read-reading.ensures;
+      outcome = j.judge_read.ensures;
     })
 
 pub judge_lines_spec : {M : Type 1} → statement M

@@ -5,21 +5,21 @@ use borrow.Author.Tests.{not-true, not-false}
 use Rattle.typed.proofs.judge_read.Statement.{statement}
 use Rattle.typed.proofs.judge_read.Tie as tie
 
-returns : tie.Need-returns
-returns c = rw (not-true c.before.before.before.args.line.correct c.if1.true) (refl, refl)
+returns : tie.Need-returns-then-not-line
+returns c = rw (c.if-not-line.true) (refl, refl)
 
-returns_2 : tie.Need-returns-2
+returns_2 : tie.Need-returns-in-Done
 returns_2 c =
-    let j = c.before.before in
-    let m = j.before.before.before.before.before in
-    let e = m.before.before in
-    rw (not-false e.before.before.before.args.line.correct e.if1.false, m.enum_told.given.1) (rw j.before.before.card-for.ensures at j.judge.ensures)
+    let j = c in
+    let m = j in
+    let e = m in
+    rw (e.if-not-line.false, m.in-Done.is) (rw j.card_for.ensures at j.judge.ensures)
 
-returns_3 : tie.Need-returns-3
+returns_3 : tie.Need-returns-in-Refused
 returns_3 c =
-    let m = c.before in
-    let e = m.before.before in
-    rw (not-false e.before.before.before.args.line.correct e.if1.false, m.answer.given.1) (refl, refl)
+    let m = c in
+    let e = m in
+    rw (e.if-not-line.false, m.in-Refused.is) (refl, refl)
 
 pub judge_read_spec : {M : Type 1} → statement M
 judge_read_spec =

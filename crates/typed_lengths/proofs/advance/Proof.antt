@@ -3,11 +3,11 @@ use borrow.Author.Rules.{rules}
 use Rattle.typed_lengths.proofs.advance.Statement.{statement}
 use Rattle.typed_lengths.proofs.advance.Tie as tie
 
-returns : tie.Need-returns
-returns c = rw (c.before2.ensures, c.before.enum_told.given.1)
+returns : tie.Need-returns-in-Before
+returns c = rw (c.before-in-Before.ensures, c.in-Before.is)
 
-returns_2 : tie.Need-returns-2
-returns_2 c = rw (c.inside.ensures, c.before.enum-told2.given.1)
+returns_2 : tie.Need-returns-in-Inside
+returns_2 c = rw (c.inside.ensures, c.in-Inside.is)
 
 pub advance_spec : {M : Type 1} → statement M
 advance_spec =

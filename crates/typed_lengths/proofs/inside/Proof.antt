@@ -11,34 +11,34 @@ use Rattle.typed_lengths.proofs.inside.Tie as tie
 use Rattle.typed_lengths.proofs.inside.Lts as lts
 
 longer_requires : tie.Need-longer-requires
-longer_requires c κs = sym c.before.goes_on.ensures ∙ c.if1.true
+longer_requires c κs = sym c.goes_on.ensures ∙ c.if-goes_on.true
 
-returns : tie.Need-returns
+returns : tie.Need-returns-then-goes_on
 returns c =
-    let d = c.before.before.before.before.before in
-    rw (c.to.ensures, c.before.longer.ensures, d.digit.ensures, rw d.digit.ensures at (sym c.before.before.before.goes_on.ensures ∙ c.before.before.if1.true))
+    let d = c in
+    rw (c.to.ensures, c.longer.ensures, d.digit-d.ensures, rw d.digit-d.ensures at (sym c.goes_on.ensures ∙ c.if-goes_on.true))
 
-few : (c : tie.Then2) → c.before.before.before.before.before.args.r.count < 7
-few c = let s = c.before.before.before.before.before in ltb-true _ 7 (both (eqb s.args.b 32) (ltb s.args.r.count 7) c.if2.true).1
+few : (c : tie.Then-b-count) → c.args.r.count < 7
+few c = let s = c in ltb-true _ 7 (both (eqb s.args.b 32) (ltb s.args.r.count 7) c.if-b-count.true).1
 
-mul_lengths : tie.Need-overflow-mul-lengths
+mul_lengths : tie.Need-offset_bounds-lengths-count
 mul_lengths c = omega (arith, few c)
 
-array_write_lengths : tie.Need-array-write-lengths
+array_write_lengths : tie.Need-bounds-lengths-count
 array_write_lengths c = omega (arith, few c)
 
-add_to : tie.Need-overflow-add-to
+add_to : tie.Need-overflow_add-count
 add_to c = omega (arith, few c)
 
-returns_2 : tie.Need-returns-2
+returns_2 : tie.Need-returns-then-b-count
 returns_2 c =
-    let d = c.before.before.before.before.before in
-    rw (c.to2.ensures, c.before.if2.true, rw d.digit.ensures at (sym c.before.before.before.goes_on.ensures ∙ c.before.before.if1.false))
+    let d = c in
+    rw (c.to-then-b-count.ensures, c.if-b-count.true, rw d.digit-d.ensures at (sym c.goes_on.ensures ∙ c.if-goes_on.false))
 
-returns_3 : tie.Need-returns-3
+returns_3 : tie.Need-returns
 returns_3 c =
-    let d = c.before.before.before.before.before in
-    rw (c.halt.ensures, c.before.if2.false, rw d.digit.ensures at (sym c.before.before.before.goes_on.ensures ∙ c.before.before.if1.false))
+    let d = c in
+    rw (c.halt.ensures, c.if-b-count.false, rw d.digit-d.ensures at (sym c.goes_on.ensures ∙ c.if-goes_on.false))
 
 pub inside_spec : {M : Type 1} → statement M
 inside_spec =

@@ -10,26 +10,26 @@ use Rattle.typed_lengths.proofs.Run.{stands, read_whole}
 use Rattle.typed_lengths.proofs.read.Statement.{statement}
 use Rattle.typed_lengths.proofs.read.Tie as tie
 
-abbrev invariant_loop : tie.invariant_loop
+abbrev invariant_loop : tie.invariant-loop-i
 invariant_loop line r₀ i₀ r i = (i ≤ length line) × (r ≡ runs line_stepped line_start (take i line))
 
-abbrev decreases_loop : tie.decreases_loop
+abbrev decreases_loop : tie.decreases-loop-i
 decreases_loop line r₀ i₀ r i = length line - i
 
-loop_holds : tie.Need-loop-init invariant_loop decreases_loop
-loop_holds c = (omega arith, c.begin.ensures)
+loop_holds : tie.Need-loop-i-init invariant_loop decreases_loop
+loop_holds c = (omega arith, c.begin-r.ensures)
 
-loop_again : tie.Need-loop-preserved invariant_loop decreases_loop
+loop_again : tie.Need-loop-i-preserved invariant_loop decreases_loop
 loop_again c =
-    let l = c.before.before.before in
-    let t = l.before.before.before.args.line.now in
-    (omega arith, c.advance.ensures ∙ stands l.loop.r t l.loop.i (omega arith) l.loop.invariant.1)
+    let l = c in
+    let t = l.args.line.now in
+    (omega arith, c.advance-r.ensures ∙ stands l.loop-i.r t l.loop-i.i (omega arith) l.loop-i.invariant.1)
 
 returns : tie.Need-returns invariant_loop decreases_loop
 returns c =
-    let l = c.before.before in
-    let t = l.before.before.before.args.line.now in
-    rw c.conclude.ensures (read_whole l.loop.r t l.loop.i (omega arith) l.loop.invariant.1)
+    let l = c in
+    let t = l.args.line.now in
+    rw c.conclude.ensures (read_whole l.loop-i.r t l.loop-i.i (omega arith) l.loop-i.invariant.1)
 
 pub read_spec : {M : Type 1} → statement M
 read_spec =

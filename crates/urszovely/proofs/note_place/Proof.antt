@@ -11,16 +11,16 @@ use Rattle.book.proofs.Theorems.{Passed, passed}
 use Rattle.urszovely.proofs.note_place.Statement.{statement}
 use Rattle.urszovely.proofs.note_place.Tie as tie
 
-was : (c : tie.After-enum-told) → Passed c.before.before.before.args.block.now
-was c = let s = c.before.before.before in passed s.args.block.now (sym s.requires ∙ c.enum_told.given.1)
+was : (c : tie.In-Done) → Passed c.args.block.now
+was c = let s = c in passed s.args.block.now (sym s.requires ∙ c.in-Done.is)
 
-returns : tie.Need-returns
+returns : tie.Need-returns-in-Done
 returns c =
-    let e = c.before in
-    let block = e.before.before.before.args.block.now in
+    let e = c in
+    let block = e.args.block.now in
     let long : length (note_in block) ≡ noted_in block =
     length-take-le (noted_in block) (drop 216 block) (omega (arith, length-drop 216 block, (was e).room, (was e).noted)) in
-    rw e.enum_told.given.1 (ap (λ (n : ℕ). 216 ∷ n ∷ []) (c.noted_in.ensures.0 ∙ sym long))
+    rw e.in-Done.is (ap (λ (n : ℕ). 216 ∷ n ∷ []) (c.noted_in.ensures.0 ∙ sym long))
 
 pub note_place_spec : {M : Type 1} → statement M
 note_place_spec = tie.close (tie.spec (λ c. search rules) (λ c κs. (was c).room) (λ c. search rules) returns (λ c. search rules))

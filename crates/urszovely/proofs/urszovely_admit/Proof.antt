@@ -7,11 +7,11 @@ use Rattle.urszovely.proofs.urszovely_admit.Tie as tie
 
 returns : tie.Need-returns
 returns c =
-    let a = c.before.before in
+    let a = c in
     record {
-      admission = a.admit-packed.result;
-      allowed = rw (sym a.before.before.before.pack.ensures.same_card) ((admission_exactly _ _).1 a.admit-packed.ensures);
-      numbers = rw (c.four.ensures, c.before.admission-numbers.ensures);
+      admission = a.admit_packed-admission.result;
+      allowed = rw (sym a.pack.ensures.same_card) ((admission_exactly _ _).1 a.admit_packed-admission.ensures);
+      numbers = rw (c.four.ensures, c.admission_numbers-told.ensures);
     }
 
 pub urszovely_admit_spec : {M : Type 1} → statement M

@@ -9,17 +9,17 @@ use Rattle.urszovely.proofs.urszovely_block.Tie as tie
 
 returns : tie.Need-returns
 returns c =
-    let n = c.before in
-    let w = n.before.before.before in
-    let k = w.before.before in
-    let s = k.before.before.before in
+    let n = c in
+    let w = n in
+    let k = w in
+    let s = k in
     let note = s.args.note.now in
     let bytes = s.args.bytes.now in
     record {
-      written = w.write-block.result;
-      allowed = w.write-block.ensures.0 ∙ ap (λ (card : Card). write_answer card (length note) (length bytes)) k.card.ensures;
-      of_bytes = w.write-block.ensures.1 ∙ ap (λ (card : Card). lent_after w.write-block.result card note bytes) k.card.ensures;
-      numbers = rw (c.four.ensures, n.answer-numbers.ensures);
+      written = w.write_block-written.result;
+      allowed = w.write_block-written.ensures.0 ∙ ap (λ (card : Card). write_answer card (length note) (length bytes)) k.card.ensures;
+      of_bytes = w.write_block-written.ensures.1 ∙ ap (λ (card : Card). lent_after w.write_block-written.result card note bytes) k.card.ensures;
+      numbers = rw (c.four.ensures, n.answer_numbers-numbers.ensures);
     }
 
 pub urszovely_block_spec : {M : Type 1} → statement M

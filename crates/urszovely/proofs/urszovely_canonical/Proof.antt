@@ -6,13 +6,13 @@ use Rattle.urszovely.proofs.urszovely_canonical.Tie as tie
 
 returns : tie.Need-returns
 returns c =
-    let n = c.before in
-    let j = n.before.before.before.before in
+    let n = c in
+    let j = n in
     record {
-      reported = j.judge.result;
-      allowed = j.judge.ensures;
+      reported = j.judge-reported.result;
+      allowed = j.judge-reported.ensures;
       encoded = refl;
-      numbers = rw (c.four.ensures, n.reported-numbers.ensures);
+      numbers = rw (c.four.ensures, n.reported_numbers-numbers.ensures);
     }
 
 pub urszovely_canonical_spec : {M : Type 1} → statement M

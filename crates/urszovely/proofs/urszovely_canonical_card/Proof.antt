@@ -10,11 +10,11 @@ use Rattle.urszovely.proofs.urszovely_canonical_card.Tie as tie
 
 returns : tie.Need-returns
 returns c =
-    let n = c.before in
-    let w = n.before in
-    let b = w.before.before in (
-      w.card-numbers.ensures ∙ ap (λ (r : Built). card_numbers r.card) b.build.ensures,
-      c.four.ensures ∙ ap four (n.admission-numbers.ensures ∙ ap (λ (r : Built). admission_numbers r.answer) b.build.ensures),
+    let n = c in
+    let w = n in
+    let b = w in (
+      w.card_numbers.ensures ∙ ap (λ (r : Built). card_numbers r.card) b.build-built.ensures,
+      c.four.ensures ∙ ap four (n.admission_numbers-numbers.ensures ∙ ap (λ (r : Built). admission_numbers r.answer) b.build-built.ensures),
     )
 
 pub urszovely_canonical_card_spec : {M : Type 1} → statement M

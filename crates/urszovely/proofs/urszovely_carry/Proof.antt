@@ -6,15 +6,15 @@ use Rattle.urszovely.proofs.urszovely_carry.Tie as tie
 
 returns : tie.Need-returns
 returns c =
-    let n = c.before in
-    let q = n.before.before.before.before.before in
-    let two = q.before.before.before in
-    let one = two.before in
-    let plan = one.before.before.before.before.args.plan.now in
+    let n = c in
+    let q = n in
+    let two = q in
+    let one = two in
+    let plan = one.args.plan.now in
     record {
-      checked = q.check-plan.result;
-      allowed = check_between _ _ _ _ plan _ _ _ _ q.check-plan.result one.card.ensures two.card2.ensures q.check-plan.ensures;
-      numbers = rw (c.four.ensures, n.checked-numbers.ensures);
+      checked = q.check_plan-checked.result;
+      allowed = check_between _ _ _ _ plan _ _ _ _ q.check_plan-checked.result one.card-one.ensures two.card-two.ensures q.check_plan-checked.ensures;
+      numbers = rw (c.four.ensures, n.checked_numbers-numbers.ensures);
     }
 
 pub urszovely_carry_spec : {M : Type 1} → statement M

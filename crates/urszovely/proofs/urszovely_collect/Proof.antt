@@ -14,30 +14,30 @@ use Rattle.urszovely.proofs.Left.{untouched, stored}
 use Rattle.urszovely.proofs.urszovely_collect.Statement.{statement}
 use Rattle.urszovely.proofs.urszovely_collect.Tie as tie
 
-returns : tie.Need-returns
+returns : tie.Need-returns-in_default
 returns c =
-    let f = c.before.before in
-    let m = f.before in
-    let j = m.before in
-    let a = j.before.before.before.before.args in
-    let told = j.judge-collecting.ensures in (
-      f.four.ensures ∙ ap four (m.moved-numbers.ensures ∙ ap moved_numbers told),
-      untouched 8 a.sorts.now a.singles.now a.doubles.now _ _ _ (sym told ∙ c.enum-told2.given.1),
+    let f = c in
+    let m = f in
+    let j = m in
+    let a = j.args in
+    let told = j.judge_collecting-told.ensures in (
+      f.four.ensures ∙ ap four (m.moved_numbers-numbers.ensures ∙ ap moved_numbers told),
+      untouched 8 a.sorts.now a.singles.now a.doubles.now _ _ _ (sym told ∙ c.in_default.is),
     )
 
-returns_2 : tie.Need-returns-2
+returns_2 : tie.Need-returns
 returns_2 c =
-    let e = c.before.before.before.before.before.before.before in
-    let f = e.before.before in
-    let m = f.before in
-    let j = m.before in
-    let a = j.before.before.before.before.args in
-    let lanes : List (List Bits) = rows_from 32 a.lane-sorts.now a.lane-singles.now a.lane-doubles.now in
-    let told = j.judge-collecting.ensures in (
-      f.four.ensures ∙ ap four (m.moved-numbers.ensures ∙ ap moved_numbers told),
-      stored 8 a.sorts.now a.singles.now a.doubles.now (omega (arith, c.before.before.before.collect-arg4.given)) (omega (arith, c.before.before.collect-arg5.given)) (omega (arith, c.before.collect-arg6.given)) _ (collected Empty a.kind a.computation lanes (empties 8)) _ refl
+    let e = c in
+    let f = e in
+    let m = f in
+    let j = m in
+    let a = j.args in
+    let lanes : List (List Bits) = rows_from 32 a.lane_sorts.now a.lane_singles.now a.lane_doubles.now in
+    let told = j.judge_collecting-told.ensures in (
+      f.four.ensures ∙ ap four (m.moved_numbers-numbers.ensures ∙ ap moved_numbers told),
+      stored 8 a.sorts.now a.singles.now a.doubles.now (omega (arith, c.collect-arg-4-1.given)) (omega (arith, c.collect-arg-5-1.given)) (omega (arith, c.collect-arg-6-1.given)) _ (collected Empty a.kind a.computation lanes (empties 8)) _ refl
           (collected_into_empties a.kind a.computation a.sorts.now a.singles.now a.doubles.now (collect_answer a.kind a.computation (registers_held lanes)) lanes
-          (sym told ∙ e.enum_told.given.1)) _ _ _ c.collect.ensures,
+          (sym told ∙ e.in-Done.is)) _ _ _ c.collect.ensures,
     )
 
 pub urszovely_collect_spec : {M : Type 1} → statement M

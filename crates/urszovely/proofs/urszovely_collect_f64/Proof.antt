@@ -16,30 +16,30 @@ use Rattle.urszovely.proofs.Left.{untouched, stored}
 use Rattle.urszovely.proofs.urszovely_collect_f64.Statement.{statement}
 use Rattle.urszovely.proofs.urszovely_collect_f64.Tie as tie
 
-returns : tie.Need-returns
+returns : tie.Need-returns-in_default
 returns c =
-    let f = c.before.before in
-    let m = f.before in
-    let j = m.before in
-    let a = j.before.args in
-    let told = j.judge-collecting.ensures in (
-      f.four.ensures ∙ ap four (m.moved-numbers.ensures ∙ ap moved_numbers told),
-      untouched 8 a.sorts.now a.singles.now a.doubles.now _ _ _ (sym told ∙ c.enum-told2.given.1),
+    let f = c in
+    let m = f in
+    let j = m in
+    let a = j.args in
+    let told = j.judge_collecting-told.ensures in (
+      f.four.ensures ∙ ap four (m.moved_numbers-numbers.ensures ∙ ap moved_numbers told),
+      untouched 8 a.sorts.now a.singles.now a.doubles.now _ _ _ (sym told ∙ c.in_default.is),
     )
 
-returns_2 : tie.Need-returns-2
+returns_2 : tie.Need-returns
 returns_2 c =
-    let e = c.before.before.before.before.before in
-    let f = e.before.before in
-    let m = f.before in
-    let j = m.before in
-    let a = j.before.args in
+    let e = c in
+    let f = e in
+    let m = f in
+    let j = m in
+    let a = j.args in
     let lanes : List (List Bits) = lanes_from a.kind a.holdings.now in
-    let done : collect_holdings_answer a.kind a.computation ≡ Done = sym j.judge-collecting.ensures ∙ e.enum_told.given.1 in (
-      f.four.ensures ∙ ap four (m.moved-numbers.ensures ∙ ap moved_numbers j.judge-collecting.ensures),
-      stored 8 a.sorts.now a.singles.now a.doubles.now (omega (arith, c.before.before.before.collect-holdings-arg2.given)) (omega (arith, c.before.before.collect-holdings-arg3.given)) (omega (arith, c.before.collect-holdings-arg4.given)) _ (collected Empty a.kind a.computation lanes (empties 8)) _ refl
+    let done : collect_holdings_answer a.kind a.computation ≡ Done = sym j.judge_collecting-told.ensures ∙ e.in-Done.is in (
+      f.four.ensures ∙ ap four (m.moved_numbers-numbers.ensures ∙ ap moved_numbers j.judge_collecting-told.ensures),
+      stored 8 a.sorts.now a.singles.now a.doubles.now (omega (arith, c.collect_holdings-arg-2-1.given)) (omega (arith, c.collect_holdings-arg-3-1.given)) (omega (arith, c.collect_holdings-arg-4-1.given)) _ (collected Empty a.kind a.computation lanes (empties 8)) _ refl
           (collected_into_empties a.kind a.computation a.sorts.now a.singles.now a.doubles.now (collect_holdings_answer a.kind a.computation) lanes done)
-          _ _ _ c.collect-holdings.ensures,
+          _ _ _ c.collect_holdings.ensures,
     )
 
 pub urszovely_collect_f64_spec : {M : Type 1} → statement M

@@ -15,37 +15,37 @@ use Rattle.urszovely.proofs.Left.{untouched, stored}
 use Rattle.urszovely.proofs.urszovely_deal.Statement.{statement}
 use Rattle.urszovely.proofs.urszovely_deal.Tie as tie
 
-returns : tie.Need-returns
+returns : tie.Need-returns-in_default
 returns c =
-    let f = c.before.before in
-    let m = f.before in
-    let j = m.before in
-    let a = j.before.before.before.before.args in
-    let told = j.judge-dealing.ensures in (
-      f.four.ensures ∙ ap four (m.moved-numbers.ensures ∙ ap moved_numbers told),
-      untouched 32 a.sorts.now a.singles.now a.doubles.now _ _ _ (sym told ∙ c.enum-told2.given.1),
+    let f = c in
+    let m = f in
+    let j = m in
+    let a = j.args in
+    let told = j.judge_dealing-told.ensures in (
+      f.four.ensures ∙ ap four (m.moved_numbers-numbers.ensures ∙ ap moved_numbers told),
+      untouched 32 a.sorts.now a.singles.now a.doubles.now _ _ _ (sym told ∙ c.in_default.is),
     )
 
 deal_requires : tie.Need-deal-requires
 deal_requires c κs =
-    let e = c.before.before.before.before.before.before in
-    let j = e.before.before.before.before in
-    let a = j.before.before.before.before.args in
-    let tile : List (List Bits) = rows_from 8 a.tile-sorts.now a.tile-singles.now a.tile-doubles.now in
-    (dealt_kind a.kind a.computation (registers_held tile) (sym j.judge-dealing.ensures ∙ e.enum_told.given.1), (search rules, search rules))
+    let e = c in
+    let j = e in
+    let a = j.args in
+    let tile : List (List Bits) = rows_from 8 a.tile_sorts.now a.tile_singles.now a.tile_doubles.now in
+    (dealt_kind a.kind a.computation (registers_held tile) (sym j.judge_dealing-told.ensures ∙ e.in-Done.is), (search rules, search rules))
 
-returns_2 : tie.Need-returns-2
+returns_2 : tie.Need-returns
 returns_2 c =
-    let e = c.before.before.before.before.before.before.before in
-    let f = e.before.before in
-    let m = f.before in
-    let j = m.before in
-    let a = j.before.before.before.before.args in
-    let tile : List (List Bits) = rows_from 8 a.tile-sorts.now a.tile-singles.now a.tile-doubles.now in
-    let told = j.judge-dealing.ensures in (
-      f.four.ensures ∙ ap four (m.moved-numbers.ensures ∙ ap moved_numbers told),
-      stored 32 a.sorts.now a.singles.now a.doubles.now (omega (arith, c.before.before.before.deal-arg4.given)) (omega (arith, c.before.before.deal-arg5.given)) (omega (arith, c.before.deal-arg6.given)) _ (dealt Empty a.kind a.computation tile (empties 32)) _ refl
-          (dealt_to_empties a.kind a.computation a.sorts.now a.singles.now a.doubles.now tile (sym told ∙ e.enum_told.given.1)) _ _ _ c.deal.ensures,
+    let e = c in
+    let f = e in
+    let m = f in
+    let j = m in
+    let a = j.args in
+    let tile : List (List Bits) = rows_from 8 a.tile_sorts.now a.tile_singles.now a.tile_doubles.now in
+    let told = j.judge_dealing-told.ensures in (
+      f.four.ensures ∙ ap four (m.moved_numbers-numbers.ensures ∙ ap moved_numbers told),
+      stored 32 a.sorts.now a.singles.now a.doubles.now (omega (arith, c.deal-arg-4-1.given)) (omega (arith, c.deal-arg-5-1.given)) (omega (arith, c.deal-arg-6-1.given)) _ (dealt Empty a.kind a.computation tile (empties 32)) _ refl
+          (dealt_to_empties a.kind a.computation a.sorts.now a.singles.now a.doubles.now tile (sym told ∙ e.in-Done.is)) _ _ _ c.deal.ensures,
     )
 
 pub urszovely_deal_spec : {M : Type 1} → statement M

@@ -11,36 +11,36 @@ use Rattle.c_card.specs.Card.{four}
 use Rattle.urszovely.proofs.urszovely_deal_f64.Statement.{statement}
 use Rattle.urszovely.proofs.urszovely_deal_f64.Tie as tie
 
-returns : tie.Need-returns
+returns : tie.Need-returns-in_default
 returns c =
-    let f = c.before.before in
-    let m = f.before in
-    let j = m.before in
-    let told = j.judge-dealing-holdings.ensures in (
-      f.four.ensures ∙ ap four (m.moved-numbers.ensures ∙ ap moved_numbers told),
-      rw (sym told ∙ c.enum-told2.given.1),
+    let f = c in
+    let m = f in
+    let j = m in
+    let told = j.judge_dealing_holdings-told.ensures in (
+      f.four.ensures ∙ ap four (m.moved_numbers-numbers.ensures ∙ ap moved_numbers told),
+      rw (sym told ∙ c.in_default.is),
     )
 
-deal_requires : tie.Need-deal-holdings-requires
+deal_requires : tie.Need-deal_holdings-requires
 deal_requires c κs =
-    let e = c.before.before.before in
-    let j = e.before.before.before.before in
-    let l = j.before.before.before.before in
-    let a = l.before.args in
-    let tile : List (List Bits) = rows_from 8 a.tile-sorts.now a.tile-singles.now a.tile-doubles.now in (
-      (dealt_holdings_kind a.kind a.computation (registers_held tile) (sym j.judge-dealing-holdings.ensures ∙ e.enum_told.given.1), omega (arith, l.fields.given)),
+    let e = c in
+    let j = e in
+    let l = j in
+    let a = l.args in
+    let tile : List (List Bits) = rows_from 8 a.tile_sorts.now a.tile_singles.now a.tile_doubles.now in (
+      (dealt_holdings_kind a.kind a.computation (registers_held tile) (sym j.judge_dealing_holdings-told.ensures ∙ e.in-Done.is), omega (arith, l.fields-1.given)),
       search rules,
     )
 
-returns_2 : tie.Need-returns-2
+returns_2 : tie.Need-returns
 returns_2 c =
-    let e = c.before.before.before.before in
-    let f = e.before.before in
-    let m = f.before in
-    let j = m.before in
-    let told = j.judge-dealing-holdings.ensures in (
-      f.four.ensures ∙ ap four (m.moved-numbers.ensures ∙ ap moved_numbers told),
-      rw (sym told ∙ e.enum_told.given.1) c.deal-holdings.ensures,
+    let e = c in
+    let f = e in
+    let m = f in
+    let j = m in
+    let told = j.judge_dealing_holdings-told.ensures in (
+      f.four.ensures ∙ ap four (m.moved_numbers-numbers.ensures ∙ ap moved_numbers told),
+      rw (sym told ∙ e.in-Done.is) c.deal_holdings.ensures,
     )
 
 pub urszovely_deal_f64_spec : {M : Type 1} → statement M

@@ -25,17 +25,17 @@ small d = split (reserved d)
     split true = six 0
     split false = six d
 
-field_bytes_requires : tie.Need-field-bytes-requires
+field_bytes_requires : tie.Need-field_bytes-requires
 field_bytes_requires c κs =
-    let r = c.before in subst (λ (reading : DescriptorReading). reading.fields.shift < 256) (sym r.read-descriptor.ensures) (small r.before.args.descriptor)
+    let r = c in subst (λ (reading : DescriptorReading). reading.fields.shift < 256) (sym r.read_descriptor-reading.ensures) (small r.args.descriptor)
 
 returns : tie.Need-returns
 returns c =
-    let n = c.before in
-    let f = n.before in
-    let r = f.before.before in (
-      c.four.ensures ∙ ap four (n.read-numbers.ensures ∙ ap (λ (reading : DescriptorReading). fields_numbers reading.answer) r.read-descriptor.ensures),
-      f.field_bytes.ensures ∙ ap (λ (reading : DescriptorReading). bytes_of reading.fields) r.read-descriptor.ensures,
+    let n = c in
+    let f = n in
+    let r = f in (
+      c.four.ensures ∙ ap four (n.read_numbers-numbers.ensures ∙ ap (λ (reading : DescriptorReading). fields_numbers reading.answer) r.read_descriptor-reading.ensures),
+      f.field_bytes.ensures ∙ ap (λ (reading : DescriptorReading). bytes_of reading.fields) r.read_descriptor-reading.ensures,
     )
 
 pub urszovely_fields_spec : {M : Type 1} → statement M

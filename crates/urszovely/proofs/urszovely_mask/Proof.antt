@@ -6,9 +6,9 @@ use Rattle.urszovely.proofs.urszovely_mask.Tie as tie
 
 returns : tie.Need-returns
 returns c =
-    let n = c.before in
-    let g = n.before.before.before in
-    (rw (c.four.ensures, n.mask-numbers.ensures, g.generate-mask.ensures.0), rw (sym g.generate-mask.ensures.0) g.generate-mask.ensures.1)
+    let n = c in
+    let g = n in
+    (rw (c.four.ensures, n.mask_numbers-numbers.ensures, g.generate_mask-generated.ensures.0), rw (sym g.generate_mask-generated.ensures.0) g.generate_mask-generated.ensures.1)
 
 pub urszovely_mask_spec : {M : Type 1} → statement M
 urszovely_mask_spec = tie.close (tie.spec (λ c κs. search rules) (λ c κs. search rules) (λ c κs. search rules) (λ c. search rules) returns)

@@ -10,11 +10,11 @@ use Rattle.urszovely.proofs.urszovely_mma_layout.Tie as tie
 
 returns : tie.Need-returns
 returns c =
-    let n = c.before in
-    let w = n.before in
-    let b = w.before.before in (
-      w.card-numbers.ensures ∙ ap (λ (r : MmaLayout). card_numbers r.card) b.layout_of.ensures,
-      c.four.ensures ∙ ap four (n.admission-numbers.ensures ∙ ap (λ (r : MmaLayout). admission_numbers r.answer) b.layout_of.ensures),
+    let n = c in
+    let w = n in
+    let b = w in (
+      w.card_numbers.ensures ∙ ap (λ (r : MmaLayout). card_numbers r.card) b.layout_of-layout.ensures,
+      c.four.ensures ∙ ap four (n.admission_numbers-numbers.ensures ∙ ap (λ (r : MmaLayout). admission_numbers r.answer) b.layout_of-layout.ensures),
     )
 
 pub urszovely_mma_layout_spec : {M : Type 1} → statement M

@@ -6,13 +6,13 @@ use Rattle.urszovely.proofs.urszovely_owner.Tie as tie
 
 returns : tie.Need-returns
 returns c =
-    let n = c.before in
-    let j = n.before.before.before in
-    let k = j.before.before.before in
+    let n = c in
+    let j = n in
+    let k = j in
     record {
-      owner = j.owner_of.result;
-      allowed = owner_between _ _ _ _ _ j.owner_of.result k.card.ensures j.owner_of.ensures;
-      numbers = rw (c.four.ensures, n.owner-numbers.ensures);
+      owner = j.owner_of-owner.result;
+      allowed = owner_between _ _ _ _ _ j.owner_of-owner.result k.card.ensures j.owner_of-owner.ensures;
+      numbers = rw (c.four.ensures, n.owner_numbers-numbers.ensures);
     }
 
 pub urszovely_owner_spec : {M : Type 1} → statement M

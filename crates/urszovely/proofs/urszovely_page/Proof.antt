@@ -12,22 +12,22 @@ use Rattle.urszovely.specs.Book.{note_place}
 use Rattle.urszovely.proofs.urszovely_page.Statement.{statement}
 use Rattle.urszovely.proofs.urszovely_page.Tie as tie
 
-note_place_requires : tie.Need-note-place-requires
-note_place_requires c κs = let r = c.before.before.before.before.before in ap (λ (q : Page). q.answer) r.read-block.ensures
+note_place_requires : tie.Need-note_place-requires
+note_place_requires c κs = let r = c in ap (λ (q : Page). q.answer) r.read_block-page.ensures
 
 returns : tie.Need-returns
 returns c =
-    let n = c.before in
-    let p = n.before in
-    let b = p.before.before in
-    let w = b.before in
-    let r = w.before.before.before in
-    let block = r.before.before.args.block.now in
+    let n = c in
+    let p = n in
+    let b = p in
+    let w = b in
+    let r = w in
+    let block = r.args.block.now in
     record {
-      of_card = w.card-numbers.ensures ∙ ap (λ (q : Page). card_numbers q.card) r.read-block.ensures;
-      of_marks = ap (λ (k : ℕ). k ∷ []) (b.mark-bits.ensures ∙ ap (λ (q : Page). mark_bits q.card.marks) r.read-block.ensures);
-      of_note = p.note-place.ensures ∙ ap (λ (q : Page). note_place q.answer block) r.read-block.ensures;
-      numbers = c.four.ensures ∙ ap four (n.answer-numbers.ensures ∙ ap (λ (q : Page). answer_numbers q.answer) r.read-block.ensures);
+      of_card = w.card_numbers.ensures ∙ ap (λ (q : Page). card_numbers q.card) r.read_block-page.ensures;
+      of_marks = ap (λ (k : ℕ). k ∷ []) (b.mark_bits.ensures ∙ ap (λ (q : Page). mark_bits q.card.marks) r.read_block-page.ensures);
+      of_note = p.note_place.ensures ∙ ap (λ (q : Page). note_place q.answer block) r.read_block-page.ensures;
+      numbers = c.four.ensures ∙ ap four (n.answer_numbers-numbers.ensures ∙ ap (λ (q : Page). answer_numbers q.answer) r.read_block-page.ensures);
     }
 
 pub urszovely_page_spec : {M : Type 1} → statement M

@@ -6,17 +6,17 @@ use Rattle.urszovely.proofs.urszovely_place.Tie as tie
 
 returns : tie.Need-returns
 returns c =
-    let n = c.before in
-    let p = n.before.before.before in
-    let two = p.before.before in
-    let one = two.before in
-    let k = one.before.before.before in
+    let n = c in
+    let p = n in
+    let two = p in
+    let one = two in
+    let k = one in
     record {
-      placement = p.place-packed.result;
+      placement = p.place_packed-placement.result;
       allowed =
-          placed_between _ _ _ _ _ _ _ _ p.place-packed.result k.pack.ensures.same_card one.tuple.ensures two.tuple2.ensures
-          p.place-packed.ensures;
-      numbers = rw (c.four.ensures, n.placement-numbers.ensures);
+          placed_between _ _ _ _ _ _ _ _ p.place_packed-placement.result k.pack.ensures.same_card one.tuple.ensures two.tuple-2.ensures
+          p.place_packed-placement.ensures;
+      numbers = rw (c.four.ensures, n.placement_numbers-told.ensures);
     }
 
 pub urszovely_place_spec : {M : Type 1} → statement M

@@ -6,14 +6,14 @@ use Rattle.urszovely.proofs.urszovely_plan.Tie as tie
 
 returns : tie.Need-returns
 returns c =
-    let n = c.before in
-    let q = n.before.before.before.before.before.before.before in
-    let two = q.before.before.before.before in
-    let one = two.before in
+    let n = c in
+    let q = n in
+    let two = q in
+    let one = two in
     record {
-      written = q.write-plan.result;
-      allowed = rw (sym one.card.ensures, sym two.card2.ensures) q.write-plan.ensures;
-      numbers = rw (c.four.ensures, n.planning-numbers.ensures);
+      written = q.write_plan-written.result;
+      allowed = rw (sym one.card-one.ensures, sym two.card-two.ensures) q.write_plan-written.ensures;
+      numbers = rw (c.four.ensures, n.planning_numbers-numbers.ensures);
     }
 
 pub urszovely_plan_spec : {M : Type 1} → statement M

@@ -6,16 +6,16 @@ use Rattle.urszovely.proofs.urszovely_read.Tie as tie
 
 returns : tie.Need-returns
 returns c =
-    let n = c.before in
-    let b = n.before.before in
-    let w = b.before in
-    let r = w.before.before.before.before in
+    let n = c in
+    let b = n in
+    let w = b in
+    let r = w in
     record {
-      reading = r.read.result;
-      allowed = r.read.ensures;
-      of_card = w.put-layout.ensures;
-      of_marks = rw b.mark-bits.ensures;
-      numbers = rw (c.four.ensures, n.read-numbers.ensures);
+      reading = r.read-reading.result;
+      allowed = r.read-reading.ensures;
+      of_card = w.put_layout.ensures;
+      of_marks = rw b.mark_bits.ensures;
+      numbers = rw (c.four.ensures, n.read_numbers-numbers.ensures);
     }
 
 pub urszovely_read_spec : {M : Type 1} → statement M

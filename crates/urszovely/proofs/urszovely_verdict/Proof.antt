@@ -7,13 +7,13 @@ use Rattle.urszovely.proofs.urszovely_verdict.Tie as tie
 
 returns : tie.Need-returns
 returns c =
-    let n = c.before in
-    let j = n.before.before.before in
-    let k = j.before.before.before.before in
+    let n = c in
+    let j = n in
+    let k = j in
     record {
-      verdict = j.judge-packed.result;
-      allowed = rw (sym k.pack.ensures.same_card) ((verdict_exactly _ _ _ _).1 j.judge-packed.ensures);
-      numbers = rw (c.four.ensures, n.verdict-numbers.ensures);
+      verdict = j.judge_packed-verdict.result;
+      allowed = rw (sym k.pack.ensures.same_card) ((verdict_exactly _ _ _ _).1 j.judge_packed-verdict.ensures);
+      numbers = rw (c.four.ensures, n.verdict_numbers-told.ensures);
     }
 
 pub urszovely_verdict_spec : {M : Type 1} → statement M

@@ -10,13 +10,13 @@ use Rattle.urszovely.proofs.urszovely_write.Tie as tie
 
 returns : tie.Need-returns
 returns c =
-    let n = c.before in
-    let w = n.before.before.before in
-    let k = w.before.before in
-    let bytes = k.before.before.args.text.now in (
-      rw (c.four.ensures, n.write-numbers.ensures, w.write.ensures.0, k.card.ensures),
-      w.write.ensures.1
-          ∙ ap (λ (answer : Written). bytes_after answer k.card.result bytes) w.write.ensures.0
+    let n = c in
+    let w = n in
+    let k = w in
+    let bytes = k.args.text.now in (
+      rw (c.four.ensures, n.write_numbers-numbers.ensures, w.write-written.ensures.0, k.card.ensures),
+      w.write-written.ensures.1
+          ∙ ap (λ (answer : Written). bytes_after answer k.card.result bytes) w.write-written.ensures.0
           ∙ ap (λ (card : Card). bytes_after (written_answer card (length bytes)) card bytes) k.card.ensures,
     )
 

@@ -19,24 +19,24 @@ is_cells : (s : tie.Start) → get_or s.args.numbers.now 47 0 ≡ cells (card s)
 is_cells s =
     (measured s.args.numbers.now s.args.strides.now (record { whole = s.requires.0; admitted = checks_passed (card s) s.requires.1 })).cells_are
 
-returns : tie.Need-returns
-returns c = let s = c.before.before.before in too_short (card s) s.args.table.now s.requires.1 (is_cells s) c.if1.true
+returns : tie.Need-returns-then-table-cells
+returns c = let s = c in too_short (card s.before.before.before.before) s.args.table.now s.requires.1 (is_cells s.before.before.before.before) c.if-table-cells.true
 
-slice_aggregate_judge_cells : tie.Need-slice-aggregate-judge-cells
+slice_aggregate_judge_cells : tie.Need-slice_bounds-judge_cells-end-2
 slice_aggregate_judge_cells c =
-    let s = c.before.before.before.before in sym (length-take-le (get_or s.args.numbers.now 47 0) s.args.table.now c.before.if1.false)
+    let s = c in sym (length-take-le (get_or s.args.numbers.now 47 0) s.args.table.now c.if-table-cells.false)
 
-judge_cells_requires : tie.Need-judge-cells-requires
+judge_cells_requires : tie.Need-judge_cells-requires
 judge_cells_requires c κs =
-    let s = c.before.before.before.before in
-    (s.requires, length-take-le (get_or s.args.numbers.now 47 0) s.args.table.now c.before.if1.false ∙ is_cells s)
+    let s = c in
+    (s.requires, length-take-le (get_or s.args.numbers.now 47 0) s.args.table.now c.if-table-cells.false ∙ is_cells s.before.before.before.before.before)
 
-returns_2 : tie.Need-returns-2
+returns_2 : tie.Need-returns
 returns_2 c =
-    let k = c.before.before in
-    let i = k.before.before in
-    let s = i.before.before.before in
-    whole_table (card s) s.args.table.now (is_cells s) i.if1.false k.judge-cells.ensures
+    let k = c in
+    let i = k in
+    let s = i in
+    whole_table (card s.before.before.before.before.before.before.before.before) s.args.table.now (is_cells s.before.before.before.before.before.before.before.before) i.if-table-cells.false k.judge_cells.ensures
 
 pub judge_admitted_spec : {M : Type 1} → statement M
 judge_admitted_spec =

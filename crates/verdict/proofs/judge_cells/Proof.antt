@@ -19,26 +19,26 @@ sizes s = measured s.args.numbers.now s.args.strides.now (admits s)
 
 -- the row is as long as there are copies
 few : (s : tie.Start) → get_or s.args.numbers.now 46 0 ≤ 64
-few s = let n = sized (card_of s.args.numbers.now s.args.strides.now) (admits s).admitted in omega (arith, (sizes s).copies_are, n.most-copies)
+few s = let n = sized (card_of s.args.numbers.now s.args.strides.now) (admits s).admitted in omega (arith, (sizes s).copies_are, n.most_copies_lem)
 
 long : (s : tie.Start) → let n = get_or s.args.numbers.now 46 0 in length {A = ℕ} (take n (replicate 64 0)) ≡ n
 long s = length-take-le (get_or s.args.numbers.now 46 0) (replicate 64 0) (few s)
 
-array_borrow_prefix_row : tie.Need-array-borrow-prefix-row
-array_borrow_prefix_row c = few c.before.before.before
+array_borrow_prefix_row : tie.Need-slice_bounds-row-end
+array_borrow_prefix_row c = few c.before.before.before.before
 
-slice_aggregate_judge_passes : tie.Need-slice-aggregate-judge-passes
-slice_aggregate_judge_passes c = sym (long c.before.before.before.before)
+slice_aggregate_judge_passes : tie.Need-slice_bounds-judge_passes-end
+slice_aggregate_judge_passes c = sym (long c.before.before.before.before.before)
 
-judge_passes_requires : tie.Need-judge-passes-requires
+judge_passes_requires : tie.Need-judge_passes-requires
 judge_passes_requires c κs =
-    let s = c.before.before.before.before.before in (
-      record { whole = s.requires.0.0; admitted = s.requires.0.1; all_elements = (sizes s).elements_are; one_each = long s ∙ (sizes s).copies_are },
+    let s = c in (
+      record { whole = s.requires.0.0; admitted = s.requires.0.1; all_elements = (sizes s).elements_are; one_each = long s.before.before.before.before.before.before ∙ (sizes s).copies_are },
       s.requires.1,
     )
 
 returns : tie.Need-returns
-returns c = c.before.before.before.judge-passes.ensures
+returns c = c.judge_passes.ensures
 
 pub judge_cells_spec : {M : Type 1} → statement M
 judge_cells_spec =

@@ -6,20 +6,20 @@ use Rattle.claiming_in_order.proofs.Promises.{not_admitted}
 use Rattle.verdict.proofs.judge_packed.Statement.{statement}
 use Rattle.verdict.proofs.judge_packed.Tie as tie
 
-returns : tie.Need-returns
+returns : tie.Need-returns-in-Refused
 returns c =
-    let d = c.before.before.before in
-    let a = d.before.before.args in
-    not_admitted (card_of a.numbers.now a.strides.now) a.table.now (sym d.admit-packed.ensures ∙ c.before.admission.given.1)
+    let d = c in
+    let a = d.args in
+    not_admitted (card_of a.numbers.now a.strides.now) a.table.now (sym d.admit_packed-admission.ensures ∙ c.in-Refused.is)
 
-judge_admitted_requires : tie.Need-judge-admitted-requires
+judge_admitted_requires : tie.Need-judge_admitted-requires
 judge_admitted_requires c κs =
-    let k = c.before in
-    let d = k.before.before in
-    (d.before.before.requires, sym d.admit-packed.ensures ∙ k.enum_told.given.1)
+    let k = c in
+    let d = k in
+    (d.requires, sym d.admit_packed-admission.ensures ∙ k.in_default.is)
 
-returns_2 : tie.Need-returns-2
-returns_2 c = c.before.before.judge-admitted.ensures
+returns_2 : tie.Need-returns
+returns_2 c = c.judge_admitted.ensures
 
 pub judge_packed_spec : {M : Type 1} → statement M
 judge_packed_spec =

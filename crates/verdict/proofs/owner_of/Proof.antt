@@ -8,20 +8,20 @@ use Rattle.judgement.proofs.Plain.{owner_exactly}
 use Rattle.verdict.proofs.owner_of.Statement.{statement}
 use Rattle.verdict.proofs.owner_of.Tie as tie
 
-eight : (s : tie.Start) → length s.args.t2 ≡ 8
+eight : (s : tie.Start) → length s.args.coordinates ≡ 8
 eight s = search rules
 
-owner_packed_requires : tie.Need-owner-packed-requires
-owner_packed_requires c κs = let k = c.before.before.before.before.before.before in (k.pack.ensures.whole, eight k.before.before)
+owner_packed_requires : tie.Need-owner_packed-requires
+owner_packed_requires c κs = let k = c in (k.pack-packed.ensures.whole, eight k.before.before.before.before.before.before.before.before)
 
 returns : tie.Need-returns
 returns c =
-    let p = c.before.before in
-    let k = p.before.before.before.before.before.before.before in
-    let a = k.before.before.args in
-    let after = p.owner-packed.new.1.1.1.0 in
+    let p = c in
+    let k = p in
+    let a = k.args in
+    let after = p.owner_packed.new.table in
     (owner_exactly a.card a.t2 a.table.now after p.owner-packed.result).1
-    (subst (λ (card : Card). OwnerPromise card a.t2 a.table.now after p.owner-packed.result) k.pack.ensures.same_card p.owner-packed.ensures)
+    (subst (λ (card : Card). OwnerPromise card a.coordinates a.table.now after p.owner_packed.result) k.pack-packed.ensures.same_card p.owner_packed.ensures)
 
 pub owner_of_spec : {M : Type 1} → statement M
 owner_of_spec = tie.close (tie.spec (λ c κs. search rules) owner_packed_requires (λ c. search rules) returns)

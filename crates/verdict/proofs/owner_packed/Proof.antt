@@ -15,43 +15,43 @@ abbrev card : tie.Start → Card
 card s = card_of s.args.numbers.now s.args.strides.now
 
 -- the card is admitted, and the spot is that of the coordinates
-abbrev start : tie.After-enum-told → tie.Start
-start k = k.before.before.before.before
+abbrev start : tie.In_default → tie.Start
+start k = k.before.before.before
 
-admitted : (k : tie.After-enum-told) → full_admission (card (start k)) ≡ Admitted
-admitted k = sym k.before.before.admit-packed.ensures ∙ k.enum_told.given.1
+admitted : (k : tie.In_default) → full_admission (card (start k)) ≡ Admitted
+admitted k = sym k.admit_packed-admission.ensures ∙ k.in_default.is
 
-returns : tie.Need-returns
+returns : tie.Need-returns-in-Refused
 returns c =
-    let d = c.before.before.before in
-    let s = d.before.before in
-    owner_refused (card s) s.args.coordinates.now s.args.table.now (sym d.admit-packed.ensures ∙ c.before.admission.given.1)
+    let d = c in
+    let s = d in
+    owner_refused (card s.before.before.before) s.args.coordinates.now s.args.table.now (sym d.admit_packed-admission.ensures ∙ c.in-Refused.is)
 
-spot_at_requires : tie.Need-spot-at-requires
-spot_at_requires c κs = let s = start c in ((checked (card s) (checks_passed (card s) (admitted c))).space, s.pre.1)
+spot_at_requires : tie.Need-spot_at-spot-requires
+spot_at_requires c κs = let s = start c in ((checked (card s) (checks_passed (card s) (admitted c))).space, s.requires.1)
 
-owner_at_requires : tie.Need-owner-at-requires
+owner_at_requires : tie.Need-owner_at-requires
 owner_at_requires c κs =
-    let p = c.before.before.before.before in
-    let k = p.before in
-    let s = start k in
-    ((s.pre.0, admitted k), asked_below (card s) s.args.coordinates.now s.args.table.now (admitted k) (sym p.spot-at.ensures ∙ c.before.before.spot.given.1))
+    let p = c in
+    let k = p in
+    let s = start k.before.before.before in
+    ((s.requires.0, admitted k.before.before.before), asked_below (card s) s.args.coordinates.now s.args.table.now (admitted k.before.before.before) (sym p.spot_at-spot.ensures ∙ c.in-Inside.is))
 
-returns_2 : tie.Need-returns-2
+returns_2 : tie.Need-returns-in-Inside
 returns_2 c =
-    let o = c.before.before in
-    let t = o.before.before.before in
-    let p = t.before.before in
-    let k = p.before in
-    let s = start k in
-    owner_read (card s) s.args.coordinates.now s.args.table.now (admitted k) (sym p.spot-at.ensures ∙ t.spot.given.1) o.owner_at.ensures
+    let o = c in
+    let t = o in
+    let p = t in
+    let k = p in
+    let s = start k.before.before.before.before.before.before in
+    owner_read (card s) s.args.coordinates.now s.args.table.now (admitted k.before.before.before.before.before.before) (sym p.spot_at-spot.ensures ∙ t.in-Inside.is) o.owner_at.ensures
 
-returns_3 : tie.Need-returns-3
+returns_3 : tie.Need-returns-in-Outside
 returns_3 c =
-    let p = c.before.before.before in
-    let k = p.before in
-    let s = start k in
-    no_cell_promise (card s) s.args.coordinates.now s.args.table.now (admitted k) (sym p.spot-at.ensures ∙ c.before.spot2.given.1)
+    let p = c in
+    let k = p in
+    let s = start k.before.before in
+    no_cell_promise (card s) s.args.coordinates.now s.args.table.now (admitted k.before.before) (sym p.spot_at-spot.ensures ∙ c.in-Outside.is)
 
 pub owner_packed_spec : {M : Type 1} → statement M
 owner_packed_spec =

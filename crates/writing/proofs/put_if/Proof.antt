@@ -5,11 +5,11 @@ use Rattle.writing_words.proofs.Laws.{wrote_none}
 use Rattle.writing.proofs.put_if.Statement.{statement}
 use Rattle.writing.proofs.put_if.Tie as tie
 
-returns : tie.Need-returns
-returns c = (rw c.before.if1.true c.put.ensures.0, c.put.ensures.1)
+returns : tie.Need-returns-then-there
+returns c = (rw c.if-there.true c.put.ensures.0, c.put.ensures.1)
 
-returns_2 : tie.Need-returns-2
-returns_2 c = (rw c.if1.false (wrote_none c.before.args.out), omega arith)
+returns_2 : tie.Need-returns
+returns_2 c = (rw c.if-there.false (wrote_none c.args.out), omega arith)
 
 pub put_if_spec : {M : Type 1} → statement M
 put_if_spec = tie.close (tie.spec (λ c κs. search rules) returns returns_2)

@@ -19,37 +19,37 @@ use Rattle.writing.proofs.write.Tie as tie
 eight : (s : tie.Start) → OfEight s.args.card
 eight s = record { shard = search (rules, length_of); marks = search rules; replica = search (rules, length_of); offset = search rules; lengths = search rules }
 
-checks : (k : tie.After-check-fields) → field_checks k.before.before.before.before.before.before.before.args.card Admitted ≡ k.check-fields.result
-checks k = ap (λ (x : Card). field_checks x Admitted) (sym k.before.before.before.before.before.pack.ensures.same_card) ∙ sym k.check-fields.ensures
+checks : (k : tie.After-check_fields-fields) → field_checks k.args.card Admitted ≡ k.check_fields-fields.result
+checks k = ap (λ (x : Card). field_checks x Admitted) (sym k.pack-packed.ensures.same_card) ∙ sym k.check_fields-fields.ensures
 
-passed : (c : tie.After-enum-told) → field_checks c.before.before.before.before.before.before.before.before.before.args.card Admitted ≡ Admitted
-passed c = checks c.before.before ∙ c.enum_told.given.1
+passed : (c : tie.In_default) → field_checks c.args.card Admitted ≡ Admitted
+passed c = checks c.before ∙ c.in_default.is
 
-returns : tie.Need-returns
-returns c = (rw (checks c.before.before.before ∙ c.before.fields.given.1), refl)
+returns : tie.Need-returns-in-Refused
+returns c = (rw (checks c.before ∙ c.in-Refused.is), refl)
 
 -- the text's length
-needed : (c : tie.After-spelled) → c.spelled.result.length ≡ length (text_of c.before.before.before.before.before.before.before.before.before.before.args.card)
-needed c = ap (λ o. o.length) c.spelled.ensures.0 ∙ text_length (text_of c.before.before.before.before.before.before.before.before.before.before.args.card)
+needed : (c : tie.After-spelled-text) → c.spelled-text.result.length ≡ length (text_of c.args.card)
+needed c = ap (λ o. o.length) c.spelled-text.ensures.0 ∙ text_length (text_of c.args.card)
 
-returns_2 : tie.Need-returns-2
+returns_2 : tie.Need-returns-then-bytes-needed
 returns_2 c =
-    let p = c.before in
-    let short : length c.before.before.before.before.before.before.before.before.before.before.before.args.bytes.now < length (text_of c.before.before.before.before.before.before.before.before.before.before.before.args.card) = omega (arith, needed p, c.if1.true) in
-    (rw (passed p.before, lt-ltb _ _ short, needed p), refl)
+    let p = c in
+    let short : length c.args.bytes.now < length (text_of c.args.card) = omega (arith, needed p.before, c.if-bytes-needed.true) in
+    (rw (passed p.before.before, lt-ltb _ _ short, needed p.before), refl)
 
 copy_requires : tie.Need-copy-requires
-copy_requires c κs = let p = c.before.before in (omega (arith, c.before.if1.false), omega (arith, p.spelled.ensures.1))
+copy_requires c κs = let p = c in (omega (arith, c.if-bytes-needed.false), omega (arith, p.spelled-text.ensures.1))
 
-returns_3 : tie.Need-returns-3
+returns_3 : tie.Need-returns
 returns_3 c =
-    let p = c.before.before.before.before.before in
-    let s = c.before.before.before.before.before.before.before.before.before.before.before.before.before.before.before in
+    let p = c in
+    let s = c in
     let card = s.args.card in
     let t = text_of card in
-    let fits : length t ≤ length s.args.bytes.now = omega (arith, needed p, c.before.before.before.before.if1.false) in
-    let taken : take p.spelled.result.length p.spelled.result.bytes ≡ t = ap (λ o. take o.length o.bytes) p.spelled.ensures.0 ∙ text_taken t (omega (arith, needed p, p.spelled.ensures.1)) in
-    (rw (passed p.before, le-ltb _ _ fits, needed p), c.before.before.copy.ensures ∙ ap (λ (l : List ℕ). l ++ drop p.spelled.result.length s.args.bytes.now) taken)
+    let fits : length t ≤ length s.args.bytes.now = omega (arith, needed p.before.before.before.before.before, c.if-bytes-needed.false) in
+    let taken : take p.spelled-text.result.length p.spelled-text.result.bytes ≡ t = ap (λ o. take o.length o.bytes) p.spelled-text.ensures.0 ∙ text_taken t (omega (arith, needed p.before.before.before.before.before, p.spelled-text.ensures.1)) in
+    (rw (passed p.before.before.before.before.before.before, le-ltb _ _ fits, needed p.before.before.before.before.before), c.copy.ensures ∙ ap (λ (l : List ℕ). l ++ drop p.spelled-text.result.length s.args.bytes.now) taken)
 
 pub write_spec : {M : Type 1} → statement M
 write_spec = tie.close (tie.spec (λ c κs. search rules) (λ c κs. search rules) (λ c. search rules) returns (λ c. search rules) (λ c κs. passed c) returns_2 copy_requires (λ c. search rules) returns_3)

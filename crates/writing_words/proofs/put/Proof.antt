@@ -6,7 +6,7 @@ use Rattle.writing_words.proofs.put.Statement.{statement}
 use Rattle.writing_words.proofs.put.Tie as tie
 
 returns : tie.Need-returns
-returns c = let s = c.before in (wrote_byte s.args.out s.args.b, omega arith)
+returns c = let s = c in (wrote_byte s.args.out s.args.b, omega arith)
 
 pub put_spec : {M : Type 1} → statement M
 put_spec = tie.close (tie.spec (λ c. search rules) (λ c. search rules) returns)

@@ -6,7 +6,7 @@ use Rattle.writing_words.proofs.put_1.Statement.{statement}
 use Rattle.writing_words.proofs.put_1.Tie as tie
 
 returns : tie.Need-returns
-returns c = (rw (← one_digit c.before.args.n) c.put-digit.ensures.0, c.put-digit.ensures.1)
+returns c = (rw (← one_digit c.args.n) c.put_digit.ensures.0, c.put_digit.ensures.1)
 
 pub put_1_spec : {M : Type 1} → statement M
 put_1_spec = tie.close (tie.spec (λ c κs. search rules) returns)

@@ -6,13 +6,13 @@ use Rattle.writing_words.proofs.Laws.{wrote_more, below_ten}
 use Rattle.writing_words.proofs.put_3.Statement.{statement}
 use Rattle.writing_words.proofs.put_3.Tie as tie
 
-returns : tie.Need-returns
-returns c = (rw (← below_ten 2 c.before.before.args.n c.before.if1.true) c.put-digit.ensures.0, omega (arith, c.put-digit.ensures.1))
+returns : tie.Need-returns-then-n-lt10
+returns c = (rw (← below_ten 2 c.args.n c.if-n-lt10.true) c.put_digit.ensures.0, omega (arith, c.put_digit.ensures.1))
 
-returns_2 : tie.Need-returns-2
+returns_2 : tie.Need-returns
 returns_2 c =
-    let p = c.before in
-    (rw (c.put-digit2.ensures.0, p.put_2.ensures.0, le-ltb _ _ p.before.if1.false) (wrote_more _ _ _), omega (arith, c.put-digit2.ensures.1, p.put_2.ensures.1))
+    let p = c in
+    (rw (c.put_digit-2.ensures.0, p.put_2.ensures.0, le-ltb _ _ p.if-n-lt10.false) (wrote_more _ _ _), omega (arith, c.put_digit-2.ensures.1, p.put_2.ensures.1))
 
 pub put_3_spec : {M : Type 1} → statement M
 put_3_spec = tie.close (tie.spec (λ c κs. omega arith) returns (λ c κs. omega arith) (λ c κs. omega (arith, c.put_2.ensures.1)) returns_2)

@@ -21,34 +21,34 @@ no_name (suc (suc (suc (suc (suc (suc zero)))))) h0 h1 h2 h3 h4 h5 h6 h7 = absur
 no_name (suc (suc (suc (suc (suc (suc (suc zero))))))) h0 h1 h2 h3 h4 h5 h6 h7 = absurd (h7 refl)
 no_name (suc (suc (suc (suc (suc (suc (suc (suc a)))))))) h0 h1 h2 h3 h4 h5 h6 h7 = refl
 
-returns : tie.Need-returns
-returns c = (rw c.before.match.keys1 c.put_word.ensures.0, omega (arith, c.put_word.ensures.1))
+returns : tie.Need-returns-in-0
+returns c = (rw c.in-0.is c.put_word.ensures.0, omega (arith, c.put_word.ensures.1))
 
-returns_2 : tie.Need-returns-2
-returns_2 c = (rw c.before.match.keys2 c.put-word2.ensures.0, omega (arith, c.put-word2.ensures.1))
+returns_2 : tie.Need-returns-in-1
+returns_2 c = (rw c.in-1.is c.put_word-in-1.ensures.0, omega (arith, c.put_word-in-1.ensures.1))
 
-returns_3 : tie.Need-returns-3
-returns_3 c = (rw c.before.match.keys3 c.put-word3.ensures.0, omega (arith, c.put-word3.ensures.1))
+returns_3 : tie.Need-returns-in-2
+returns_3 c = (rw c.in-2.is c.put_word-in-2.ensures.0, omega (arith, c.put_word-in-2.ensures.1))
 
-returns_4 : tie.Need-returns-4
-returns_4 c = (rw c.before.match.keys4 c.put-word4.ensures.0, omega (arith, c.put-word4.ensures.1))
+returns_4 : tie.Need-returns-in-3
+returns_4 c = (rw c.in-3.is c.put_word-in-3.ensures.0, omega (arith, c.put_word-in-3.ensures.1))
 
-returns_5 : tie.Need-returns-5
-returns_5 c = (rw c.before.match.keys5 c.put-word5.ensures.0, omega (arith, c.put-word5.ensures.1))
+returns_5 : tie.Need-returns-in-4
+returns_5 c = (rw c.in-4.is c.put_word-in-4.ensures.0, omega (arith, c.put_word-in-4.ensures.1))
 
-returns_6 : tie.Need-returns-6
-returns_6 c = (rw c.before.match.keys6 c.put-word6.ensures.0, omega (arith, c.put-word6.ensures.1))
+returns_6 : tie.Need-returns-in-5
+returns_6 c = (rw c.in-5.is c.put_word-in-5.ensures.0, omega (arith, c.put_word-in-5.ensures.1))
 
-returns_7 : tie.Need-returns-7
-returns_7 c = (rw c.before.match.keys7 c.put-word7.ensures.0, omega (arith, c.put-word7.ensures.1))
+returns_7 : tie.Need-returns-in-6
+returns_7 c = (rw c.in-6.is c.put_word-in-6.ensures.0, omega (arith, c.put_word-in-6.ensures.1))
 
-returns_8 : tie.Need-returns-8
-returns_8 c = (rw c.before.match.keys8 c.put-word8.ensures.0, omega (arith, c.put-word8.ensures.1))
+returns_8 : tie.Need-returns-in-7
+returns_8 c = (rw c.in-7.is c.put_word-in-7.ensures.0, omega (arith, c.put_word-in-7.ensures.1))
 
-returns_9 : tie.Need-returns-9
+returns_9 : tie.Need-returns-in_default
 returns_9 c =
-    let s = c.before in
-    (wrote_none s.args.out ∙ ap (λ (t : List ℕ). wrote s.args.out t) (no_name s.args.axis c.match.rest.0.0.0.0.0.0.0.1 c.match.rest.0.0.0.0.0.0.1 c.match.rest.0.0.0.0.0.1 c.match.rest.0.0.0.0.1 c.match.rest.0.0.0.1 c.match.rest.0.0.1 c.match.rest.0.1 c.match.rest.1), omega arith)
+    let s = c in
+    (wrote_none s.args.out ∙ ap (λ (t : List ℕ). wrote s.args.out t) (no_name s.args.axis c.in_default.in_default-own.rest.0.0.0.0.0.0.0.1 c.in_default.in_default-own.rest.0.0.0.0.0.0.1 c.in_default.in_default-own.rest.0.0.0.0.0.1 c.in_default.in_default-own.rest.0.0.0.0.1 c.in_default.in_default-own.rest.0.0.0.1 c.in_default.in_default-own.rest.0.0.1 c.in_default.in_default-own.rest.0.1 c.in_default.in_default-own.rest.1), omega arith)
 
 pub put_name_spec : {M : Type 1} → statement M
 put_name_spec = tie.close (tie.spec (λ c κs. (omega arith, omega arith)) (λ c κs. (omega arith, omega arith)) (λ c κs. (omega arith, omega arith)) (λ c κs. (omega arith, omega arith)) (λ c κs. (omega arith, omega arith)) (λ c κs. (omega arith, omega arith)) (λ c κs. (omega arith, omega arith)) (λ c κs. (omega arith, omega arith)) returns returns_2 returns_3 returns_4 returns_5 returns_6 returns_7 returns_8 returns_9)

@@ -4,15 +4,15 @@ use borrow.Author.Rules.{rules}
 use Rattle.desk.proofs.carrying.ask_carry.Statement.{statement}
 use Rattle.desk.proofs.carrying.ask_carry.Tie as tie
 
-same_length : tie.Need-same-length
+same_length : tie.Need-shape_of-first
 same_length c =
-    let k = c.before.before.before.before.before.before.before.before in
-    k.check-plan.auto.1.1.1.0 ∙ k.before.before.before.before.before.before.before.before.before.before.before.fill.auto.0
+    let k = c in
+    k.check_plan-checked.auto.first ∙ k.fill.auto.lent
 
-same_length_2 : tie.Need-same-length-2
+same_length_2 : tie.Need-shape_of-second
 same_length_2 c =
-    let k = c.before.before.before.before.before.before.before.before in
-    k.check-plan.auto.1.1.1.1.0 ∙ k.before.before.before.before.before.before.before.fill2.auto.0
+    let k = c in
+    k.check_plan-checked.auto.second ∙ k.fill-2.auto.lent
 
 pub ask_carry_spec : {M : Type 1} → statement M
 ask_carry_spec =

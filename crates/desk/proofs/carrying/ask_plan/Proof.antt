@@ -4,20 +4,20 @@ use borrow.Author.Rules.{rules}
 use Rattle.desk.proofs.carrying.ask_plan.Statement.{statement}
 use Rattle.desk.proofs.carrying.ask_plan.Tie as tie
 
-same_length : tie.Need-same-length
+same_length : tie.Need-shape_of-plan
 same_length c =
-    let k = c.before.before.before.before.before.before.before.before.before.before.before in
-    k.write-plan.auto.1.1.0 ∙ k.before.before.before.before.before.before.before.before.before.before.before.before.before.before.before.before.fill-plan.auto.0
+    let k = c in
+    k.write_plan-written.auto.plan ∙ k.fill_plan.auto.lent
 
-same_length_2 : tie.Need-same-length-2
+same_length_2 : tie.Need-shape_of-first
 same_length_2 c =
-    let k = c.before.before.before.before.before.before.before.before.before.before.before in
-    k.write-plan.auto.1.1.1.0 ∙ k.before.before.before.before.before.before.before.before.before.before.before.before.fill.auto.0
+    let k = c in
+    k.write_plan-written.auto.first ∙ k.fill.auto.lent
 
-same_length_3 : tie.Need-same-length-3
+same_length_3 : tie.Need-shape_of-second
 same_length_3 c =
-    let k = c.before.before.before.before.before.before.before.before.before.before.before in
-    k.write-plan.auto.1.1.1.1.0 ∙ k.before.before.before.before.before.before.before.before.fill2.auto.0
+    let k = c in
+    k.write_plan-written.auto.second ∙ k.fill-2.auto.lent
 
 pub ask_plan_spec : {M : Type 1} → statement M
 ask_plan_spec =

@@ -5,11 +5,11 @@ use lib.Seq.{length-take-le}
 use Rattle.desk.proofs.carrying.carry.Statement.{statement}
 use Rattle.desk.proofs.carrying.carry.Tie as tie
 
-slice_aggregate_ask_carry : tie.Need-slice-aggregate-ask-carry
-slice_aggregate_ask_carry c = sym (length-take-le _ c.before.before.before.before.before.before.before.before.before.before.before.args.first.now c.before.before.before.before.before.if2.false)
+slice_aggregate_ask_carry : tie.Need-slice_bounds-ask_carry-end-3
+slice_aggregate_ask_carry c = sym (length-take-le _ c.args.first.now c.if-first-asked.false)
 
-slice_aggregate_ask_carry_2 : tie.Need-slice-aggregate-ask-carry-2
-slice_aggregate_ask_carry_2 c = sym (length-take-le _ c.before.before.before.before.before.before.before.before.before.before.before.before.args.second.now c.before.before.before.before.if3.false)
+slice_aggregate_ask_carry_2 : tie.Need-slice_bounds-ask_carry-end-5
+slice_aggregate_ask_carry_2 c = sym (length-take-le _ c.args.second.now c.if-second-other.false)
 
 pub carry_spec : {M : Type 1} → statement M
 carry_spec =

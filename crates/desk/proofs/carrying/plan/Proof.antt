@@ -5,14 +5,14 @@ use lib.Seq.{length-take-le}
 use Rattle.desk.proofs.carrying.plan.Statement.{statement}
 use Rattle.desk.proofs.carrying.plan.Tie as tie
 
-slice_aggregate_ask_plan : tie.Need-slice-aggregate-ask-plan
-slice_aggregate_ask_plan c = sym (length-take-le _ c.before.before.before.before.before.before.before.before.before.before.args.plan.now c.before.before.before.before.before.if1.false)
+slice_aggregate_ask_plan : tie.Need-slice_bounds-ask_plan-end-2
+slice_aggregate_ask_plan c = sym (length-take-le _ c.args.plan.now c.if-plan-room.false)
 
-slice_aggregate_ask_plan_2 : tie.Need-slice-aggregate-ask-plan-2
-slice_aggregate_ask_plan_2 c = sym (length-take-le _ c.before.before.before.before.before.before.before.before.before.before.before.args.first.now c.before.before.before.before.if2.false)
+slice_aggregate_ask_plan_2 : tie.Need-slice_bounds-ask_plan-end-4
+slice_aggregate_ask_plan_2 c = sym (length-take-le _ c.args.first.now c.if-first-asked.false)
 
-slice_aggregate_ask_plan_3 : tie.Need-slice-aggregate-ask-plan-3
-slice_aggregate_ask_plan_3 c = sym (length-take-le _ c.before.before.before.before.before.before.before.before.before.before.before.before.args.second.now c.before.before.before.if3.false)
+slice_aggregate_ask_plan_3 : tie.Need-slice_bounds-ask_plan-end-6
+slice_aggregate_ask_plan_3 c = sym (length-take-le _ c.args.second.now c.if-second-other.false)
 
 pub plan_spec : {M : Type 1} → statement M
 plan_spec =

@@ -10,5 +10,5 @@ pub canonical_spec : {M : Type 1} → statement M
 canonical_spec =
     tie.close
     (tie.spec (λ c. search rules) (λ c κs. search rules) (λ c. search rules) (λ c. search rules)
-    (λ c. let s = c.before.before.before.before in sym (length-take-le (get_or s.args.numbers.now 8 0) s.args.lent.now c.before.if1.false))
+    (λ c. let s = c in sym (length-take-le (get_or s.args.numbers.now 8 0) s.args.lent.now c.if-lent-asked.false))
     (λ c κs. search rules) (λ c. search rules) (λ c. search rules))

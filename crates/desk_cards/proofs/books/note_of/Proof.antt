@@ -5,10 +5,10 @@ use borrow.Author.Rules.{rules}
 use Rattle.desk_cards.proofs.books.note_of.Statement.{statement}
 use Rattle.desk_cards.proofs.books.note_of.Tie as tie
 
-abbrev invariant_loop : tie.invariant_loop
+abbrev invariant_loop : tie.invariant-loop-i
 invariant_loop seed note₀ i₀ note i = Unit
 
-abbrev decreases_loop : tie.decreases_loop
+abbrev decreases_loop : tie.decreases-loop-i
 decreases_loop seed note₀ i₀ note i = 1024 - i
 
 pub note_of_spec : {M : Type 1} → statement M

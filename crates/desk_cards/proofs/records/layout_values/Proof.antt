@@ -5,10 +5,10 @@ use borrow.Author.Rules.{rules}
 use Rattle.desk_cards.proofs.records.layout_values.Statement.{statement}
 use Rattle.desk_cards.proofs.records.layout_values.Tie as tie
 
-abbrev invariant_loop : tie.invariant_loop
+abbrev invariant_loop : tie.invariant-loop-i
 invariant_loop card values₀ i₀ values i = Unit
 
-abbrev decreases_loop : tie.decreases_loop
+abbrev decreases_loop : tie.decreases-loop-i
 decreases_loop card values₀ i₀ values i = 46 - i
 
 pub layout_values_spec : {M : Type 1} → statement M

@@ -5,10 +5,10 @@ use borrow.Author.Rules.{rules}
 use Rattle.desk_cards.proofs.records.put_lengths.Statement.{statement}
 use Rattle.desk_cards.proofs.records.put_lengths.Tie as tie
 
-abbrev invariant_loop : tie.invariant_loop
+abbrev invariant_loop : tie.invariant-loop-k
 invariant_loop values₀ lengths k₀ values k = Unit
 
-abbrev decreases_loop : tie.decreases_loop
+abbrev decreases_loop : tie.decreases-loop-k
 decreases_loop values₀ lengths k₀ values k = 8 - k
 
 pub put_lengths_spec : {M : Type 1} → statement M

@@ -5,10 +5,10 @@ use borrow.Author.Rules.{rules}
 use Rattle.desk_cards.proofs.records.put_marks.Statement.{statement}
 use Rattle.desk_cards.proofs.records.put_marks.Tie as tie
 
-abbrev invariant_loop : tie.invariant_loop
+abbrev invariant_loop : tie.invariant-loop-k
 invariant_loop values₀ from marks k₀ values k = Unit
 
-abbrev decreases_loop : tie.decreases_loop
+abbrev decreases_loop : tie.decreases-loop-k
 decreases_loop values₀ from marks k₀ values k = 8 - k
 
 pub put_marks_spec : {M : Type 1} → statement M

@@ -9,26 +9,26 @@ use Rattle.mma.proofs.KnownKinds.{accumulator_form, accumulator_sound, form_soun
 use Rattle.mma.proofs.rows.form.Statement.{statement}
 use Rattle.mma.proofs.rows.form.Tie as tie
 
-is_one : (c : tie.Then1) → is_accumulator c.before.before.args.kind ≡ true
-is_one c = sym c.before.is-accumulator.ensures ∙ c.if1.true
+is_one : (c : tie.Then-is_accumulator) → is_accumulator c.args.kind ≡ true
+is_one c = sym c.is_accumulator.ensures ∙ c.if-is_accumulator.true
 
-is_none : (c : tie.Else1) → is_accumulator c.before.before.args.kind ≡ false
-is_none c = sym c.before.is-accumulator.ensures ∙ c.if1.false
+is_none : (c : tie.Else-is_accumulator) → is_accumulator c.args.kind ≡ false
+is_none c = sym c.is_accumulator.ensures ∙ c.if-is_accumulator.false
 
-returns : tie.Need-returns
+returns : tie.Need-returns-then-is_accumulator
 returns c =
-    let k = c.before.before.args.kind in
+    let k = c.args.kind in
     let same = accumulator_form k (is_one c) in
-    (same, subst FormSound (sym same) (form_sound k c.before.before.requires))
+    (same, subst FormSound (sym same) (form_sound k c.requires))
 
-returns_2 : tie.Need-returns-2
+returns_2 : tie.Need-returns
 returns_2 c =
-    let k = c.before.before.before.args.kind in
-    let same = c.row.ensures in
-    (same, subst FormSound (sym same) (form_sound k c.before.before.before.requires))
+    let k = c.args.kind in
+    let same = c.row-digits.ensures in
+    (same, subst FormSound (sym same) (form_sound k c.requires))
 
 pub form_spec : {M : Type 1} → statement M
 form_spec =
     tie.close
-    (tie.spec (λ c κs. search rules) (λ c. omega (arith, (accumulator_sound c.before.before.args.kind (is_one c)).0)) returns
-    (λ c κs. has_row c.before.before.args.kind c.before.before.requires (is_none c)) returns_2)
+    (tie.spec (λ c κs. search rules) (λ c. omega (arith, (accumulator_sound c.args.kind (is_one c)).0)) returns
+    (λ c κs. has_row c.args.kind c.requires (is_none c)) returns_2)

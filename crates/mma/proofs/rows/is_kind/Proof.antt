@@ -9,8 +9,8 @@ use Rattle.mma.proofs.rows.is_kind.Tie as tie
 
 returns : tie.Need-returns
 returns c =
-    let k = c.before.args.kind in
-    ap (λ (b : Bool). b || (leb 9 k && ltb k 46)) c.is-accumulator.ensures ∙ kind_known k
+    let k = c.args.kind in
+    ap (λ (b : Bool). b || (leb 9 k && ltb k 46)) c.is_accumulator.ensures ∙ kind_known k
 
 pub is_kind_spec : {M : Type 1} → statement M
 is_kind_spec = tie.close (tie.spec (λ c κs. search rules) (λ c. search rules) returns)
