@@ -14,6 +14,7 @@ use desk_lines_read::words::Word;
 use desk_lines_reply::reply::LineReply;
 use desk_lines_reply::{print, reply};
 use desk_plain::{fragments, masks, swizzles};
+use std::io::{Read, Result, Write};
 use text::input::Input;
 use text::{input, output};
 
@@ -70,15 +71,21 @@ fn answer(
 }
 
 // Writes out what is finished where the next step in the input is a read, which may wait.
-fn before_waiting(out: &[u8; 65536], at: usize, input: Input) -> usize {
+fn before_waiting<W: Write>(
+    to: &mut W,
+    out: &[u8; 65536],
+    at: usize,
+    input: Input,
+) -> Result<usize> {
     if input::is_used_up(input) {
-        return output::write_out(out, at);
+        return output::write_out(to, out, at);
     }
-    at
+    Ok(at)
 }
 
 // The answer to the line once it is whole, and the next place. An empty line gets none.
-fn answer_whole(
+fn answer_whole<W: Write>(
+    to: &mut W,
     out: &mut [u8; 65536],
     at: usize,
     line: &[u8; 4096],
@@ -87,12 +94,12 @@ fn answer_whole(
     lent: &mut [u32],
     second: &mut [u32],
     plan: &mut [u64],
-) -> usize {
+) -> Result<usize> {
     if input.whole & (0 < input.held) {
         let reply = answer(line, input.held, numbers, lent, second, plan);
-        return print::put(out, at, reply);
+        return print::put(to, out, at, reply);
     }
-    at
+    Ok(at)
 }
 
 // The most entries that the program lends to a table, and the most numbers to a plan: its own limits, not the
@@ -101,22 +108,22 @@ const MOST_LENT: usize = 16384;
 
 const MOST_PLAN: usize = 32768;
 
-// Answers every line of the input. A proved loop has to end, so it counts its turns down from a
+// Answers every line of the input. A proved loop has to end, so its turns are counted, up to a
 // number that no run uses up.
-fn answer_all(out: &mut [u8; 65536]) {
-    let mut part = io::large_buffer();
-    let mut line = io::buffer();
+fn answer_all<R: Read, W: Write>(from: &mut R, to: &mut W, out: &mut [u8; 65536]) -> Result<()> {
+    let mut part = [0u8; 65536];
+    let mut line = [0u8; 4096];
     let mut numbers = [0u64; 375];
     let mut lent = [0u32; MOST_LENT];
     let mut second = [0u32; MOST_LENT];
     let mut plan = [0u64; MOST_PLAN];
     let mut input = input::start();
     let mut at = 0;
-    let mut turns = u64::MAX;
-    while turns > 0 {
-        at = before_waiting(out, at, input);
-        input = input::advance(&mut part, &mut line, input);
+    for _ in 0..u64::MAX {
+        at = before_waiting(to, out, at, input)?;
+        input = input::advance(from, &mut part, &mut line, input)?;
         at = answer_whole(
+            to,
             out,
             at,
             &line,
@@ -125,16 +132,16 @@ fn answer_all(out: &mut [u8; 65536]) {
             &mut lent,
             &mut second,
             &mut plan,
-        );
+        )?;
         if input.ended {
             break;
         }
-        turns -= 1;
     }
-    output::write_out(out, at);
+    output::write_out(to, out, at)?;
+    Ok(())
 }
 
-fn main() {
-    let mut out = io::large_buffer();
-    answer_all(&mut out);
+fn main(rt: HostRuntime) -> Result<()> {
+    let mut out = [0u8; 65536];
+    answer_all(&mut rt.stdin(), &mut rt.stdout(), &mut out)
 }

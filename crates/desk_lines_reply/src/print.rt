@@ -3,6 +3,7 @@ use crate::reply::{Form, LineReply};
 use answers::Numbers;
 use desk_lines::numbers;
 use desk_lines::places::may_be_below;
+use std::io::{Result, Write};
 use std::num::wrapping_sub_u64;
 use text::output;
 
@@ -94,15 +95,20 @@ fn texted(out: &mut [u8; 65536], at: usize, reply: LineReply) -> usize {
 }
 
 // One reply, and the next place. A reply has at most 4,096 bytes.
-pub fn put(out: &mut [u8; 65536], at: usize, reply: LineReply) -> usize {
-    let room = output::make_room(out, at);
+pub fn put<W: Write>(
+    to: &mut W,
+    out: &mut [u8; 65536],
+    at: usize,
+    reply: LineReply,
+) -> Result<usize> {
+    let room = output::make_room(to, out, at)?;
     let form = reply.form;
-    match form {
+    Ok(match form {
         Form::Unknown => output::text(out, room, b"?\n"),
         Form::Plain => plain(out, room, reply),
         Form::Barred => barred(out, room, reply, false),
         Form::Signed => barred(out, room, reply, true),
         Form::Written => written(out, room, reply),
         Form::Text => texted(out, room, reply),
-    }
+    })
 }

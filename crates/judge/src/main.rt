@@ -8,6 +8,7 @@ ghost use Rattle.std.specs.Prelude.{◌≡◌, take};
 ghost use Rattle.typed_judged.specs.Judge.{JudgedKept};
 
 use answers::Numbers;
+use std::io::{Read, Result, Write};
 use text::input::Input;
 use text::{input, output};
 
@@ -15,21 +16,24 @@ use text::{input, output};
 const LENT: usize = 16384;
 
 // Reads on to the end of a line; where the input has ended before it, the line is empty. A proved loop has to end, so
-// it counts its turns down from a number that no run uses up.
-fn next_line(part: &mut [u8; 65536], line: &mut [u8; 4096], before: Input) -> Input {
+// its turns are counted, up to a number that no run uses up.
+fn next_line<R: Read>(
+    from: &mut R,
+    part: &mut [u8; 65536],
+    line: &mut [u8; 4096],
+    before: Input,
+) -> Result<Input> {
     if before.ended {
-        return input::start();
+        return Ok(input::start());
     }
     let mut input = before;
-    let mut turns = u64::MAX;
-    while turns > 0 {
-        input = input::advance(part, line, input);
+    for _ in 0..u64::MAX {
+        input = input::advance(from, part, line, input)?;
         if input.whole | input.ended {
             break;
         }
-        turns -= 1;
     }
-    input
+    Ok(input)
 }
 
 // What is kept of a line that is so long.
@@ -60,12 +64,12 @@ fn judge_kept(
 }
 
 // Judges the first two lines of the input.
-fn judge_input(part: &mut [u8; 65536]) -> Numbers {
-    let mut first = io::buffer();
-    let mut second = io::buffer();
-    let before = next_line(part, &mut first, input::start());
-    let after = next_line(part, &mut second, before);
-    judge_kept(&first, &second, before.held, after.held)
+fn judge_input<R: Read>(from: &mut R, part: &mut [u8; 65536]) -> Result<Numbers> {
+    let mut first = [0u8; 4096];
+    let mut second = [0u8; 4096];
+    let before = next_line(from, part, &mut first, input::start())?;
+    let after = next_line(from, part, &mut second, before)?;
+    Ok(judge_kept(&first, &second, before.held, after.held))
 }
 
 // A space and a number.
@@ -89,13 +93,14 @@ fn put(out: &mut [u8; 65536], answer: Numbers) -> usize {
     output::byte(out, place, b'\n')
 }
 
-fn say(out: &mut [u8; 65536], answer: Numbers) {
+fn say<W: Write>(to: &mut W, out: &mut [u8; 65536], answer: Numbers) -> Result<()> {
     let end = put(out, answer);
-    output::write_out(out, end);
+    output::write_out(to, out, end)?;
+    Ok(())
 }
 
-fn main() {
-    let mut part = io::large_buffer();
-    let answer = judge_input(&mut part);
-    say(&mut part, answer);
+fn main(rt: HostRuntime) -> Result<()> {
+    let mut part = [0u8; 65536];
+    let answer = judge_input(&mut rt.stdin(), &mut part)?;
+    say(&mut rt.stdout(), &mut part, answer)
 }

@@ -4,7 +4,7 @@
 
 ghost use Rattle.std.specs.Prelude.{◌^◌, ◌≤◌};
 
-use libc::STDIN_FILENO;
+use std::io::{Read, Result, Write};
 use text::output;
 
 // The input is read in parts of so many blocks. No run uses up so many parts, and each of their blocks has an index.
@@ -29,10 +29,16 @@ fn put(out: &mut [u8; 65536], at: usize, index: u64, number: u64) -> usize {
 }
 
 // The lines of the blocks of a part, of which the last may be short; together they are shorter than what is made room for.
-fn list(part: &[u8], first: u64, out: &mut [u8; 65536], at: usize) -> usize
+fn list<W: Write>(
+    part: &[u8],
+    first: u64,
+    to: &mut W,
+    out: &mut [u8; 65536],
+    at: usize,
+) -> Result<usize>
     requires { first ≤ 2 ^ 62 }
 {
-    let mut place = output::make_room(out, at);
+    let mut place = output::make_room(to, out, at)?;
     let mut index = first;
     let mut from: usize = 0;
     while from < part.len() {
@@ -41,7 +47,7 @@ fn list(part: &[u8], first: u64, out: &mut [u8; 65536], at: usize) -> usize
         index += 1;
         from += book::BLOCK;
     }
-    place
+    Ok(place)
 }
 
 // What is held of a part.
@@ -53,35 +59,54 @@ fn held_of(part: &[u8], held: usize) -> &[u8] {
 }
 
 // The lines of the blocks that are held of a part.
-fn list_held(part: &[u8; 65536], held: usize, first: u64, out: &mut [u8; 65536], at: usize) -> usize
+fn list_held<W: Write>(
+    part: &[u8; 65536],
+    held: usize,
+    first: u64,
+    to: &mut W,
+    out: &mut [u8; 65536],
+    at: usize,
+) -> Result<usize>
     requires { first ≤ 2 ^ 62 }
 {
-    list(held_of(part, held), first, out, at)
+    list(held_of(part, held), first, to, out, at)
 }
 
 // Fills a part, or as much of it as the input still has.
-fn read_part(part: &mut [u8; 65536]) -> usize {
-    io::read_full(STDIN_FILENO, part)
+fn read_part<R: Read>(from: &mut R, part: &mut [u8; 65536]) -> Result<usize> {
+    let mut done: usize = 0;
+    while done < part.len() {
+        let got = from.read(&mut part[done..])?;
+        if got == 0 {
+            break;
+        }
+        done += got;
+    }
+    Ok(done)
 }
 
-// Lists part after part; at the end what waits is written out. A proved loop has to end, so it counts its turns down from a
+// Lists part after part; at the end what waits is written out. A proved loop has to end, so its turns are counted, up to a
 // number that no run uses up.
-fn list_input(part: &mut [u8; 65536], out: &mut [u8; 65536]) {
+fn list_input<R: Read, W: Write>(
+    from: &mut R,
+    part: &mut [u8; 65536],
+    to: &mut W,
+    out: &mut [u8; 65536],
+) -> Result<()> {
     let mut at: usize = 0;
-    let mut turns = PARTS;
-    while turns > 0 {
-        let held = read_part(part);
+    for turn in 0..PARTS {
+        let held = read_part(from, part)?;
         if held == 0 {
             break;
         }
-        at = list_held(part, held, (PARTS - turns) * BLOCKS, out, at);
-        turns -= 1;
+        at = list_held(part, held, turn * BLOCKS, to, out, at)?;
     }
-    output::write_out(out, at);
+    output::write_out(to, out, at)?;
+    Ok(())
 }
 
-fn main() {
-    let mut part = io::large_buffer();
-    let mut out = io::large_buffer();
-    list_input(&mut part, &mut out);
+fn main(rt: HostRuntime) -> Result<()> {
+    let mut part = [0u8; 65536];
+    let mut out = [0u8; 65536];
+    list_input(&mut rt.stdin(), &mut part, &mut rt.stdout(), &mut out)
 }

@@ -1,5 +1,5 @@
-// Standard input, part by part and line by line.
-use libc::STDIN_FILENO;
+// An input, part by part and line by line.
+use std::io::{Read, Result};
 
 // Where the input stands: the next byte of the part that was read last and the end of that part, how
 // many bytes the line has so far, one more than the buffer where it is too long, whether the line is
@@ -73,23 +73,28 @@ fn scan(part: &[u8; 65536], line: &mut [u8; 4096], input: Input) -> Input {
 }
 
 // Reads the next part.
-fn refill(part: &mut [u8; 65536], input: Input) -> Input {
-    let got = libc::read(STDIN_FILENO, part);
+fn refill<R: Read>(from: &mut R, part: &mut [u8; 65536], input: Input) -> Result<Input> {
+    let got = from.read(part)?;
     let held = begun(input);
-    let ended = got <= 0;
-    Input {
+    let ended = got == 0;
+    Ok(Input {
         next: 0,
-        end: io::count(got, part),
+        end: got,
         held,
         whole: ended & (0 < held),
         ended,
-    }
+    })
 }
 
 // Goes on to the end of the line or of the part, or reads the next part where this one is used up.
-pub fn advance(part: &mut [u8; 65536], line: &mut [u8; 4096], input: Input) -> Input {
+pub fn advance<R: Read>(
+    from: &mut R,
+    part: &mut [u8; 65536],
+    line: &mut [u8; 4096],
+    input: Input,
+) -> Result<Input> {
     if is_used_up(input) {
-        return refill(part, input);
+        return refill(from, part, input);
     }
-    scan(part, line, input)
+    Ok(scan(part, line, input))
 }

@@ -1,5 +1,5 @@
 // Text out, put into a buffer that is written out when it fills or when the program asks for it.
-use libc::STDOUT_FILENO;
+use std::io::{Result, Write};
 
 // The last place at which a piece of text may begin: it has at most 4,096 bytes, and the buffer
 // 65,536.
@@ -18,10 +18,8 @@ pub fn byte(out: &mut [u8; 65536], at: usize, b: u8) -> usize {
 // A text, byte for byte.
 pub fn text(out: &mut [u8; 65536], at: usize, from: &[u8]) -> usize {
     let mut place = at;
-    let mut i = 0;
-    while i < from.len() {
-        place = byte(out, place, from[i]);
-        i += 1;
+    for b in from {
+        place = byte(out, place, *b);
     }
     place
 }
@@ -34,17 +32,17 @@ pub fn decimal(out: &mut [u8; 65536], at: usize, n: u64) -> usize {
 }
 
 // Writes out the text that waits, and begins the buffer anew.
-pub fn write_out(out: &[u8], at: usize) -> usize {
+pub fn write_out<W: Write>(to: &mut W, out: &[u8], at: usize) -> Result<usize> {
     if at <= out.len() {
-        io::write_all(STDOUT_FILENO, &out[0..at]);
+        to.write_all(&out[0..at])?;
     }
-    0
+    Ok(0)
 }
 
 // The place of the next piece of text: the buffer is written out first where it might not fit.
-pub fn make_room(out: &[u8], at: usize) -> usize {
+pub fn make_room<W: Write>(to: &mut W, out: &[u8], at: usize) -> Result<usize> {
     if at <= LAST_START {
-        return at;
+        return Ok(at);
     }
-    write_out(out, at)
+    write_out(to, out, at)
 }
