@@ -1,7 +1,7 @@
 """The questions of include/urszovely.h: numbers and memory go in, the four numbers of the answer and the memory come back.
 
 Two roads lead to the proved archive, and no other module knows which is taken. On x86-64 a shared library made from the archive is loaded
-here; on another processor a process of clients/python/asker.c over the same archive is asked, under the toolchain's emulator. ``./python``
+here; on another processor a process of clients/python/asker.c over the same archive is asked, under qemu-x86_64. ``./python``
 builds what is missing and says which road it is; where Python was started otherwise, it is asked at the first question.
 """
 import atexit
