@@ -1,5 +1,5 @@
 // Banks of shared memory: what the line and the bank in which an element begins come to, and the columns that do not collide there.
-// From a swizzled piece's group and its column the row is read back, modulo eight, by one formula over B (row-told), so that two rows with one group are one:
+// From a swizzled piece's group and its column the row is read back, modulo eight, by one formula over B (row_told), so that two rows with one group are one:
 // no mode is looked at by itself, and nothing is computed over a table. EightGroups names the group of each row, and so says where a piece is as well as that
 // two are apart.
 #![tactic(auto)]

@@ -2,8 +2,8 @@
 // It has one digit for each, and how far one step of it moves level and m.
 // From run to run an odometer turns (`claiming_turns`): a digit for each iter slower than the run's, and what one step of it adds to level
 // and m, made once a card; so a run begins by some additions and not by a walk with divisions. Digits are any numbers below their extents,
-// and what they lack of the next index is one step of the digit that comes next (`index-forth`, `index_back`); that they are the components
-// of that index is the one law in which anything is divided (`digits-back`).
+// and what they lack of the next index is one step of the digit that comes next (`index_forth`, `index_back`); that they are the components
+// of that index is the one law in which anything is divided (`digits_back`).
 #![tactic(auto)]
 
 ghost use Rattle.std.specs.Prelude.{◌≡◌, List, ◌<◌, ℤ, pos, ◌+ℤ◌, ◌*ℤ◌, length, get_or};

@@ -34,9 +34,9 @@ place kind lane i =
     let h : ℕ = high lane in
     get_or
     (at c (q + h) i  -- 0 A .f16 row-major
-    ∷ at c (i + h) q  -- 1 A .f16 column_major
+    ∷ at c (i + h) q  -- 1 A .f16 column-major
     ∷ at c q (i + h)  -- 2 B .f16 row-major
-    ∷ at c i (q + h)  -- 3 B .f16 column_major
+    ∷ at c i (q + h)  -- 3 B .f16 column-major
     ∷ at c (q + h) i  -- 4 C .f16
     ∷ at c ((lane & 1) + (i & 2) + h) ((i & 4) + (lane & 2) + (i & 1))  -- 5 C .f32
     ∷ at c (lane / 4) q  -- 6 A .f64

@@ -1,7 +1,7 @@
 // The program judge: eight lengths on one line and a notation on the next, one line out. It reads the first two
 // lines and no more of its input.
 // Of a line 4,096 bytes are kept: no line of eight lengths and no correct text is so long, so of a longer one the beginning is answered as the whole
-// (judge-kept), and judge_kept promises what the two whole lines come to. Only the reading of the lines and the printing are tested.
+// (typed_judged, proofs/Long.antt), and judge_kept promises what the two whole lines come to. Only the reading of the lines and the printing are tested.
 #![tactic(auto)]
 
 ghost use Rattle.std.specs.Prelude.{◌≡◌, take};

@@ -42,7 +42,7 @@ kind_table =
     ∷ kind 1 1 2 8 8 (λ w g t i. mma_at 0 (t + 4 * i) g) (turned_form 1 1 2 1 1)  -- 17 m16n8k8 .tf32 B
     ∷ kind 1 1 4 8 16 (λ w g t i. mma_at 0 g (4 * t + i)) (form 4 1 1 1 1)  -- 18 m8n8k16 .s8/.u8 A
     ∷ kind 1 1 4 16 8 (λ w g t i. mma_at 0 (4 * t + i) g) (turned_form 4 1 1 1 1)  -- 19 m8n8k16 .s8/.u8 B
-    ∷ kind 1 1 2 8 8 (λ w g t i. mma_at 0 g (2 * t + i)) (form 2 1 1 1 1)  -- 20 m8n8 C and D.s32, every k
+    ∷ kind 1 1 2 8 8 (λ w g t i. mma_at 0 g (2 * t + i)) (form 2 1 1 1 1)  -- 20 m8n8 C and D .s32, every k
     ∷ kind 1 1 8 16 16 (λ w g t i. mma_at 0 (g + 8 * (i / 4)) (4 * t + i % 4)) (form 4 2 1 1 1)  -- 21 m16n8k16 .s8/.u8 A
     ∷ kind 1 1 4 16 8 (λ w g t i. mma_at 0 (4 * t + i) g) (turned_form 4 1 1 1 1)  -- 22 m16n8k16 .s8/.u8 B
     ∷ kind 1 1 16 16 32 (λ w g t i. mma_at 0 (g + 8 * (i / 4 % 2)) (4 * t + i % 4 + 16 * (i / 8))) (form 4 2 2 1 1)  -- 23 m16n8k32 .s8/.u8 A

@@ -23,7 +23,7 @@ own_components card flat = unmarked 0 (marks_of card) (components (extents card)
 abbrev pub AreOne : Card → ℕ → ℕ → Type 0
 AreOne card x y = own_components card x ≡ own_components card y
 
--- the element that leads: the one whose components are the own ones; it is the smallest of those that are one with it (leader-smallest)
+-- the element that leads: the one whose components are the own ones; it is the smallest of those that are one with it (leader_smallest)
 unfoldable pub leader : Card → ℕ → ℕ
 leader card flat = row_major (extents card) (own_components card flat)
 

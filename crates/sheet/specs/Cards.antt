@@ -171,8 +171,8 @@ saying_counts shards replicas card =
     }
 
 -- one element with so many copies in a row
-abbrev pub in_a_Row : ℕ → Card
-in_a_Row copies = from_m (1 by 0 on m ∷ []) (copies by 1 on m ∷ []) (pos 0) copies unswizzled
+abbrev pub in_a_row : ℕ → Card
+in_a_row copies = from_m (1 by 0 on m ∷ []) (copies by 1 on m ∷ []) (pos 0) copies unswizzled
 
 -- as many iters as a card has room for, all of extent 1
 abbrev pub full_card : Card

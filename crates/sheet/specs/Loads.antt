@@ -6,7 +6,7 @@ use Rattle.descriptor.specs.Descriptor.{descriptor_of}
 use Rattle.descriptor.specs.declared.Fields.{Fields}
 use Rattle.mma_kinds.specs.Layouts.{mma_card}
 use Rattle.sheet.specs.Questions.{Question, swizzle, mode, bank, fragment, mma, descriptor, mask, place, verdict, owner, stretch, carry, plan, Reply, reply}
-use Rattle.sheet.specs.Cards.{tuple, tile, tile_x, unswizzled, only_on_m, at_m, backwards, last_row_first, copies_back, ◌by◌on◌, ◌back◌on◌, m, TLane, in_tensor_memory, wide_tile, doubled, element_copied, both_sides, scale_factors, with_marks, reused_factors, four_each, sixty_five, figure189, saying_counts, in_a_Row, full_card, two_from, two_turned, two_twice}
+use Rattle.sheet.specs.Cards.{tuple, tile, tile_x, unswizzled, only_on_m, at_m, backwards, last_row_first, copies_back, ◌by◌on◌, ◌back◌on◌, m, TLane, in_tensor_memory, wide_tile, doubled, element_copied, both_sides, scale_factors, with_marks, reused_factors, four_each, sixty_five, figure189, saying_counts, in_a_row, full_card, two_from, two_turned, two_twice}
 use Rattle.sheet.specs.Cards.{swizzle as swizzleBy}
 
 pub record Load : Type 0 where
@@ -121,13 +121,13 @@ loads =
     ∷ (fragment 6 22 0 is reply (answer 0 0 5 2) [])
     ∷ (fragment 7 22 0 is reply (answer 0 0 2 5) [])
     ∷ (fragment 8 21 1 is reply (answer 0 0 5 3) [])
-    -- the further kinds: A of m16n8k16.f16, ldmatrix.x4.trans, the last register of wgmma m64n256 D; kind 8 is document 01's, and there is no N of 264
+    -- the further kinds: A of m16n8k16 .f16, ldmatrix .x4.trans, the last register of wgmma m64n256 D; kind 8 is document 01's, and there is no N of 264
     ∷ (mma 12 0 22 5 is reply (answer 0 0 5 13) [])
     ∷ (mma 45 0 22 5 is reply (answer 0 2 5 5) [])
     ∷ (mma 1256 3 31 127 is reply (answer 0 0 63 255) [])
     ∷ (mma 8 0 0 0 is reply (answer 14 0 0 0) [])
     ∷ (mma 1264 0 0 0 is reply (answer 14 0 0 0) [])
-    -- and B of m16n8k4.tf32 as a layout, judged: every cell is occupied
+    -- and B of m16n8k4 .tf32 as a layout, judged: every cell is occupied
     ∷ (verdict (mma_card 15) (table 40) is reply (answer 0 32 32 32) [])
     -- masks, with source document 003's four examples: its example 4, and with sub-masks as long as printed
     ∷ (mask 32 32 0x0203028301020100 four_entries is reply (answer 0 14 3 0) (0x87 ∷ 0xc3 ∷ 0x1c ∷ 0x38 ∷ []))
@@ -251,8 +251,8 @@ loads =
     ∷ (verdict (only_on_m (32769 by 0 on m ∷ 2 by 0 on m ∷ []) 1 unswizzled) [] is reply (answer 5 0 0 0) [])
     ∷ (verdict (only_on_m (65536 by 0 on m ∷ 65536 by 0 on m ∷ []) 1 unswizzled) [] is reply (answer 5 0 0 0) [])
     -- the copies, the iters and the swizzle's numbers at their limits and past them
-    ∷ (verdict (in_a_Row 64) (table 64) is reply (answer 0 1 64 64) [])
-    ∷ (verdict (in_a_Row 65) (table 65) is reply (answer 5 0 0 0) [])
+    ∷ (verdict (in_a_row 64) (table 64) is reply (answer 0 1 64 64) [])
+    ∷ (verdict (in_a_row 65) (table 65) is reply (answer 5 0 0 0) [])
     ∷ (verdict full_card (table 1) is reply (answer 0 1 1 1) [])
     ∷ (verdict (saying_counts 9 4 full_card) (table 1) is reply (answer 1 0 0 0) [])
     ∷ (verdict (saying_counts 8 5 full_card) (table 1) is reply (answer 1 0 0 0) [])

@@ -51,7 +51,7 @@ pub record Loads : Type 0 where
   -- a lane of another computation, and a register past the kind's count, stay as given
   pub other_lane : entry Empty (dealt_lanes 5 1 singles lanes) 18 3 ≡ entry Empty lanes 18 3
   pub other_register : entry Empty (dealt_lanes 8 0 doubles lanes) 23 2 ≡ entry Empty lanes 23 2
-  -- A.f64 row 2, column 3; B.f64 row 3, column 2; C.f64 row 5, columns 6 and 7
+  -- A .f64 row 2, column 3; B .f64 row 3, column 2; C .f64 row 5, columns 6 and 7
   pub a_dealt : entry Empty (dealt_lanes 6 0 doubles lanes) 11 0 ≡ Double (value 19)
   pub b_dealt : entry Empty (dealt_lanes 7 0 doubles lanes) 11 0 ≡ Double (value 26)
   pub c_dealt : entry Empty (dealt_lanes 8 0 doubles lanes) 23 1 ≡ Double (value 47)
