@@ -4,7 +4,7 @@
 // swizzle whose step is 1 is a stretch of the table, looked at in one loop and numbered in another, and any other line takes two additions
 // and one look a cell. `Lined` says of every cell what became of it and knows no order: it is the cell of exactly one step, was nobody's and
 // has that step's element, or it is none of the line's and is as it was. So one law (`lined_more`) serves both loops, and copies claimed in
-// any order come to the owners of elements claimed in order (`Partly-more`, `partly_all`).
+// any order come to the owners of elements claimed in order (`partly_more`, `partly_all`).
 #![tactic(auto)]
 
 ghost use Rattle.std.specs.Prelude.{◌≡◌, true, ℕ, ◌+◌, ◌<◌, get_or};
