@@ -6,7 +6,7 @@ usage: python3 tools/respell.py [--check]      at the top of the repository
 A name in camel case (bitLength) and a name with dashes (low-bit) that a file of specs/ or proofs/ declares is written in snake case, wherever an
 .antt file, a clause or an import of an .rt file, an edit or a paper has it. Where a lemma would then have a definition's name it gets _lem.
 A file Contracts.antt of specs/ becomes Clauses.antt, since Rattle now makes a module of that name. Names of Rust code, strings, inputs and outputs
-stay. Names that Rattle makes (Need-.., After-..) are none of these and are left to tools/rename_places.py.
+stay. Names that Rattle makes (Need-.., After-..) are none of these and are left to tools/turn_proofs.py.
 """
 
 import collections

@@ -3,6 +3,8 @@
 // that lend owner tables.
 #![tactic(auto)]
 
+ghost use Rattle.std.specs.Prelude.{◌≡◌, OnErr};
+
 mod carrying;
 mod encodings;
 mod tables;
@@ -94,7 +96,9 @@ fn answer_whole<W: Write>(
     lent: &mut [u32],
     second: &mut [u32],
     plan: &mut [u64],
-) -> Result<usize> {
+) -> Result<usize>
+    ensures { OnErr result (out.new ≡ out.old) }
+{
     if input.whole & (0 < input.held) {
         let reply = answer(line, input.held, numbers, lent, second, plan);
         return print::put(to, out, at, reply);

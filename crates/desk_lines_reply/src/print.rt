@@ -1,4 +1,6 @@
 // Replies as text.
+ghost use Rattle.std.specs.Prelude.{◌≡◌, OnErr};
+
 use crate::reply::{Form, LineReply};
 use answers::Numbers;
 use desk_lines::numbers;
@@ -94,13 +96,15 @@ fn texted(out: &mut [u8; 65536], at: usize, reply: LineReply) -> usize {
     output::byte(out, place, b'\n')
 }
 
-// One reply, and the next place. A reply has at most 4,096 bytes.
+// One reply, and the next place. A reply has at most 4,096 bytes. A write that fails leaves the buffer as it was.
 pub fn put<W: Write>(
     to: &mut W,
     out: &mut [u8; 65536],
     at: usize,
     reply: LineReply,
-) -> Result<usize> {
+) -> Result<usize>
+    ensures { OnErr result (out.new ≡ out.old) }
+{
     let room = output::make_room(to, out, at)?;
     let form = reply.form;
     Ok(match form {

@@ -2,7 +2,7 @@
 // A last short block is 11; an empty input prints nothing.
 #![tactic(auto)]
 
-ghost use Rattle.std.specs.Prelude.{◌^◌, ◌≤◌};
+ghost use Rattle.std.specs.Prelude.{◌≡◌, ◌^◌, ◌≤◌, OnErr};
 
 use std::io::{Read, Result, Write};
 use text::output;
@@ -37,6 +37,7 @@ fn list<W: Write>(
     at: usize,
 ) -> Result<usize>
     requires { first ≤ 2 ^ 62 }
+    ensures { OnErr result (out.new ≡ out.old) }
 {
     let mut place = output::make_room(to, out, at)?;
     let mut index = first;
@@ -68,6 +69,7 @@ fn list_held<W: Write>(
     at: usize,
 ) -> Result<usize>
     requires { first ≤ 2 ^ 62 }
+    ensures { OnErr result (out.new ≡ out.old) }
 {
     list(held_of(part, held), first, to, out, at)
 }

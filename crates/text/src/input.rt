@@ -1,4 +1,6 @@
 // An input, part by part and line by line.
+ghost use Rattle.std.specs.Prelude.{◌≡◌, OnErr};
+
 use std::io::{Read, Result};
 
 // Where the input stands: the next byte of the part that was read last and the end of that part, how
@@ -86,13 +88,15 @@ fn refill<R: Read>(from: &mut R, part: &mut [u8; 65536], input: Input) -> Result
     })
 }
 
-// Goes on to the end of the line or of the part, or reads the next part where this one is used up.
+// Goes on to the end of the line or of the part, or reads the next part where this one is used up. A read that fails leaves the line as it was.
 pub fn advance<R: Read>(
     from: &mut R,
     part: &mut [u8; 65536],
     line: &mut [u8; 4096],
     input: Input,
-) -> Result<Input> {
+) -> Result<Input>
+    ensures { OnErr result (line.new ≡ line.old) }
+{
     if is_used_up(input) {
         return refill(from, part, input);
     }
