@@ -21,32 +21,23 @@ decreases_loop numbers₀ bits k₀ numbers k = 8 - k
 no_mark : (bits j : ℕ) → bits ≡ 0 → mark_number (yes j bits) ≡ 0
 no_mark bits j e = ap (λ (n : ℕ). mark_number (yes j n)) e ∙ ap (λ (n : ℕ). mark_number (eqb (n % 2) 1)) (zero-div (2 ^ j))
 
-returns : tie.Need-returns-then-bits-eq0 invariant_loop decreases_loop
-returns c =
-    let a = c.args in record {
-      whole = refl;
-      there = λ j h. c.requires.1 j h ∙ sym (no_mark a.bits j c.if-bits-eq0.true);
-      others = λ column j h apart. refl;
-    }
-
 long : (t : tie.In-loop-k invariant_loop decreases_loop) → length t.loop-k.numbers ≡ 56
 long t = t.loop-k.invariant.1.whole ∙ t.requires.0
-
-loop_again : tie.Need-loop-k-preserved invariant_loop decreases_loop
-loop_again c =
-    let t = c in
-    let l = t.loop-k in
-    let small : l.k < 8 = t.loop-k-test.true in
-    (omega arith, rw c.mark.ensures (put_more 0 6 _ l.k small (omega (arith, long t.before.before)) l.invariant.1))
-
-returns_2 : tie.Need-returns invariant_loop decreases_loop
-returns_2 c =
-    let l = c.loop-k in
-    let done : l.k ≡ 8 = omega (arith, l.invariant.0, c.loop-k-test.false) in
-    rw done at l.invariant.1
 
 pub put_marks_spec : {M : Type 1} → statement M
 put_marks_spec =
     tie.close
-    (tie.spec invariant_loop decreases_loop returns (λ c. (omega arith, put_none 0 _ _ _)) (λ c κs. omega (arith, c.loop-k-test.true)) (λ c. omega (arith, c.loop-k-test.true)) (λ c. omega (arith, c.loop-k-test.true)) (λ c. omega (arith, long c.before.before, c.loop-k-test.true))
-    (λ c. omega (arith, c.loop-k-test.true)) (λ c. omega (arith, c.loop-k-test.true)) loop_again returns_2)
+    (tie.spec invariant_loop decreases_loop (λ c.
+        let a = c.args in record {
+          whole = refl;
+          there = λ j h. c.requires.1 j h ∙ sym (no_mark a.bits j (omega arith));
+          others = λ column j h apart. refl;
+        }) (λ c. (omega arith, put_none 0 _ _ _)) (λ c κs. omega (arith, c.loop-k-test.true)) (λ c. omega (arith, c.loop-k-test.true)) (λ c. omega (arith, c.loop-k-test.true)) (λ c. omega (arith, long c.before.before, c.loop-k-test.true))
+    (λ c. omega (arith, c.loop-k-test.true)) (λ c. omega (arith, c.loop-k-test.true)) (λ c.
+        let t = c in
+        let l = t.loop-k in
+        let small : l.k < 8 = t.loop-k-test.true in
+        (omega arith, rw c.mark.ensures (put_more 0 6 _ l.k small (omega (arith, long t.before.before)) l.invariant.1))) (λ c.
+        let l = c.loop-k in
+        let done : l.k ≡ 8 = omega (arith, l.invariant.0, c.loop-k-test.false) in
+        rw done at l.invariant.1))

@@ -22,11 +22,6 @@ card s = card_of s.args.numbers.now s.args.strides.now
 exact : (s : tie.Start) → length s.args.table.now ≡ cells (card s)
 exact s = cleared_size (card s) s.requires.1.1
 
-claim_quickly_requires : tie.Need-claim_quickly-occupied-requires
-claim_quickly_requires c κs =
-    let s = c in
-    (record { admits = admits s.requires.0.0; all_elements = s.requires.0.0.all_elements; inside = s.requires.1.0; cleared = s.requires.1.1 }, s.requires.0.1.adds)
-
 -- after the quick pass
 module _ (q : tie.After-claim_quickly-occupied) where
   abbrev start : tie.Start
@@ -38,28 +33,21 @@ module _ (q : tie.After-claim_quickly-occupied) where
   kept : length after ≡ cells (card start)
   kept = q.claim_quickly-occupied.auto.table ∙ exact start
 
-returns : tie.Need-returns-then-occupied-ne0
-returns c =
-    let q = c in
-    let s = start q.before.before.before in
-    approved_promise (card s) s.args.table.now s.requires.0.0.admitted (exact s) s.requires.1.0
-    (subst (λ (n : ℕ). OwnedTable (placed (card s)) n (cells (card s)) (after q.before.before.before) q.claim_quickly-occupied.result) s.requires.0.0.all_elements
-    (q.claim_quickly-occupied.ensures.0 (omega (arith, c.if-occupied-ne0.true)))) s.requires.0.0.all_elements (kept q.before.before.before)
-
-claim_runs_requires : tie.Need-claim_runs-requires
-claim_runs_requires c κs =
-    let q = c in
-    let s = start q.before.before.before.before.before in
-    (s.requires.0, (s.requires.1.0, q.claim_quickly-occupied.ensures.1 c.if-occupied-ne0.false))
-
-returns_2 : tie.Need-returns
-returns_2 c =
-    let r = c in
-    let q = r in
-    let s = start q.before.before.before.before.before.before.before.before.before.before in
-    cells_anew (card s) s.args.table.now (after q.before.before.before.before.before.before.before.before.before.before) s.requires.0.0.admitted (exact s) (kept q.before.before.before.before.before.before.before.before.before.before) r.claim_runs.ensures
-
 pub claim_twice_spec : {M : Type 1} → statement M
 claim_twice_spec =
     tie.close
-    (tie.spec claim_quickly_requires (λ c. search rules) returns claim_runs_requires (λ c. search rules) (λ c. search rules) returns_2)
+    (tie.spec (λ c κs.
+        let s = c in
+        (record { admits = admits s.requires.0.0; all_elements = s.requires.0.0.all_elements; inside = s.requires.1.0; cleared = s.requires.1.1 }, s.requires.0.1.adds)) (λ c. search rules) (λ c.
+        let q = c in
+        let s = start q.before.before.before in
+        approved_promise (card s) s.args.table.now s.requires.0.0.admitted (exact s) s.requires.1.0
+        (subst (λ (n : ℕ). OwnedTable (placed (card s)) n (cells (card s)) (after q.before.before.before) q.claim_quickly-occupied.result) s.requires.0.0.all_elements
+        (q.claim_quickly-occupied.ensures.0 (omega arith))) s.requires.0.0.all_elements (kept q.before.before.before)) (λ c κs.
+        let q = c in
+        let s = start q.before.before.before.before.before in
+        (s.requires.0, (s.requires.1.0, q.claim_quickly-occupied.ensures.1 (omega arith)))) (λ c. search rules) (λ c. search rules) (λ c.
+        let r = c in
+        let q = r in
+        let s = start q.before.before.before.before.before.before.before.before.before.before in
+        cells_anew (card s) s.args.table.now (after q.before.before.before.before.before.before.before.before.before.before) s.requires.0.0.admitted (exact s) (kept q.before.before.before.before.before.before.before.before.before.before) r.claim_runs.ensures))

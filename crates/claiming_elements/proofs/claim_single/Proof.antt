@@ -35,16 +35,6 @@ level_back c = to_z-of_z {w = w64} {z = c.args.place.level} (record { sfits = c.
 m_back : (c : tie.After-struct_told-1) → let p = c.args.place in to_z w64 (of_z w64 p.m) ≡ p.m
 m_back c = to_z-of_z {w = w64} {z = c.args.place.m} (record { sfits = c.struct_told-1.given.1.0.1 })
 
-cell_at_requires : tie.Need-cell_at-cell-requires
-cell_at_requires c κs =
-    let d = c in
-    let s = d in
-    let a = s.args in
-    let b = s.requires.0 in
-    rw (level_back d.before, m_back d.before)
-    (subst (λ (w : Swizzle). CellThere w a.place.level a.place.m) (sym s.requires.2)
-    (single_there a.numbers.now a.strides.now b.admits b.claimable.inside a.flat.0 0 b.claimable.element (one s.before.before.before) refl b.begins.level_is b.begins.m_is))
-
 -- the cell that was found
 cell_found : (c : tie.After-cell_at-cell) → let s = c in c.cell_at-cell.result.0 ≡ cell_of (spot (card s.before.before.before.before) s.args.flat.0 0)
 cell_found c =
@@ -73,15 +63,6 @@ row_is c =
     let s = c in
     single_row (card s.before.before.before.before) s.args.flat.0 s.requires.1 ∙ ap (λ (n : ℕ). n ∷ []) (sym (cell_found c))
 
-slice_read_if1 : tie.Need-bounds-table-cell
-slice_read_if1 c = cell_here c.before
-
-returns : tie.Need-returns-then-table-cell-ne0
-returns c =
-    let d = c in
-    let s = d in
-    single_met (copy_cells (card s.before.before.before.before.before.before) s.args.flat.0) s.args.table.now s.args.flat.0 d.cell_at-cell.result.0 (row_is d.before.before) c.if-table-cell-ne0.true
-
 abbrev found : tie.After-struct_known-1 → tie.After-cell_at-cell
 found c = c.before.before.before
 
@@ -90,17 +71,21 @@ small c =
     let s = (found c) in
     omega (arith, s.requires.0.claimable.element, (sized (card s.before.before.before.before) s.requires.0.admits.admitted).most_elements_lem)
 
-slice_write_table : tie.Need-bounds-table-cell-2
-slice_write_table c = cell_here (found c)
-
-returns_2 : tie.Need-returns
-returns_2 c =
-    let d = found c in
-    let s = d in
-    single_claimed (copy_cells (card s.before.before.before.before) s.args.flat.0) s.args.table.now s.args.flat.0 d.cell_at-cell.result.0 (row_is d) (cell_here d) c.if-table-cell-ne0.false
-
 pub claim_single_spec : {M : Type 1} → statement M
 claim_single_spec =
     tie.close
-    (tie.spec cell_at_requires (λ c. omega (arith, cell_here c)) slice_read_if1 returns (λ c. omega (arith, small c)) (λ c. omega (arith, small c))
-    (λ c. omega (arith, cell_here (found c))) slice_write_table (λ c. simp length-set) returns_2)
+    (tie.spec (λ c κs.
+        let d = c in
+        let s = d in
+        let a = s.args in
+        let b = s.requires.0 in
+        rw (level_back d.before, m_back d.before)
+        (subst (λ (w : Swizzle). CellThere w a.place.level a.place.m) (sym s.requires.2)
+        (single_there a.numbers.now a.strides.now b.admits b.claimable.inside a.flat.0 0 b.claimable.element (one s.before.before.before) refl b.begins.level_is b.begins.m_is))) (λ c. omega (arith, cell_here c)) (λ c. cell_here c.before) (λ c.
+        let d = c in
+        let s = d in
+        single_met (copy_cells (card s.before.before.before.before.before.before) s.args.flat.0) s.args.table.now s.args.flat.0 d.cell_at-cell.result.0 (row_is d.before.before) (λ e. omega arith)) (λ c. omega (arith, small c)) (λ c. omega (arith, small c))
+    (λ c. omega (arith, cell_here (found c))) (λ c. cell_here (found c)) (λ c. simp length-set) (λ c.
+        let d = found c in
+        let s = d in
+        single_claimed (copy_cells (card s.before.before.before.before) s.args.flat.0) s.args.table.now s.args.flat.0 d.cell_at-cell.result.0 (row_is d) (cell_here d) (omega arith)))

@@ -46,26 +46,14 @@ turn t strides =
     ∙ run_next (iter_at numbers strides 0 (k - 1)) (from numbers strides (k - 1 + 1)) (rw back at (t.loop-k.invariant.1 strides))
     ∙ ap (λ (n : ℕ). get_or numbers n 0) (omega arith)
 
-loop_holds : tie.Need-loop-k-init invariant_loop decreases_loop
-loop_holds c = (omega arith, λ strides. ap run_length (slice_empty (get_or c.args.numbers.now 40 0) (map (iter_at c.args.numbers.now strides 0) slots)))
-
-returns : tie.Need-returns-then-extent-ne1 invariant_loop decreases_loop
-returns c strides =
-    let t = c in
-    let numbers = t.args.numbers.now in
-    sym (run_behind (t.loop-k.k - 1) (from numbers strides 0) (λ e. c.if-extent-ne1.true (sym (turn t.before.before.before strides) ∙ e)) ∙ turn t.before.before.before strides)
-
-loop_again : tie.Need-loop-k-preserved invariant_loop decreases_loop
-loop_again c = (omega arith, λ strides. turn c.before.before.before strides ∙ c.if-extent-ne1.false)
-
-returns_2 : tie.Need-returns invariant_loop decreases_loop
-returns_2 c strides =
-    let l = c.loop-k in
-    let end : l.k ≡ 0 = omega arith in
-    sym (rw end at (l.invariant.1 strides))
-
 pub run_length_spec : {M : Type 1} → statement M
 run_length_spec =
     tie.close
-    (tie.spec invariant_loop decreases_loop (λ c. omega arith) (λ c. omega arith) (λ c. omega arith) loop_holds (λ c. omega arith) (λ c. omega arith) (λ c. omega arith) returns
-    (λ c. omega arith) loop_again returns_2)
+    (tie.spec invariant_loop decreases_loop (λ c. omega arith) (λ c. omega arith) (λ c. omega arith) (λ c. (omega arith, λ strides. ap run_length (slice_empty (get_or c.args.numbers.now 40 0) (map (iter_at c.args.numbers.now strides 0) slots)))) (λ c. omega arith) (λ c. omega arith) (λ c. omega arith) (λ c strides.
+        let t = c in
+        let numbers = t.args.numbers.now in
+        sym (run_behind (t.loop-k.k - 1) (from numbers strides 0) (λ e. omega (arith, sym (turn t.before.before.before strides) ∙ e)) ∙ turn t.before.before.before strides))
+    (λ c. omega arith) (λ c. (omega arith, λ strides. omega (arith, turn c.before.before.before strides))) (λ c strides.
+        let l = c.loop-k in
+        let end : l.k ≡ 0 = omega arith in
+        sym (rw end at (l.invariant.1 strides))))

@@ -12,20 +12,14 @@ use Rattle.mma_cards.proofs.Pushed.{follows_one, follows_none}
 use Rattle.mma_cards.proofs.push.Statement.{statement}
 use Rattle.mma_cards.proofs.push.Tie as tie
 
-returns : tie.Need-returns-then-extent-eq1
-returns c =
-    let a = c.args in
-    (omega arith, follows_none a.iters (record { extent = a.extent; stride = pos a.stride; axis = a.axis }) c.if-extent-eq1.true)
-
-returns_2 : tie.Need-returns
-returns_2 c =
-    let a = c.args in
-    let x : Iter = record { extent = a.extent; stride = pos a.stride; axis = a.axis } in (
-      omega arith,
-      subst (λ (y : Iter). Follows a.iters (record { at = set a.iters.at a.iters.count y; count = a.iters.count + 1 }) (x ∷ []))
-          (sym c.iter.ensures) (follows_one a.iters x c.if-extent-eq1.false),
-    )
-
 pub push_spec : {M : Type 1} → statement M
 push_spec =
-    tie.close (tie.spec returns (λ c κs. search rules) (λ c. search rules) (λ c. search rules) (λ c. search rules) returns_2)
+    tie.close (tie.spec (λ c.
+        let a = c.args in
+        (omega arith, follows_none a.iters (record { extent = a.extent; stride = pos a.stride; axis = a.axis }) (omega arith))) (λ c κs. search rules) (λ c. search rules) (λ c. search rules) (λ c. search rules) (λ c.
+        let a = c.args in
+        let x : Iter = record { extent = a.extent; stride = pos a.stride; axis = a.axis } in (
+          omega arith,
+          subst (λ (y : Iter). Follows a.iters (record { at = set a.iters.at a.iters.count y; count = a.iters.count + 1 }) (x ∷ []))
+              (sym c.iter.ensures) (follows_one a.iters x (λ e. omega arith)),
+        )))

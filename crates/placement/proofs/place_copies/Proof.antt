@@ -44,41 +44,23 @@ cells_are : (p : tie.After-place_row-outside) → cells p ≡ copy_cells (asked 
 unfolding copy_cells
 cells_are p = let s = start p in ap (cells_of (spot (asked s) s.args.flat.0)) (long s ∙ s.requires.1)
 
-array_borrow_prefix_row : tie.Need-slice_bounds-row-end
-array_borrow_prefix_row c = fits c.before
-
-slice_aggregate_place_row : tie.Need-slice_bounds-place_row-end
-slice_aggregate_place_row c = sym (long c.before.before)
-
-place_row_requires : tie.Need-place_row-outside-requires
-place_row_requires c κs = c.requires.0
-
-returns : tie.Need-returns-then-outside-lt-AXES
-returns c = record { smallest_axis = axis_is c.before.before; refused = λ h. refl; placed = λ h. absurd (omega (arith, c.if-outside-lt-AXES.true)) }
-
-write_requires : tie.Need-write-requires
-write_requires c κs =
-    let p = c in
-    let n = length (start p.before.before.before.before).args.memory.now in
-    (rw p.place_row-outside.ensures.cells (length_front (replicate 64 0) (cells p.before.before.before.before) n (cells_long p.before.before.before.before ∙ sym (long (start p.before.before.before.before)))), fits (start p.before.before.before.before))
-
-returns_2 : tie.Need-returns
-returns_2 c =
-    let w = c in
-    let two = w in
-    let p = two in
-    let n = length (start p.before.before.before.before.before.before.before).args.memory.now in
-    record {
-      smallest_axis = axis_is p.before.before.before.before.before.before.before;
-      refused = λ h. absurd (omega (arith, two.if-outside-lt-AXES.false));
-      placed = λ h.
-          w.write.ensures
-          ∙ ap (λ (l : List ℕ). take n (l ++ drop n (replicate 64 0))) p.place_row-outside.ensures.cells
-          ∙ take_at (cells p.before.before.before.before.before.before.before) (drop n (replicate 64 0)) n (cells_long p.before.before.before.before.before.before.before)
-          ∙ cells_are p.before.before.before.before.before.before.before;
-    }
-
 pub place_copies_spec : {M : Type 1} → statement M
 place_copies_spec =
     tie.close
-    (tie.spec array_borrow_prefix_row slice_aggregate_place_row place_row_requires returns write_requires (λ c. search rules) returns_2)
+    (tie.spec (λ c. fits c.before) (λ c. sym (long c.before.before)) (λ c κs. c.requires.0) (λ c. record { smallest_axis = axis_is c.before.before; refused = λ h. refl; placed = λ h. absurd (omega arith) }) (λ c κs.
+        let p = c in
+        let n = length (start p.before.before.before.before).args.memory.now in
+        (rw p.place_row-outside.ensures.cells (length_front (replicate 64 0) (cells p.before.before.before.before) n (cells_long p.before.before.before.before ∙ sym (long (start p.before.before.before.before)))), fits (start p.before.before.before.before))) (λ c. search rules) (λ c.
+        let w = c in
+        let two = w in
+        let p = two in
+        let n = length (start p.before.before.before.before.before.before.before).args.memory.now in
+        record {
+          smallest_axis = axis_is p.before.before.before.before.before.before.before;
+          refused = λ h. absurd (omega arith);
+          placed = λ h.
+              w.write.ensures
+              ∙ ap (λ (l : List ℕ). take n (l ++ drop n (replicate 64 0))) p.place_row-outside.ensures.cells
+              ∙ take_at (cells p.before.before.before.before.before.before.before) (drop n (replicate 64 0)) n (cells_long p.before.before.before.before.before.before.before)
+              ∙ cells_are p.before.before.before.before.before.before.before;
+        }))
