@@ -37,17 +37,17 @@ pub claim_twice_spec : {M : Type 1} → statement M
 claim_twice_spec =
     tie.close
     (tie.spec (λ c κs.
-        let s = c in
-        (record { admits = admits s.requires.0.0; all_elements = s.requires.0.0.all_elements; inside = s.requires.1.0; cleared = s.requires.1.1 }, s.requires.0.1.adds)) (λ c. search rules) (λ c.
-        let q = c in
-        let s = start q.before.before.before in
-        approved_promise (card s) s.args.table.now s.requires.0.0.admitted (exact s) s.requires.1.0
-        (subst (λ (n : ℕ). OwnedTable (placed (card s)) n (cells (card s)) (after q.before.before.before) q.claim_quickly-occupied.result) s.requires.0.0.all_elements
-        (q.claim_quickly-occupied.ensures.0 (omega arith))) s.requires.0.0.all_elements (kept q.before.before.before)) (λ c κs.
-        let q = c in
-        let s = start q.before.before.before.before.before in
-        (s.requires.0, (s.requires.1.0, q.claim_quickly-occupied.ensures.1 (omega arith)))) (λ c. search rules) (λ c. search rules) (λ c.
-        let r = c in
-        let q = r in
-        let s = start q.before.before.before.before.before.before.before.before.before.before in
-        cells_anew (card s) s.args.table.now (after q.before.before.before.before.before.before.before.before.before.before) s.requires.0.0.admitted (exact s) (kept q.before.before.before.before.before.before.before.before.before.before) r.claim_runs.ensures))
+    let s = c in
+    (record { admits = admits s.requires.0.0; all_elements = s.requires.0.0.all_elements; inside = s.requires.1.0; cleared = s.requires.1.1 }, s.requires.0.1.adds)) (λ c. search rules) (λ c.
+    let q = c in
+    let s = start q.before.before.before in
+    approved_promise (card s) s.args.table.now s.requires.0.0.admitted (exact s) s.requires.1.0
+    (subst (λ (n : ℕ). OwnedTable (placed (card s)) n (cells (card s)) (after q.before.before.before) q.claim_quickly-occupied.result) s.requires.0.0.all_elements
+    (q.claim_quickly-occupied.ensures.0 (omega arith))) s.requires.0.0.all_elements (kept q.before.before.before)) (λ c κs.
+    let q = c in
+    let s = start q.before.before.before.before.before in
+    (s.requires.0, (s.requires.1.0, q.claim_quickly-occupied.ensures.1 (omega arith)))) (λ c. search rules) (λ c. search rules) (λ c.
+    let r = c in
+    let q = r in
+    let s = start q.before.before.before.before.before.before.before.before.before.before in
+    cells_anew (card s) s.args.table.now (after q.before.before.before.before.before.before.before.before.before.before) s.requires.0.0.admitted (exact s) (kept q.before.before.before.before.before.before.before.before.before.before) r.claim_runs.ensures))

@@ -29,6 +29,7 @@ use Rattle.claiming_runs.proofs.Places.{base_near}
 use Rattle.claiming_elements.proofs.Laws.{claims_count, claims_more, claims_met}
 use Rattle.claiming_elements.proofs.claim_run.Statement.{statement}
 use Rattle.claiming_elements.proofs.claim_run.Tie as tie
+use Rattle.claiming_elements.proofs.claim_run.Lts as lts
 
 abbrev invariant_loop : tie.invariant-loop-done
 invariant_loop numbers strides levels ms row₀ table₀ first many by level-step m-step level₀ m₀ cells₀ done₀ row table level m new done =
@@ -142,43 +143,46 @@ module _ (m : tie.After-claim_element-newly invariant_loop decreases_loop) where
       (omega (arith, (base_near (s turn).args.numbers.now (s turn).args.strides.now (s turn).requires.0.admits (flat turn) (begins turn)).1))
       (rw (m_step_back (k turn)) (s turn).requires.0.near.1)
 
-pub claim_run_spec : {M : Type 1} → statement M
-claim_run_spec =
-    tie.close
-    (tie.spec invariant_loop decreases_loop (λ c κs. c.requires.0.admits.whole.all_numbers) (λ c.
-        let s = start c in
-        let bits : ℤ → ℤ = λ z. to_z w64 (of_z w64 z) in (
-          omega arith,
-          refl,
-          owned_as (card s) (omega arith) (omega arith) s.requires.0.owned,
-          no_step (bits (a c).level) (bits (b c).level),
-          no_step (bits (a c).m) (bits (b c).m),
-        ))
+-- the answers stand apart from `close`, so that they are read where a callee is not proved
+answered : {M : Type 1} → lts.Closed tie.the-claims tie.handed_pre tie.handed_post M
+answered =
+    tie.spec invariant_loop decreases_loop (λ c κs. c.requires.0.admits.whole.all_numbers) (λ c.
+    let s = start c in
+    let bits : ℤ → ℤ = λ z. to_z w64 (of_z w64 z) in (
+      omega arith,
+      refl,
+      owned_as (card s) (omega arith) (omega arith) s.requires.0.owned,
+      no_step (bits (a c).level) (bits (b c).level),
+      no_step (bits (a c).m) (bits (b c).m),
+    ))
     (λ c. omega (arith, (claimable c).element, (sized (card (s c)) (s c).requires.0.admits.admitted).most_elements_lem)) (λ c κs.
-        let t = c in
-        let p = (s t.before.before).requires in
-        ((record { admits = p.0.admits; claimable = claimable t.before.before; begins = begins t.before.before }, (k t.before.before).swizzle_of-by.ensures), record { adds = p.1.adds; one_each = t.loop-done.invariant.1 ∙ p.1.one_each }))
+    let t = c in
+    let p = (s t.before.before).requires in
+    ((record { admits = p.0.admits; claimable = claimable t.before.before; begins = begins t.before.before }, (k t.before.before).swizzle_of-by.ensures), record { adds = p.1.adds; one_each = t.loop-done.invariant.1 ∙ p.1.one_each }))
     (λ c. let d = c in d.claim_element-newly.auto.row ∙ (turn d.before.before.before.before.before).loop-done.invariant.1)
     (λ c. let d = c in size d.before.before.before.before.before ∙ sym (s (turn d.before.before.before.before.before)).requires.0.owned.size)
     (λ c.
-        let d = c in
-        let none = met d.before.before.before.before.before (omega arith) in
-        record { most = omega (arith, below (turn d.before.before.before.before.before)); owned = rw none.1 (turn d.before.before.before.before.before).loop-done.invariant.2; met = λ h. none.0 }) (λ c. omega (arith, counted c.before.before.before.before.before, (sized (card (s (turn c.before.before.before.before.before))) (s (turn c.before.before.before.before.before)).requires.0.admits.admitted).most_cells_lem))
+    let d = c in
+    let none = met d.before.before.before.before.before (omega arith) in
+    record { most = omega (arith, below (turn d.before.before.before.before.before)); owned = rw none.1 (turn d.before.before.before.before.before).loop-done.invariant.2; met = λ h. none.0 }) (λ c. omega (arith, counted c.before.before.before.before.before, (sized (card (s (turn c.before.before.before.before.before))) (s (turn c.before.before.before.before.before)).requires.0.admits.admitted).most_cells_lem))
     (λ c. level_fits c.before.before.before.before.before) (λ c. m_fits c.before.before.before.before.before)
     (λ c. omega (arith, (claimable (turn c.before.before.before.before.before)).element, (sized (card (s (turn c.before.before.before.before.before))) (s (turn c.before.before.before.before.before)).requires.0.admits.admitted).most_elements_lem)) (λ c. omega (arith, below (turn c.before.before.before.before.before)))
     (λ c.
-        let d = c.before.before.before.before.before in
-        let l = (turn d).loop-done in
-        let q = k (turn d) in
-        let bits : ℤ → ℤ = λ z. to_z w64 (of_z w64 z) in
-        let some : 0 < d.claim_element-newly.result = omega arith in (
-          omega (arith, below (turn d)),
-          d.claim_element-newly.auto.row ∙ l.invariant.1,
-          owned_as (card (s (turn d))) (omega arith) (omega arith) (more d some),
-          to_z-of_z (level_fits d) ∙ stepped (bits (a q).level) (bits (b q).level) (to_z w64 l.level-bits) l.done l.invariant.3,
-          to_z-of_z (m_fits d) ∙ stepped (bits (a q).m) (bits (b q).m) (to_z w64 l.m-bits) l.done l.invariant.4,
-        )) (λ c. c.loop-done.invariant.1) (λ c. c.loop-done.invariant.2.size ∙ sym (start c.before.before).requires.0.owned.size) (λ c.
-        let l = c.loop-done in
-        let s = start c.before.before in
-        let end : l.done ≡ s.args.run.length = omega (arith, l.invariant.0) in
-        record { most = omega arith; owned = rw end at l.invariant.2; met = λ h. absurd (omega arith) }))
+    let d = c.before.before.before.before.before in
+    let l = (turn d).loop-done in
+    let q = k (turn d) in
+    let bits : ℤ → ℤ = λ z. to_z w64 (of_z w64 z) in
+    let some : 0 < d.claim_element-newly.result = omega arith in (
+      omega (arith, below (turn d)),
+      d.claim_element-newly.auto.row ∙ l.invariant.1,
+      owned_as (card (s (turn d))) (omega arith) (omega arith) (more d some),
+      to_z-of_z (level_fits d) ∙ stepped (bits (a q).level) (bits (b q).level) (to_z w64 l.level-bits) l.done l.invariant.3,
+      to_z-of_z (m_fits d) ∙ stepped (bits (a q).m) (bits (b q).m) (to_z w64 l.m-bits) l.done l.invariant.4,
+    )) (λ c. c.loop-done.invariant.1) (λ c. c.loop-done.invariant.2.size ∙ sym (start c.before.before).requires.0.owned.size) (λ c.
+    let l = c.loop-done in
+    let s = start c.before.before in
+    let end : l.done ≡ s.args.run.length = omega (arith, l.invariant.0) in
+    record { most = omega arith; owned = rw end at l.invariant.2; met = λ h. absurd (omega arith) })
+
+pub claim_run_spec : {M : Type 1} → statement M
+claim_run_spec = tie.close answered

@@ -75,17 +75,17 @@ pub claim_single_spec : {M : Type 1} → statement M
 claim_single_spec =
     tie.close
     (tie.spec (λ c κs.
-        let d = c in
-        let s = d in
-        let a = s.args in
-        let b = s.requires.0 in
-        rw (level_back d.before, m_back d.before)
-        (subst (λ (w : Swizzle). CellThere w a.place.level a.place.m) (sym s.requires.2)
-        (single_there a.numbers.now a.strides.now b.admits b.claimable.inside a.flat.0 0 b.claimable.element (one s.before.before.before) refl b.begins.level_is b.begins.m_is))) (λ c. omega (arith, cell_here c)) (λ c. cell_here c.before) (λ c.
-        let d = c in
-        let s = d in
-        single_met (copy_cells (card s.before.before.before.before.before.before) s.args.flat.0) s.args.table.now s.args.flat.0 d.cell_at-cell.result.0 (row_is d.before.before) (λ e. omega arith)) (λ c. omega (arith, small c)) (λ c. omega (arith, small c))
+    let d = c in
+    let s = d in
+    let a = s.args in
+    let b = s.requires.0 in
+    rw (level_back d.before, m_back d.before)
+    (subst (λ (w : Swizzle). CellThere w a.place.level a.place.m) (sym s.requires.2)
+    (single_there a.numbers.now a.strides.now b.admits b.claimable.inside a.flat.0 0 b.claimable.element (one s.before.before.before) refl b.begins.level_is b.begins.m_is))) (λ c. omega (arith, cell_here c)) (λ c. cell_here c.before) (λ c.
+    let d = c in
+    let s = d in
+    single_met (copy_cells (card s.before.before.before.before.before.before) s.args.flat.0) s.args.table.now s.args.flat.0 d.cell_at-cell.result.0 (row_is d.before.before) (λ e. omega arith)) (λ c. omega (arith, small c)) (λ c. omega (arith, small c))
     (λ c. omega (arith, cell_here (found c))) (λ c. cell_here (found c)) (λ c. simp length-set) (λ c.
-        let d = found c in
-        let s = d in
-        single_claimed (copy_cells (card s.before.before.before.before) s.args.flat.0) s.args.table.now s.args.flat.0 d.cell_at-cell.result.0 (row_is d) (cell_here d) (omega arith)))
+    let d = found c in
+    let s = d in
+    single_claimed (copy_cells (card s.before.before.before.before) s.args.flat.0) s.args.table.now s.args.flat.0 d.cell_at-cell.result.0 (row_is d) (cell_here d) (omega arith)))

@@ -40,19 +40,19 @@ module _ (t : tie.In-loop-k invariant_loop decreases_loop) (strides : List ℤ) 
   extent_is : get_or (iter_extents (shard_iters numbers strides)) j 0 ≡ get_or numbers j 0
   extent_is = extent_at numbers strides j few (omega (arith, t.loop-k.invariant.0, t.loop-k-test.true))
 
-
 pub run_from_spec : {M : Type 1} → statement M
 run_from_spec =
     tie.close
     (tie.spec invariant_loop decreases_loop (λ c. omega arith) (λ c. omega arith) (λ c. omega arith) (λ c. (omega arith, λ strides. let numbers = c.args.numbers.now in all_ones (shard_iters numbers strides) (get_or numbers 40 0) (omega (arith, iters_count numbers strides c.requires.few)))) (λ c. omega arith) (λ c. omega arith) (λ c. omega (arith, c.requires.few, c.loop-k.invariant.0)) (λ c strides.
-        let t = c in
-        slower_run (shard_iters (numbers t.before.before.before strides) strides) (j t.before.before.before strides) (below t.before.before.before strides) (before_it t.before.before.before strides) (λ e. omega (arith, sym (extent_is t.before.before.before strides) ∙ e)))
+    let t = c in
+    slower_run (shard_iters (numbers t.before.before.before strides) strides) (j t.before.before.before strides) (below t.before.before.before strides) (before_it t.before.before.before strides) (λ e. omega (arith, sym (extent_is t.before.before.before strides) ∙ e)))
     (λ c. omega arith) (λ c. (
       omega (arith, c.loop-k.invariant.0),
       λ strides.
           let t = c in
-          ones_more (shard_iters (numbers t.before.before.before strides) strides) (j t.before.before.before strides) (below t.before.before.before strides) (before_it t.before.before.before strides) (omega (arith, extent_is t.before.before.before strides)))) (λ c strides.
-        let l = c.loop-k in
-        let end : l.k ≡ 0 = omega arith in
-        let all = rw end at (l.invariant.1 strides) in
-        record { most = omega arith; a_run = all.1 ∙ sym all.0 }))
+          ones_more (shard_iters (numbers t.before.before.before strides) strides) (j t.before.before.before strides) (below t.before.before.before strides) (before_it t.before.before.before strides) (omega (arith, extent_is t.before.before.before strides)),
+    )) (λ c strides.
+    let l = c.loop-k in
+    let end : l.k ≡ 0 = omega arith in
+    let all = rw end at (l.invariant.1 strides) in
+    record { most = omega arith; a_run = all.1 ∙ sym all.0 }))

@@ -50,10 +50,10 @@ pub run_length_spec : {M : Type 1} → statement M
 run_length_spec =
     tie.close
     (tie.spec invariant_loop decreases_loop (λ c. omega arith) (λ c. omega arith) (λ c. omega arith) (λ c. (omega arith, λ strides. ap run_length (slice_empty (get_or c.args.numbers.now 40 0) (map (iter_at c.args.numbers.now strides 0) slots)))) (λ c. omega arith) (λ c. omega arith) (λ c. omega arith) (λ c strides.
-        let t = c in
-        let numbers = t.args.numbers.now in
-        sym (run_behind (t.loop-k.k - 1) (from numbers strides 0) (λ e. omega (arith, sym (turn t.before.before.before strides) ∙ e)) ∙ turn t.before.before.before strides))
+    let t = c in
+    let numbers = t.args.numbers.now in
+    sym (run_behind (t.loop-k.k - 1) (from numbers strides 0) (λ e. omega (arith, sym (turn t.before.before.before strides) ∙ e)) ∙ turn t.before.before.before strides))
     (λ c. omega arith) (λ c. (omega arith, λ strides. omega (arith, turn c.before.before.before strides))) (λ c strides.
-        let l = c.loop-k in
-        let end : l.k ≡ 0 = omega arith in
-        sym (rw end at (l.invariant.1 strides))))
+    let l = c.loop-k in
+    let end : l.k ≡ 0 = omega arith in
+    sym (rw end at (l.invariant.1 strides))))

@@ -48,19 +48,19 @@ pub place_copies_spec : {M : Type 1} → statement M
 place_copies_spec =
     tie.close
     (tie.spec (λ c. fits c.before) (λ c. sym (long c.before.before)) (λ c κs. c.requires.0) (λ c. record { smallest_axis = axis_is c.before.before; refused = λ h. refl; placed = λ h. absurd (omega arith) }) (λ c κs.
-        let p = c in
-        let n = length (start p.before.before.before.before).args.memory.now in
-        (rw p.place_row-outside.ensures.cells (length_front (replicate 64 0) (cells p.before.before.before.before) n (cells_long p.before.before.before.before ∙ sym (long (start p.before.before.before.before)))), fits (start p.before.before.before.before))) (λ c. search rules) (λ c.
-        let w = c in
-        let two = w in
-        let p = two in
-        let n = length (start p.before.before.before.before.before.before.before).args.memory.now in
-        record {
-          smallest_axis = axis_is p.before.before.before.before.before.before.before;
-          refused = λ h. absurd (omega arith);
-          placed = λ h.
-              w.write.ensures
-              ∙ ap (λ (l : List ℕ). take n (l ++ drop n (replicate 64 0))) p.place_row-outside.ensures.cells
-              ∙ take_at (cells p.before.before.before.before.before.before.before) (drop n (replicate 64 0)) n (cells_long p.before.before.before.before.before.before.before)
-              ∙ cells_are p.before.before.before.before.before.before.before;
-        }))
+    let p = c in
+    let n = length (start p.before.before.before.before).args.memory.now in
+    (rw p.place_row-outside.ensures.cells (length_front (replicate 64 0) (cells p.before.before.before.before) n (cells_long p.before.before.before.before ∙ sym (long (start p.before.before.before.before)))), fits (start p.before.before.before.before))) (λ c. search rules) (λ c.
+    let w = c in
+    let two = w in
+    let p = two in
+    let n = length (start p.before.before.before.before.before.before.before).args.memory.now in
+    record {
+      smallest_axis = axis_is p.before.before.before.before.before.before.before;
+      refused = λ h. absurd (omega arith);
+      placed = λ h.
+          w.write.ensures
+          ∙ ap (λ (l : List ℕ). take n (l ++ drop n (replicate 64 0))) p.place_row-outside.ensures.cells
+          ∙ take_at (cells p.before.before.before.before.before.before.before) (drop n (replicate 64 0)) n (cells_long p.before.before.before.before.before.before.before)
+          ∙ cells_are p.before.before.before.before.before.before.before;
+    }))

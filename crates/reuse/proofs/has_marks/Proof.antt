@@ -23,9 +23,9 @@ has_marks_spec =
     tie.close
     (tie.spec invariant_loop decreases_loop (λ c. search rules) (λ c. search rules) (λ c. search rules) (λ c. (omega arith, λ j h. absurd (omega arith))) (λ c. omega arith)
     (λ c. omega arith) (λ c. omega (arith, c.requires.few)) (λ c. λ strides e. absurd (true≢false e)) (λ c. omega arith) (λ c. omega arith) (λ c.
-        let l = c.loop-k in
-        let numbers = c.args.numbers.now in
-        (omega arith, below_more (λ j. mark_at numbers j ≡ false) l.k l.invariant.1 (ap not (eq-eqb (get_or numbers (48 + l.k) 0) 0 (omega arith)))))
-    (λ c.     λ strides e.
-        let s = c in
-        none_marked s.args.numbers.now strides s.requires (λ j h. c.loop-k.invariant.1 j (omega arith))))
+    let l = c.loop-k in
+    let numbers = c.args.numbers.now in
+    (omega arith, below_more (λ j. mark_at numbers j ≡ false) l.k l.invariant.1 (ap not (eq-eqb (get_or numbers (48 + l.k) 0) 0 (omega arith)))))
+    (λ c. λ strides e.
+    let s = c in
+    none_marked s.args.numbers.now strides s.requires (λ j h. c.loop-k.invariant.1 j (omega arith))))

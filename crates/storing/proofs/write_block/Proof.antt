@@ -19,26 +19,26 @@ admitted c = sym c.admit.ensures ∙ c.in_default.is
 
 pub write_block_spec : {M : Type 1} → statement M
 write_block_spec = tie.close (tie.spec (λ c κs. search rules) (λ c. search rules) (λ c.
-        let r = c in
-        (rw (sym r.admit.ensures ∙ r.in-Refused.is), refl)) (λ c. search rules) (λ c.
-        let e = c in
-        let s = e in
-        (rw (admitted e.before, lt-ltb most_note (length s.args.note.now) (omega arith)), refl)) (λ c.
-        let n = c in
-        let e = n in
-        let s = e in
-        (rw (admitted e.before.before, le-ltb most_note (length s.args.note.now) (omega arith), lt-ltb (length s.args.memory.now) block_length (omega arith)), refl)) (λ c. search rules) (λ c.
-        let m = c in
-        let s = m in
-        sym (length-take-le 512 s.args.memory.now (omega arith))) (λ c κs.
-        let m = c in
-        let s = m in
-        (length-take-le 512 s.args.memory.now (omega arith), (omega arith))) (λ c. search rules) (λ c.
-        let f = c in
-        let m = f in
-        let n = m in
-        let e = n in
-        let s = e in (
-          rw (admitted e.before.before.before.before.before.before, le-ltb most_note (length s.args.note.now) (omega arith), le-ltb (length s.args.memory.now) block_length (omega arith)),
-          ap (λ (x : List ℕ). x ++ drop 512 s.args.memory.now) f.fill.ensures,
-        )))
+    let r = c in
+    (rw (sym r.admit.ensures ∙ r.in-Refused.is), refl)) (λ c. search rules) (λ c.
+    let e = c in
+    let s = e in
+    (rw (admitted e.before, lt-ltb most_note (length s.args.note.now) (omega arith)), refl)) (λ c.
+    let n = c in
+    let e = n in
+    let s = e in
+    (rw (admitted e.before.before, le-ltb most_note (length s.args.note.now) (omega arith), lt-ltb (length s.args.memory.now) block_length (omega arith)), refl)) (λ c. search rules) (λ c.
+    let m = c in
+    let s = m in
+    sym (length-take-le 512 s.args.memory.now (omega arith))) (λ c κs.
+    let m = c in
+    let s = m in
+    (length-take-le 512 s.args.memory.now (omega arith), (omega arith))) (λ c. search rules) (λ c.
+    let f = c in
+    let m = f in
+    let n = m in
+    let e = n in
+    let s = e in (
+      rw (admitted e.before.before.before.before.before.before, le-ltb most_note (length s.args.note.now) (omega arith), le-ltb (length s.args.memory.now) block_length (omega arith)),
+      ap (λ (x : List ℕ). x ++ drop 512 s.args.memory.now) f.fill.ensures,
+    )))
