@@ -71,25 +71,25 @@ module _ (numbers : List ℕ) (strides : List ℤ) (a : Admits numbers strides) 
     there : spot card f r ≡ Inside (record { 0 = cell })
     there = lies_inside (spot card f r) (all_inside f r hf hr)
 
-    abbrev on_m_lem : ℤ
-    on_m_lem = swizzled_z card.swizzle (base card f last_axis +ℤ part card.replica r last_axis)
+    abbrev on_m : ℤ
+    on_m = swizzled_z card.swizzle (base card f last_axis +ℤ part card.replica r last_axis)
 
-    m_below : on_axis on_m_lem < get_or card.lengths last_axis 0
+    m_below : on_axis on_m < get_or card.lengths last_axis 0
     unfolding coordinates
     m_below = inside_at card.lengths (coordinates card f r) last_axis (spot_numbered card f r (record { 0 = cell }) there).within (omega (arith, eight))
 
     m_short : get_or card.lengths last_axis 0 ≤ most_length
     m_short = (within_numbers 1 most_length (get_or card.lengths last_axis 0) (all_at (within 1 most_length) card.lengths last_axis 0 short (omega (arith, eight)))).1
 
-    m_is : on_m_lem ≡ pos (on_axis on_m_lem)
-    m_is = sym (coordinate_is on_m_lem (get_or card.lengths last_axis 0) m_below m_short)
+    m_is : on_m ≡ pos (on_axis on_m)
+    m_is = sym (coordinate_is on_m (get_or card.lengths last_axis 0) m_below m_short)
 
     pub copy_there : {level m : ℤ} → level ≡ level_at card.lengths (base card f) +ℤ level_at card.lengths (part card.replica r)
         → m ≡ base card f last_axis +ℤ part card.replica r last_axis → CellThere (swizzle_of numbers) level m
     copy_there {level} {m} e d = record {
       permits = passed.swizzle;
       cell = cell;
-      on_m_lem = on_axis on_m_lem;
+      on_m = on_axis on_m;
       few = omega (arith, cell_below card f r (record { 0 = cell }) there, (sized card a.admitted).most_cells_lem);
       short = omega (arith, m_below, m_short);
       m_there = ap (swizzled_z card.swizzle) d ∙ m_is;

@@ -21,11 +21,11 @@ roomier = 2 ^ 61
 pub record CellThere (by : Swizzle) (level m : ℤ) : Type 0 where
   pub permits : permitted by.m by.b by.s ≡ true
   pub cell : ℕ
-  pub on_m_lem : ℕ
+  pub on_m : ℕ
   pub few : cell < beyond
-  pub short : on_m_lem < beyond
-  pub m_there : swizzled_z by m ≡ pos on_m_lem
-  pub there : pos cell ≡ level +ℤ pos on_m_lem
+  pub short : on_m < beyond
+  pub m_there : swizzled_z by m ≡ pos on_m
+  pub there : pos cell ≡ level +ℤ pos on_m
 
 -- what sums come to as level and m
 pub record Adds (lengths : List ℕ) (sums : ℕ → ℤ) (place : LevelAndM) : Type 0 where

@@ -23,7 +23,7 @@ pub record JudgeInNumbers (first second before after : List ℕ) (n : Numbers) :
   -- 4 for a first line that does not say eight lengths; the table stays
   pub no_lengths : ((l : List ℕ) → LineSays first l → ⊥) → (n ≡ answer 4 0 0 0) × (after ≡ before)
   -- 18 with the text's longest beginning that some correct text also has; the table stays
-  pub no_text_lem : (l : List ℕ) → LineSays first l → (a : ℕ) → Refused Correct second a → (n ≡ answer 18 a 0 0) × (after ≡ before)
+  pub no_text : (l : List ℕ) → LineSays first l → (a : ℕ) → Refused Correct second a → (n ≡ answer 18 a 0 0) × (after ≡ before)
   -- else the verdict's on the card of the lengths and of what the text says, without swizzle
   pub judged : (l : List ℕ) → LineSays first l → (c : Correct second)
       → let card : Card = card_for l (layout_of c.says) in
@@ -33,7 +33,7 @@ pub judge_in_numbers : (first second before after : List ℕ) (v : Verdict) → 
     → JudgeInNumbers first second before after (verdict_numbers v)
 judge_in_numbers first second before after v p = record {
   no_lengths = λ none. let o = p.no_lengths none in (ap verdict_numbers o.0, o.1);
-  no_text_lem = λ l says a r. let o = p.no_text_lem l a says r in (ap verdict_numbers o.0, o.1);
+  no_text = λ l says a r. let o = p.no_text l a says r in (ap verdict_numbers o.0, o.1);
   judged = λ l says c.
       let card : Card = card_for l (layout_of c.says) in
       verdict_in_numbers card before after v ((verdict_exactly card before after v).0 (p.judged l c says));

@@ -49,13 +49,13 @@ module _ (first second before after : List ℕ) (v : Verdict) where
       → TypedOutcome (record { correct = x; lengths = l }) (record { answer = y; layout = m }) before after v
   by_reading p true l Done m c d =
       subst⁻¹ (λ (k : Layout). VerdictSays (card_for l k) before after v) d.layout_said (p.judged l d.correct c)
-  by_reading p true l (NotRead refusal) m c d = let q = p.no_text_lem l d.a c d.longest in (q.0 ∙ ap Refused (sym d.eighteen), q.1)
+  by_reading p true l (NotRead refusal) m c d = let q = p.no_text l d.a c d.longest in (q.0 ∙ ap Refused (sym d.eighteen), q.1)
   by_reading p false l y m c d = p.no_lengths c.0
 
   from_reading : JudgeRead first second before after v → JudgePromise first second before after v
   from_reading p = record {
     no_lengths = λ none. outcome (record { correct = false; lengths = replicate 8 0 }) p.reading (line_is _ (none, refl)) refl;
-    no_text_lem = λ l a says r.
+    no_text = λ l a says r.
         outcome (record { correct = true; lengths = l }) _ (line_is _ says)
         (text_is (record { answer = NotRead (NotCorrect a); layout = no_layout }) (record { a = a; eighteen = refl; longest = r; zeros = refl }));
     judged = λ l c says.

@@ -32,7 +32,7 @@ card_for lengths layout = record {
 -- the promise: a first line that does not say eight lengths is 4, then a text that is not correct is 18, and the lent table stays; else the card is judged
 pub record JudgePromise (first second before after : List ℕ) (verdict : Verdict) : Type 0 where
   pub no_lengths : ((l : List ℕ) → LineSays first l → ⊥) → (verdict ≡ Refused Space) × (after ≡ before)
-  pub no_text_lem : (l : List ℕ) (a : ℕ) → LineSays first l → NotText Correct second a → (verdict ≡ Refused (NotCorrect a)) × (after ≡ before)
+  pub no_text : (l : List ℕ) (a : ℕ) → LineSays first l → NotText Correct second a → (verdict ≡ Refused (NotCorrect a)) × (after ≡ before)
   pub judged : (l : List ℕ) (c : Correct second) → LineSays first l → VerdictSays (card_for l (layout_of c.says)) before after verdict
 
 -- the program keeps the first 4,096 bytes of a line: as many of its buffer's as the line has, all where it has more

@@ -14,15 +14,15 @@ abbrev start : tie.After-swizzle_permitted-on_m → tie.Start
 start c = c.before
 
 -- what the machine finds on m, and what it adds up to
-on_m_lem : (c : tie.After-swizzle_permitted-on_m) → c.swizzle_permitted-on_m.result ≡ (start c).requires.on_m_lem
-on_m_lem c =
+on_m : (c : tie.After-swizzle_permitted-on_m) → c.swizzle_permitted-on_m.result ≡ (start c).requires.on_m
+on_m c =
     let s = start c in
-    rw (to_z-of_z s.ranges.m) at c.swizzle_permitted-on_m.ensures ∙ on_m_is s.args.by s.args.m s.requires.on_m_lem s.requires.m_there
+    rw (to_z-of_z s.ranges.m) at c.swizzle_permitted-on_m.ensures ∙ on_m_is s.args.by s.args.m s.requires.on_m s.requires.m_there
 
 adds_up : (c : tie.After-swizzle_permitted-on_m) → to_z w64 (of_z w64 (start c).args.level) +ℤ to_z w64 c.swizzle_permitted-on_m.result ≡ pos (start c).requires.cell
 adds_up c =
     let s = start c in
-    ap₂ (λ (a b : ℤ). a +ℤ b) (to_z-of_z s.ranges.level) (to_z_pos w64 (omega (arith, on_m_lem c, s.requires.short)) ∙ ap pos (on_m_lem c)) ∙ sym s.requires.there
+    ap₂ (λ (a b : ℤ). a +ℤ b) (to_z-of_z s.ranges.level) (to_z_pos w64 (omega (arith, on_m c, s.requires.short)) ∙ ap pos (on_m c)) ∙ sym s.requires.there
 
 cell_back : (c : tie.After-swizzle_permitted-on_m)
     → to_z w64 (of_z w64 (to_z w64 (of_z w64 (start c).args.level) +ℤ to_z w64 c.swizzle_permitted-on_m.result)) ≡ pos (start c).requires.cell
@@ -32,7 +32,7 @@ cast_swizzle_permitted : tie.Need-overflow_cast-m
 cast_swizzle_permitted c =
     let s = c in
     rw (to_z-of_z s.ranges.m)
-    (natural_m s.args.by s.args.m s.requires.on_m_lem s.requires.m_there, Fits-nat_abs {w = w64} tt s.ranges.m)
+    (natural_m s.args.by s.args.m s.requires.on_m s.requires.m_there, Fits-nat_abs {w = w64} tt s.ranges.m)
 
 returns : tie.Need-returns
 returns c =
@@ -42,6 +42,6 @@ returns c =
 pub cell_at_spec : {M : Type 1} → statement M
 cell_at_spec =
     tie.close
-    (tie.spec cast_swizzle_permitted (λ c κs. c.requires.permits) (λ c. far_fits (omega (arith, on_m_lem c, (start c).requires.short)))
+    (tie.spec cast_swizzle_permitted (λ c κs. c.requires.permits) (λ c. far_fits (omega (arith, on_m c, (start c).requires.short)))
     (λ c. rw (adds_up c) (far_fits {x = pos (start c).requires.cell} (omega (arith, (start c).requires.few))))
     (λ c. rw (cell_back c) (tt, record { fits = omega (arith, (start c).requires.few) })) returns)

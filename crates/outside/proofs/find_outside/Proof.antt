@@ -60,13 +60,13 @@ returns c =
     let s = start e in
     let both = (and-eq-true_iff (eqb f.first_axis-first.result 7) m.m_between.result).0 c.if-first-m_between.true in
     let axes = eqb-true f.first_axis-first.result 7 both.0 in
-    let on_m_lem = rw (
+    let on_m = rw (
       to_z-of_z {w = w64} {z = get_or e.ends.new.low 7 (pos 0)} (record { sfits = m.m_between-arg-1.given }),
       to_z-of_z {w = w64} {z = get_or e.ends.new.high 7 (pos 0)} (record { sfits = m.m_between-arg-2-1.given }),
     ) at (m.m_between.ensures both.1) in
     stays_inside (card s) s.requires.admitted (eight s)
     (ends_stay s.args.numbers.now s.args.strides.now s.requires e.ends.ensures.0 e.ends.ensures.1
-    (record { axes = rw axes at f.first_axis-first.ensures.1; m = on_m_lem }))
+    (record { axes = rw axes at f.first_axis-first.ensures.1; m = on_m }))
 
 abbrev axes_found : tie.After-first_of_all-word → tie.After-first_axis-first
 axes_found c = c.before.before.before.before.before.before.before
