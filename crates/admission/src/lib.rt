@@ -1,16 +1,16 @@
 // The admission of a card: checks 1 to 6 in the document's order, for any numbers in any field.
 #![tactic(auto)]
 
-ghost use Rattle.std.specs.Prelude.{◌≡◌, true, List, ℕ, ◌≤◌, ℤ, length};
+ghost use Rattle.std.specs.Prelude.{◌≡◌, true, List, ℕ, ◌≤◌, ℤ, length, Ok};
 ghost use Rattle.std.proofs.Math.Seq.{slice};
+ghost use Rattle.answers.specs.Refusals.{no_refusal};
 ghost use Rattle.card.specs.Lists.{all, within, within_z};
 ghost use Rattle.card.specs.Limits.{least_stride, most_stride};
-ghost use Rattle.card.specs.Admission.{counts_fit, iters_fit, marks_fit, iters_on_axes, space_fits, few_enough, field_checks, admission, admission_numbers};
+ghost use Rattle.card.specs.Admission.{counts_fit, iters_fit, marks_fit, iters_on_axes, space_fits, few_enough, field_checks, admission};
 ghost use Rattle.card.specs.Packed.{iters_of, marks_there, strides_there, card_of, Whole, ListOf};
-ghost use Rattle.card.specs.declared.Admission.TheVariants.{Admitted};
 
-use answers::{Numbers, Refusal};
-use card::{Admission, Card};
+use answers::Refusal;
+use card::Card;
 
 // The most iters of a shard and of a replica.
 const MOST_SHARD: u64 = 8;
@@ -40,11 +40,9 @@ fn all_within(numbers: &[u64], from: usize, end: usize, least: u64, most: u64) -
     ensures { result ≡ all (within least most) (slice from end numbers.now) }
 {
     let mut fit = true;
-    let mut k = from;
-    while k < end {
+    for k in from..end {
         let number = numbers[k];
         fit = fit & ((least <= number) & (number <= most));
-        k += 1;
     }
     fit
 }
@@ -55,11 +53,9 @@ fn all_between(numbers: &[i64], from: usize, end: usize, least: i64, most: i64) 
     ensures { result ≡ all (within_z least most) (slice from end numbers.now) }
 {
     let mut fit = true;
-    let mut k = from;
-    while k < end {
+    for k in from..end {
         let number = numbers[k];
         fit = fit & ((least <= number) & (number <= most));
-        k += 1;
     }
     fit
 }
@@ -77,6 +73,7 @@ fn counts_fit(numbers: &[u64; 56]) -> bool
 // What one walk over a list of iters says of it for checks 2 and 3.
 #[derive(Clone, Copy)]
 struct Fits {
+    // two answers of one walk, neither a flag of the other
     limits: bool,
     axes: bool,
 }
@@ -91,15 +88,13 @@ fn list_fits(numbers: &[u64; 56], strides: &[i64; 24], list: usize) -> Fits
     let mut extents = true;
     let mut steps = true;
     let mut axes = true;
-    let mut k: usize = 0;
-    while k < count {
+    for k in 0..count {
         let extent = numbers[16 * list + k];
         let stride = strides[8 * list + k];
         let axis = numbers[16 * list + 8 + k];
         extents = extents & ((1 <= extent) & (extent <= MOST_EXTENT));
         steps = steps & ((LEAST_STRIDE <= stride) & (stride <= MOST_STRIDE));
         axes = axes & (axis <= card::LAST_AXIS);
-        k += 1;
     }
     Fits {
         limits: extents & steps,
@@ -114,13 +109,11 @@ fn marks_fit(numbers: &[u64; 56], strides: &[i64]) -> bool
 {
     let count = numbers[card::COUNTS + card::SHARD] as usize;
     let mut fit = true;
-    let mut k: usize = 0;
-    while k < count {
+    for k in 0..count {
         let stride = strides[k];
         fit = fit
             & ((numbers[card::MARKS + k] == 0)
                 | ((LEAST_MARKED <= stride) & (stride <= MOST_MARKED)));
-        k += 1;
     }
     fit
 }
@@ -139,21 +132,21 @@ fn offset_fits(strides: &[i64; 24]) -> bool
 }
 
 // Checks 1 to 3. Public for the crates above.
-pub fn check_fields(numbers: &[u64; 56], strides: &[i64; 24]) -> Admission
-    ensures { result ≡ field_checks (card_of numbers.now strides.now) Admitted }
+pub fn check_fields(numbers: &[u64; 56], strides: &[i64; 24]) -> Result<(), Refusal>
+    ensures { result ≡ field_checks (card_of numbers.now strides.now) no_refusal }
 {
     if !counts_fit(numbers) {
-        return Admission::Refused(Refusal::Counts);
+        return Err(Refusal::Counts);
     }
     let shard = list_fits(numbers, strides, card::SHARD);
     let replica = list_fits(numbers, strides, card::REPLICA);
     if !(shard.limits & marks_fit(numbers, strides) & replica.limits & offset_fits(strides)) {
-        return Admission::Refused(Refusal::Limits);
+        return Err(Refusal::Limits);
     }
     if !(shard.axes & replica.axes) {
-        return Admission::Refused(Refusal::Axis);
+        return Err(Refusal::Axis);
     }
-    Admission::Admitted
+    Ok(())
 }
 
 // Check 4 of a space by itself: every length, and the cells. Public for the crates above.
@@ -186,42 +179,29 @@ fn few_enough(numbers: &[u64; 56]) -> bool
 
 // The admission of a packed card: the first check that it fails refuses it. Public, with a requires, for
 // the crates above, which pack a card first.
-pub fn admit_packed(numbers: &[u64; 56], strides: &[i64; 24]) -> Admission
+pub fn admit_packed(numbers: &[u64; 56], strides: &[i64; 24]) -> Result<(), Refusal>
     requires { Whole numbers.now strides.now }
     ensures { result ≡ admission (card_of numbers.now strides.now) }
 {
-    let fields = check_fields(numbers, strides);
-    if let Admission::Refused(refusal) = fields {
-        return Admission::Refused(refusal);
-    }
+    check_fields(numbers, strides)?;
     if !lengths_fit(numbers) {
-        return Admission::Refused(Refusal::Space);
+        return Err(Refusal::Space);
     }
     if !few_enough(numbers) {
-        return Admission::Refused(Refusal::TooMany);
+        return Err(Refusal::TooMany);
     }
     if !swizzle::is_permitted(numbers[card::M], numbers[card::B], numbers[card::S]) {
-        return Admission::Refused(Refusal::Swizzle);
+        return Err(Refusal::Swizzle);
     }
-    Admission::Admitted
+    Ok(())
 }
 
 // The admission of any card to checks 1 to 6.
-pub fn admit(card: Card) -> Admission
+pub fn admit(card: Card) -> Result<(), Refusal>
     ensures { result ≡ admission card }
 {
     let packed = card_packed::pack(card);
     let numbers = packed.numbers;
     let strides = packed.strides;
     admit_packed(&numbers, &strides)
-}
-
-// The plain numbers of an admission.
-pub fn admission_numbers(admission: Admission) -> Numbers
-    ensures { result ≡ admission_numbers admission }
-{
-    match admission {
-        Admission::Admitted => answers::answer(0, 0, 0, 0),
-        Admission::Refused(refusal) => answers::refusal_numbers(refusal),
-    }
 }

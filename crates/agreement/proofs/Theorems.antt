@@ -1,5 +1,6 @@
 -- Of an approved card the verdict's table and the lent memory of a placement say the same, straight from the two promises: both speak of the spots of
 -- an element's copies.
+use Rattle.std.specs.Prelude.{Result, Ok}
 use mathlib.Core.Path.{◌≡◌, refl, sym, ap, ◌∙◌}
 use mathlib.Core.Bool.{true}
 use mathlib.Core.Logic.{◌↔◌}
@@ -9,6 +10,8 @@ use native.Mathlib.Decide.{dec_le}
 use native.Mathlib.Omega.{arith}
 use borrow.Author.Tests.{le-leb, le-ltb}
 use lib.ListN.{length, get_or}
+use Rattle.answers.specs.declared.Refusal.{Refusal}
+use Rattle.judgement.specs.declared.Approved.{Approved}
 use Rattle.card.specs.Card.{elements, copies, cells}
 use Rattle.card.specs.declared.Card.{Card}
 use Rattle.rules.specs.Rules.{axes, spot}
@@ -20,12 +23,9 @@ use Rattle.rules.proofs.Filling.{outside_found}
 use Rattle.idle.proofs.Theorems.{admitted_exactly}
 use Rattle.placement_judged.specs.Placement.{shape_admitted, coordinates_fit, flatten, placement_answer, Placing}
 use Rattle.placement_judged.specs.declared.Tuple.{Tuple}
-use Rattle.placement_judged.specs.declared.Placement.{Placement}
-use Rattle.placement_judged.specs.declared.Placement.TheVariants.{Copies}
 use Rattle.placement_judged.proofs.Theorems.{flatten_below, placement_copies}
 use Rattle.judgement.specs.Judgement.{LiesInside, Judged}
 use Rattle.judgement.specs.Verdict.{VerdictPromise}
-use Rattle.judgement.specs.declared.Verdict.{Verdict}
 use Rattle.judgement.proofs.Theorems.{IsApproval, Demand3, demand_3, owner_leads, approved_passed}
 
 -- cell c is one of the first n entries of the lent memory
@@ -39,7 +39,7 @@ past_none : (s : Spot) → LiesInside s → past_axis s ≡ length axes
 past_none (Inside cell) h = refl
 past_none (Outside axis) h = absurd h
 
-module _ (card : Card) (table owners : List ℕ) (verdict : Verdict) (promise : VerdictPromise card table owners verdict) (approved : IsApproval verdict) where
+module _ (card : Card) (table owners : List ℕ) (verdict : Result Approved Refusal) (promise : VerdictPromise card table owners verdict) (approved : IsApproval verdict) where
   judged : Judged card (length table)
   judged = (approved_passed card table owners verdict promise approved).2.0
 
@@ -49,7 +49,7 @@ module _ (card : Card) (table owners : List ℕ) (verdict : Verdict) (promise : 
 
   -- a cell's entry is the leader of f plus 1 exactly when the cell is among those that the placement of f has written
   pub owner_and_placing : (shape coordinates : Tuple) (before after : List ℕ) (n : ℕ) → length card.lengths ≡ 8
-      → Placing card shape coordinates before after (Copies n) → (c : ℕ) → c < cells card
+      → Placing card shape coordinates before after (Ok n) → (c : ℕ) → c < cells card
       → (get_or owners c 0 ≡ leader card (flatten shape coordinates) + 1) ↔ AmongFirst n after c
   owner_and_placing shape coordinates before after n eight placing c small =
       let flat = flatten shape coordinates in
@@ -71,8 +71,8 @@ module _ (card : Card) (table owners : List ℕ) (verdict : Verdict) (promise : 
       )
 
   -- and placement answers for each of its elements
-  pub approved_places : (shape coordinates : Tuple) (before after : List ℕ) (p : Placement) → shape_admitted shape (elements card) ≡ true
-      → coordinates_fit shape coordinates ≡ true → copies card ≤ length before → Placing card shape coordinates before after p → p ≡ Copies (copies card)
+  pub approved_places : (shape coordinates : Tuple) (before after : List ℕ) (p : Result ℕ Refusal) → shape_admitted shape (elements card) ≡ true
+      → coordinates_fit shape coordinates ≡ true → copies card ≤ length before → Placing card shape coordinates before after p → p ≡ Ok (copies card)
   unfolding placement_answer outside_axis
   approved_places shape coordinates before after p shaped fits long placing =
       let flat = flatten shape coordinates in

@@ -5,7 +5,9 @@ use Prim.Native.Nat.{ℕ}
 use native.Mathlib.Omega.{arith}
 use lib.Dec.{eqb, ltb}
 use borrow.Author.Tests.{ltb-true, ne_eqb}
-use Rattle.answers.specs.Refusals.{refusal_numbers}
+use Rattle.std.specs.Prelude.{Result, Ok, Err}
+use Rattle.answers.specs.Refusals.{refusal_numbers, numbers_of}
+use Rattle.answers.specs.Pinned.{ReadBack}
 use Rattle.answers.specs.declared.Numbers.{Numbers}
 use Rattle.answers.specs.declared.Refusal.{Refusal}
 use Rattle.answers.specs.declared.Refusal.TheVariants.{Counts, Limits, Axis, Space, TooMany, Swizzle, CopyOutside, Shared, Shape, Coordinate, TooShort, CellOutside, MaskSize, Fragment, Reserved, Shift, Idle, Notation, WrongCheck, Unused, Plan, Canonical, Overlap}
@@ -71,6 +73,10 @@ pub refusal_not_zero : (p : Refusal) → eqb (refusal_numbers p).number 0 ≡ fa
 refusal_not_zero p =
     ne_eqb (refusal_numbers p).number 0 (λ e. omega (arith, ltb-true 0 (refusal_numbers p).number (back p).1))
 
+-- no refusal has number 0
+zero_apart : (p : Refusal) → (refusal_numbers p).number ≡ 0 → ⊥
+zero_apart p e = omega (arith, ltb-true 0 (refusal_numbers p).number (back p).1)
+
 -- An answer is a value, with number 0, or a refusal: it is read back from its numbers, by the question's way to read a value back
 module _ {A : Type 0} (value : Numbers → A) (refused : Refusal → A) where
   abbrev pub read_back : Numbers → A
@@ -91,3 +97,11 @@ rung numbers false e f = f
 pub either : {A : Type 0} (holds : A → Type 0) (check : Bool) {x y : A} → holds x → holds y → holds (cond check x y)
 either holds true p q = p
 either holds false p q = q
+
+-- two answers with the same numbers are equal, whatever the question, where its values are read back from theirs
+pub numbers_one_to_one : {A : Type 0} (as_numbers : A → Numbers) → ReadBack as_numbers
+    → (p q : Result A Refusal) → numbers_of as_numbers p ≡ numbers_of as_numbers q → p ≡ q
+numbers_one_to_one as_numbers reads (Ok x) (Ok y) e = ap Ok (sym (reads.1 x).1 ∙ ap reads.0 e ∙ (reads.1 y).1)
+numbers_one_to_one as_numbers reads (Ok x) (Err r) e = absurd (zero_apart r (ap (λ (n : Numbers). n.number) (sym e) ∙ (reads.1 x).0))
+numbers_one_to_one as_numbers reads (Err r) (Ok y) e = absurd (zero_apart r (ap (λ (n : Numbers). n.number) e ∙ (reads.1 y).0))
+numbers_one_to_one as_numbers reads (Err r) (Err s) e = ap Err (refusal_one_to_one r s e)

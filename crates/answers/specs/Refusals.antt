@@ -1,5 +1,5 @@
 -- Document 01's table of refusals, with those of document 02: the number and the details of each.
-use Rattle.std.specs.Prelude.{ℕ}
+use Rattle.std.specs.Prelude.{ℕ, Result, Ok, Err, ⊤}
 use Rattle.answers.specs.declared.Numbers.{Numbers}
 use Rattle.answers.specs.declared.Refusal.{Refusal}
 use Rattle.answers.specs.declared.Refusal.TheVariants.{Counts, Limits, Axis, Space, TooMany, Swizzle, CopyOutside, Shared, Shape, Coordinate, TooShort, CellOutside, MaskSize, Fragment, Reserved, Shift, Idle, Notation, WrongCheck, Unused, Plan, Canonical, Overlap}
@@ -33,3 +33,19 @@ refusal_numbers Unused = answer 20 0 0 0
 refusal_numbers (Plan copy cell) = answer 21 copy cell.0 0
 refusal_numbers Canonical = answer 22 0 0 0
 refusal_numbers (Overlap cell) = answer 23 cell.0 0 0
+
+-- the answer of a question with nothing to tell: it is not refused
+abbrev pub no_refusal : Result ⊤ Refusal
+no_refusal = Ok tt
+
+-- a value of nothing, and of one number
+abbrev pub just_zero : ⊤ → Numbers
+just_zero done = answer 0 0 0 0
+
+abbrev pub one_detail : ℕ → Numbers
+one_detail n = answer 0 n 0 0
+
+-- the numbers of an answer: what a question says its value comes to, or those of the refusal
+abbrev pub numbers_of : {A : Type 0} → (A → Numbers) → Result A Refusal → Numbers
+numbers_of as_numbers (Ok value) = as_numbers value
+numbers_of as_numbers (Err refusal) = refusal_numbers refusal

@@ -1,8 +1,9 @@
 // The vocabulary of answers: flat index and cell number as kinds of their own, the refusals, and the plain numbers in which an answer leaves the library.
 #![tactic(auto)]
 
-ghost use Rattle.std.specs.Prelude.{◌≡◌};
-ghost use Rattle.answers.specs.Refusals.{answer, refusal_numbers};
+ghost use Rattle.std.specs.Prelude.{◌≡◌, refl};
+ghost use Rattle.answers.specs.Refusals.{answer, refusal_numbers, just_zero, one_detail, numbers_of};
+ghost use Rattle.answers.specs.Pinned.{ReadBack};
 
 // The flat index of an element.
 #[derive(Clone, Copy)]
@@ -107,5 +108,50 @@ pub fn refusal_numbers(refusal: Refusal) -> Numbers
         Refusal::Plan { copy, cell } => answer(21, copy, cell.0, 0),
         Refusal::Canonical => answer(22, 0, 0, 0),
         Refusal::Overlap { cell } => answer(23, cell.0, 0, 0),
+    }
+}
+
+// What a question answers where it does not refuse: number 0 and up to three details, which tell any two such values apart.
+pub trait Details {
+    ghost use Rattle.answers.specs.declared.Numbers.{Numbers};
+
+    ghost as_numbers: { Self → Numbers };
+
+    // one for each type, since each has fields of its own
+    fn details(self) -> Numbers
+        ensures { result ≡ as_numbers self };
+
+    ghost reads_back: { ReadBack as_numbers };
+}
+
+// Nothing beside the number 0.
+impl Details for () {
+    ghost as_numbers = { just_zero };
+
+    ghost reads_back = { (λ n. tt, λ done. (refl, refl)) };
+
+    fn details(self) -> Numbers {
+        answer(0, 0, 0, 0)
+    }
+}
+
+// One number: an address, an entry, a length or a count.
+impl Details for u64 {
+    ghost as_numbers = { one_detail };
+
+    ghost reads_back = { (λ n. n.a, λ x. (refl, refl)) };
+
+    fn details(self) -> Numbers {
+        answer(0, self, 0, 0)
+    }
+}
+
+// The plain numbers of an answer: its details at number 0, or its refusal's.
+pub fn in_numbers<T: Details>(given: Result<T, Refusal>) -> Numbers
+    ensures { result ≡ numbers_of T.as_numbers given }
+{
+    match given {
+        Ok(value) => value.details(),
+        Err(refusal) => refusal_numbers(refusal),
     }
 }

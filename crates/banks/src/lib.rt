@@ -2,10 +2,10 @@
 #![tactic(auto)]
 
 ghost use Rattle.std.specs.Prelude.{◌≡◌};
-ghost use Rattle.banks_judged.specs.Bank.{bank_answer, bank_numbers};
+ghost use Rattle.banks_judged.specs.Bank.{bank_answer};
 
-use answers::{Numbers, Refusal};
-use banks_judged::{BankWord, Banked};
+use answers::Refusal;
+use banks_judged::BankWord;
 
 // The first address that has no bank: 2^32.
 const ADDRESSES: u64 = 4294967296;
@@ -17,28 +17,18 @@ const BANKS: u64 = 32;
 
 // Line and bank of any address of elements of any bits. The address is taken as it is: where there
 // is a swizzle, it is the swizzled one that is asked about.
-pub fn bank_of(bits: u64, address: u64) -> Banked
+pub fn bank_of(bits: u64, address: u64) -> Result<BankWord, Refusal>
     ensures { result ≡ bank_answer bits address }
 {
     if !swizzle::is_known_bits(bits) {
-        return Banked::Refused(Refusal::Swizzle);
+        return Err(Refusal::Swizzle);
     }
     if !(address < ADDRESSES) {
-        return Banked::Refused(Refusal::Coordinate);
+        return Err(Refusal::Coordinate);
     }
     let word = address * bits / BANK_BITS;
-    Banked::At(BankWord {
+    Ok(BankWord {
         line: word / BANKS,
         bank: word % BANKS,
     })
-}
-
-// The plain numbers of a bank's answer.
-pub fn bank_numbers(banked: Banked) -> Numbers
-    ensures { result ≡ bank_numbers banked }
-{
-    match banked {
-        Banked::At(word) => answers::answer(0, word.line, word.bank, 0),
-        Banked::Refused(refusal) => answers::refusal_numbers(refusal),
-    }
 }

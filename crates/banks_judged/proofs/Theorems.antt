@@ -1,5 +1,6 @@
 -- Request 12 of document 02: columns do not collide, once over the mode and over every width; what happens without the swizzle; and what
 -- the answer of the question means in plain for-alls.
+use Rattle.std.specs.Prelude.{Ok, Result, Err}
 use mathlib.Core.Path.{◌≡◌, refl, sym, ap, subst, ◌∙◌}
 use mathlib.Core.Bool.{true, cond, not}
 use Prim.Native.Nat.{ℕ, ◌+◌, ◌-◌, ◌*◌, ◌/◌, ◌%◌, ◌^◌, ◌≤◌, ◌<◌}
@@ -8,20 +9,18 @@ use native.Mathlib.Omega.{arith}
 use borrow.Author.Tests.{lt-ltb}
 use lib.Dec.{ltb}
 use lib.Pow.{pow-add, pow_pos, pow-lt}
+use Rattle.answers.specs.declared.Refusal.{Refusal}
 use Rattle.answers.specs.Refusals.{answer}
 use Rattle.answers.specs.declared.Numbers.{Numbers}
 use Rattle.answers.proofs.OneToOne.{read_back, refused_back, pinned, rung}
 use Rattle.swizzle.specs.Swizzle.{swizzled}
 use Rattle.swizzle.specs.Mode.{known_bits, bit_length, mode_answer}
 use Rattle.swizzle.specs.declared.Swizzle.{Swizzle}
-use Rattle.swizzle.specs.declared.Chosen.TheVariants.{Parameters}
 use Rattle.swizzle.proofs.Widths.{known_parts, bits_positive}
 use Rattle.swizzle.proofs.Theorems.{no_swizzle, mode_told}
 use Rattle.banks_judged.specs.Bank.{bank_word, line_and_bank, bank_answer, bank_numbers}
 use Rattle.banks_judged.specs.Columns.{piece_at, InPiece, group_of}
 use Rattle.banks_judged.specs.declared.BankWord.{BankWord}
-use Rattle.banks_judged.specs.declared.Banked.{Banked}
-use Rattle.banks_judged.specs.declared.Banked.TheVariants.{At, Refused}
 use Rattle.banks_judged.proofs.Groups.{stays_below, most_bits_moved, group_of_piece, group_of_element, group_of_swizzled, rows_apart}
 use Rattle.banks_judged.proofs.Pieces.{some_element, elements_of_piece, whole_pieces, piece_number, rows_on}
 
@@ -34,12 +33,12 @@ pub record EightGroups (bits mode first column : ℕ) (w : Swizzle) : Type 0 whe
   pub whole : (row m i : ℕ) → InPiece bits (piece_at mode first column row) m → i < bits → group_of bits (swizzled w.m w.b w.s m) i ≡ group row
   -- and below 2^32 the question says so: it names a bank of that group
   pub answered : (row m : ℕ) → InPiece bits (piece_at mode first column row) m → m < 2 ^ 32
-      → (word : BankWord) × (bank_answer bits (swizzled w.m w.b w.s m) ≡ At word) × (word.bank / 4 ≡ group row)
+      → (word : BankWord) × (bank_answer bits (swizzled w.m w.b w.s m) ≡ Ok word) × (word.bank / 4 ≡ group row)
   -- eight rows from any row on have eight different groups
   pub different : (row i j : ℕ) → i < 8 → j < 8 → group (row + i) ≡ group (row + j) → i ≡ j
 
 -- known bits and an address below 2^32 have a line and a bank
-pub found : (bits address : ℕ) → known_bits bits ≡ true → address < 2 ^ 32 → bank_answer bits address ≡ At (line_and_bank bits address)
+pub found : (bits address : ℕ) → known_bits bits ≡ true → address < 2 ^ 32 → bank_answer bits address ≡ Ok (line_and_bank bits address)
 found bits address k h = rw (k, lt-ltb address (2 ^ 32) h)
 
 of_known : (bits mode first column : ℕ) → known_bits bits ≡ true → mode ≤ 3 → first % 1024 ≡ 0
@@ -67,7 +66,7 @@ of_known bits mode first column k most aligned =
 
 -- Request 12 of document 02: rows packed at exactly the mode's width, the first at a multiple of 1,024 bytes, and any column of 16-byte
 -- pieces, swizzled by the mode's M, B, S. Mode 0 is left in: its rows are the pieces themselves
-pub columns_do_not_collide : (bits mode first column : ℕ) (w : Swizzle) → mode_answer bits mode ≡ Parameters w → first % 1024 ≡ 0
+pub columns_do_not_collide : (bits mode first column : ℕ) (w : Swizzle) → mode_answer bits mode ≡ Ok w → first % 1024 ≡ 0
     → EightGroups bits mode first column w
 columns_do_not_collide bits mode first column w chosen aligned =
     let told = mode_told bits mode w chosen in
@@ -76,9 +75,9 @@ columns_do_not_collide bits mode first column w chosen aligned =
 
 -- in the question's answers alone: two elements of the column, in eight rows that follow each other, whose banks are in one group, are of
 -- one row
-pub banks_do_not_collide : (bits mode first column row i j m n : ℕ) (w : Swizzle) (p q : BankWord) → mode_answer bits mode ≡ Parameters w → first % 1024 ≡ 0
+pub banks_do_not_collide : (bits mode first column row i j m n : ℕ) (w : Swizzle) (p q : BankWord) → mode_answer bits mode ≡ Ok w → first % 1024 ≡ 0
     → i < 8 → j < 8 → InPiece bits (piece_at mode first column (row + i)) m → InPiece bits (piece_at mode first column (row + j)) n
-    → m < 2 ^ 32 → n < 2 ^ 32 → bank_answer bits (swizzled w.m w.b w.s m) ≡ At p → bank_answer bits (swizzled w.m w.b w.s n) ≡ At q
+    → m < 2 ^ 32 → n < 2 ^ 32 → bank_answer bits (swizzled w.m w.b w.s m) ≡ Ok p → bank_answer bits (swizzled w.m w.b w.s n) ≡ Ok q
     → p.bank / 4 ≡ q.bank / 4 → i ≡ j
 banks_do_not_collide bits mode first column row i j m n w p q chosen aligned hi hj inM inN hm hn at_p atQ same =
     let eight = columns_do_not_collide bits mode first column w chosen aligned in
@@ -127,7 +126,7 @@ unswizzled_collide bits mode first column k least most aligned eight =
     omega (arith, one-row, pow_pos (3 - mode))
 
 -- so what holds of the numbers of modes 1, 2 and 3 in their rows does not hold there of mode 0's, which are no swizzle
-pub not_without_swizzle : (bits mode first column : ℕ) (w : Swizzle) → mode_answer bits 0 ≡ Parameters w → 1 ≤ mode → mode ≤ 3 → first % 1024 ≡ 0
+pub not_without_swizzle : (bits mode first column : ℕ) (w : Swizzle) → mode_answer bits 0 ≡ Ok w → 1 ≤ mode → mode ≤ 3 → first % 1024 ≡ 0
     → EightGroups bits mode first column w → ⊥
 not_without_swizzle bits mode first column w chosen least most aligned eight =
     let told = mode_told bits 0 w chosen in
@@ -135,23 +134,23 @@ not_without_swizzle bits mode first column w chosen least most aligned eight =
     (subst (EightGroups bits mode first column) told.1 eight)
 
 -- two outcomes that the promise allows are equal
-pub bank_settled : (bits address : ℕ) (p q : Banked) → p ≡ bank_answer bits address → q ≡ bank_answer bits address → p ≡ q
+pub bank_settled : (bits address : ℕ) (p q : Result BankWord Refusal) → p ≡ bank_answer bits address → q ≡ bank_answer bits address → p ≡ q
 bank_settled bits address p q e f = e ∙ sym f
 
 -- pinning the numbers pins the answer
-word_from : Numbers → Banked
-word_from n = At (record { line = n.a; bank = n.b })
+word_from : Numbers → Result BankWord Refusal
+word_from n = Ok (record { line = n.a; bank = n.b })
 
-bank_back : (p : Banked) → read_back word_from Refused (bank_numbers p) ≡ p
+bank_back : (p : Result BankWord Refusal) → read_back word_from Err (bank_numbers p) ≡ p
 unfolding word_from
-bank_back (At word) = refl
-bank_back (Refused r) = refused_back word_from Refused r
+bank_back (Ok word) = refl
+bank_back (Err r) = refused_back word_from Err r
 
-pub bank_one_to_one : (p q : Banked) → bank_numbers p ≡ bank_numbers q → p ≡ q
-bank_one_to_one = pinned word_from Refused bank_numbers bank_back
+pub bank_one_to_one : (p q : Result BankWord Refusal) → bank_numbers p ≡ bank_numbers q → p ≡ q
+bank_one_to_one = pinned word_from Err bank_numbers bank_back
 
 -- in document 02's numbers: 6, or 10, or 0 with line and bank
-pub bank_in_numbers : (bits address : ℕ) (r : Banked) → r ≡ bank_answer bits address
+pub bank_in_numbers : (bits address : ℕ) (r : Result BankWord Refusal) → r ≡ bank_answer bits address
     → bank_numbers r ≡ cond (not (known_bits bits)) (answer 6 0 0 0) (cond (not (ltb address (2 ^ 32))) (answer 10 0 0 0) (answer 0 (bank_word bits address / 32) (bank_word bits address % 32) 0))
 bank_in_numbers bits address r e =
     ap bank_numbers e ∙ rung bank_numbers (not (known_bits bits)) refl (rung bank_numbers (not (ltb address (2 ^ 32))) refl refl)

@@ -4,7 +4,7 @@
 // two are apart.
 #![tactic(auto)]
 
-use answers::Refusal;
+use answers::{Details, Numbers};
 
 // A bank word: its line, and its bank there.
 #[derive(Clone, Copy)]
@@ -13,9 +13,15 @@ pub struct BankWord {
     pub bank: u64,
 }
 
-// The answer to bits and an element address.
-#[derive(Clone, Copy)]
-pub enum Banked {
-    At(BankWord),
-    Refused(Refusal),
+impl Details for BankWord {
+    ghost use Rattle.std.specs.Prelude.{refl};
+    ghost use Rattle.banks_judged.specs.Bank.{word_numbers};
+
+    ghost as_numbers = { word_numbers };
+
+    ghost reads_back = { (λ n. record { line = n.a; bank = n.b }, λ x. (refl, refl)) };
+
+    fn details(self) -> Numbers {
+        answers::answer(0, self.line, self.bank, 0)
+    }
 }

@@ -1,4 +1,5 @@
 -- The check notices every single changed byte: 65,521 is prime, and no weight times a difference of two bytes reaches it twice.
+use Rattle.std.specs.Prelude.{Ok, Err}
 use Prim.Native.Nat.{ℕ, zero, suc, ◌+◌, ◌*◌, ◌-◌, ◌%◌, ◌≤◌, ◌<◌}
 use mathlib.Core.Path.{◌≡◌, refl, sym, ap, ◌∙◌}
 use mathlib.Core.Bool.{Bool, true, false, cond, not, ◌||◌, true≢false}
@@ -10,6 +11,7 @@ use borrow.Author.Tests.{ltb-false, eq-eqb, ne_eqb, eqb-true, not-false, le-ltb,
 use lib.Dec.{leb, eqb, ltb}
 use lib.ListN.{length, get_or, set, take, drop, length-set, length-drop}
 use lib.Seq.{take-set-lt, take-set-le, drop-set-lt, drop-set-add, get_or-take, get_or-drop, length-take-le}
+use Rattle.answers.specs.Refusals.{no_refusal}
 use Rattle.answers.specs.declared.Refusal.{Refusal}
 use Rattle.answers.specs.declared.Refusal.TheVariants.{TooShort, WrongCheck}
 use Rattle.laws.proofs.Below.{below, below_at}
@@ -18,7 +20,6 @@ use Rattle.laws.proofs.Rungs.{apart, passed_by}
 use Rattle.book.specs.Bytes.{number, field}
 use Rattle.book.specs.Block.{weighed, modulus, check_of, block_length}
 use Rattle.book.specs.Book.{check_right, read_answer}
-use Rattle.book.specs.declared.Answer.TheVariants.{Done, Refused}
 
 -- one byte set: its weight times the new one comes in the place of its weight times the old one
 pub weighed_set : (l : List ℕ) (j i v : ℕ) → i < length l
@@ -111,7 +112,7 @@ check_notices block i v long h old new other right =
 
 -- so of a block that was read it is refused, 19
 pub byte_noticed : (block : List ℕ) (i v : ℕ) → length block ≡ 512 → i < 512 → get_or block i 0 < 256 → v < 256 → (v ≡ get_or block i 0 → ⊥)
-    → read_answer block ≡ Done → read_answer (set block i v) ≡ Refused WrongCheck
+    → read_answer block ≡ no_refusal → read_answer (set block i v) ≡ Err WrongCheck
 unfolding read_answer
 byte_noticed block i v long h old new other done =
     let eleven = passed_by (ltb (length block) block_length) done (λ q. apart (cc)) in

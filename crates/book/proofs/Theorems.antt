@@ -1,4 +1,5 @@
 -- Request 9 in plain for-alls: one card with one note has one block, and what is written reads back.
+use Rattle.std.specs.Prelude.{Ok, Err}
 use Prim.Native.Nat.{ℕ, zero, suc, ◌+◌, ◌*◌, ◌-◌, ◌^◌, ◌≤◌, ◌<◌}
 use mathlib.Core.Path.{◌≡◌, refl, sym, ap, ap₂, ◌∙◌}
 use mathlib.Core.Bool.{Bool, true, false, cond, not, ◌&&◌, and-eq-true_iff, true≢false}
@@ -10,6 +11,7 @@ use lib.Dec.{leb, ltb, eqb}
 use lib.IntN.{ℤ, pos, nat_abs}
 use lib.ListN.{length, get_or, take, drop, replicate, length-append, length-map, get_or-map}
 use lib.Seq.{take_all, take_at, take-append-le, get_or-take, length-take-le}
+use Rattle.answers.specs.Refusals.{no_refusal}
 use Rattle.answers.specs.declared.Refusal.{Refusal}
 use Rattle.answers.specs.declared.Refusal.TheVariants.{Counts, TooShort, WrongCheck, Unused}
 use Rattle.laws.proofs.Rungs.{apart, passed_by}
@@ -21,7 +23,6 @@ use Rattle.card.specs.Admission.{counts_fit, iters_fit, iters_on_axes, axes_fit,
 use Rattle.card.specs.declared.Iter.{Iter}
 use Rattle.card.specs.declared.Iters.{Iters}
 use Rattle.card.specs.declared.Card.{Card}
-use Rattle.card.specs.declared.Admission.TheVariants.{Admitted}
 use Rattle.card.proofs.Lists.{all_at, within_numbers, stride_far, same_true, same_refl}
 use Rattle.card.proofs.Listed.{Counted, counted}
 use Rattle.card.proofs.Admitted.{Checked, checked, fitting, numbered}
@@ -29,8 +30,6 @@ use Rattle.card.proofs.ReadBack.{OfEight, padded_at}
 use Rattle.book.specs.Bytes.{bytes, number, bytes_from, field, gather}
 use Rattle.book.specs.Block.{iter_bytes, slot_bytes, first_bytes, shard_bytes, replica_bytes, offset_bytes, length_bytes, head_bytes, note_bytes, most_note, check_of, body_of, block_of, block_length}
 use Rattle.book.specs.Book.{card_in, noted_in, note_in, check_right, all_used, read_answer}
-use Rattle.book.specs.declared.Answer.{Answer}
-use Rattle.book.specs.declared.Answer.TheVariants.{Done, Refused}
 use Rattle.book.proofs.Bytes.{four_back}
 use Rattle.book.proofs.Parts.{Lies, lies_first, lies_part, lies_longer}
 use Rattle.book.proofs.Laid.{lies_head, lies_note, lies_check, length_body, length_block}
@@ -44,7 +43,7 @@ pub record Passed (block : List ℕ) : Type 0 where
   pub noted : noted_in block ≤ most_note
   pub is : take 512 block ≡ block_of (card_in block) (note_in block)
 
-pub passed : (block : List ℕ) → read_answer block ≡ Done → Passed block
+pub passed : (block : List ℕ) → read_answer block ≡ no_refusal → Passed block
 unfolding read_answer
 passed block done =
     let eleven = passed_by (ltb (length block) block_length) done (λ q. apart (cc)) in
@@ -61,7 +60,7 @@ passed block done =
     }
 
 -- one card with one note has one block: two blocks that read to the same card and the same note are the same
-pub one_block : (b c : List ℕ) → length b ≡ 512 → length c ≡ 512 → read_answer b ≡ Done → read_answer c ≡ Done → card_in b ≡ card_in c → note_in b ≡ note_in c → b ≡ c
+pub one_block : (b c : List ℕ) → length b ≡ 512 → length c ≡ 512 → read_answer b ≡ no_refusal → read_answer c ≡ no_refusal → card_in b ≡ card_in c → note_in b ≡ note_in c → b ≡ c
 one_block b c long-b long-c done-b done-c card note =
     sym (take_all 512 b (omega arith)) ∙ (passed b done-b).is ∙ ap₂ block_of card note ∙ sym (passed c done-c).is ∙ take_all 512 c (omega arith)
 
@@ -82,7 +81,7 @@ small_iter iters fit axes eight few k h =
     let stride = stride_far (get_or iters.at k none).stride (listed_at iters stride_of (within_z least_stride most_stride) f.strides eight few k h) in
     record { extent = omega (arith, extent.1); stride = omega (arith, stride); axis = omega (arith, axis.1) }
 
-pub holdable : (card : Card) → OfEight card → admission card ≡ Admitted → Holdable card
+pub holdable : (card : Card) → OfEight card → admission card ≡ no_refusal → Holdable card
 holdable card eight e =
     let k = checked card e in
     let n = numbered card k.numbers in
@@ -132,29 +131,29 @@ head_kept card noted eight counts =
 
 -- what is written reads back: the card, slots and marks past its counts as zeros, and the note; bytes past the block are not looked at
 pub record ReadBack (card : Card) (note block : List ℕ) : Type 0 where
-  pub accepted : read_answer block ≡ Done
+  pub accepted : read_answer block ≡ no_refusal
   pub same_card : card_in block ≡ kept card
   pub same_note : note_in block ≡ note
 
 -- the ladder of a read, rung by rung
 module _ (b : List ℕ) where
-  pub at_eleven : ltb (length b) block_length ≡ true → read_answer b ≡ Refused (TooShort block_length)
+  pub at_eleven : ltb (length b) block_length ≡ true → read_answer b ≡ Err (TooShort block_length)
   unfolding read_answer
   at_eleven p = rw p
 
-  pub at_nineteen : ltb (length b) block_length ≡ false → check_right b ≡ false → read_answer b ≡ Refused WrongCheck
+  pub at_nineteen : ltb (length b) block_length ≡ false → check_right b ≡ false → read_answer b ≡ Err WrongCheck
   unfolding read_answer
   at_nineteen p q = rw (p, q)
 
-  pub at_one : ltb (length b) block_length ≡ false → check_right b ≡ true → counts_fit (card_in b) ≡ false → read_answer b ≡ Refused Counts
+  pub at_one : ltb (length b) block_length ≡ false → check_right b ≡ true → counts_fit (card_in b) ≡ false → read_answer b ≡ Err Counts
   unfolding read_answer
   at_one p q r = rw (p, q, r)
 
-  pub at_twenty : ltb (length b) block_length ≡ false → check_right b ≡ true → counts_fit (card_in b) ≡ true → all_used b ≡ false → read_answer b ≡ Refused Unused
+  pub at_twenty : ltb (length b) block_length ≡ false → check_right b ≡ true → counts_fit (card_in b) ≡ true → all_used b ≡ false → read_answer b ≡ Err Unused
   unfolding read_answer
   at_twenty p q r s = rw (p, q, r, s)
 
-  pub answered : ltb (length b) block_length ≡ false → check_right b ≡ true → counts_fit (card_in b) ≡ true → all_used b ≡ true → read_answer b ≡ Done
+  pub answered : ltb (length b) block_length ≡ false → check_right b ≡ true → counts_fit (card_in b) ≡ true → all_used b ≡ true → read_answer b ≡ no_refusal
   unfolding read_answer
   answered p q r s = rw (p, q, r, s)
 
@@ -192,5 +191,5 @@ held_back card note rest h short =
       same_note = note-back;
     }
 
-pub read_back_lem : (card : Card) (note rest : List ℕ) → OfEight card → admission card ≡ Admitted → length note ≤ most_note → ReadBack card note (block_of card note ++ rest)
+pub read_back_lem : (card : Card) (note rest : List ℕ) → OfEight card → admission card ≡ no_refusal → length note ≤ most_note → ReadBack card note (block_of card note ++ rest)
 read_back_lem card note rest eight admitted short = held_back card note rest (holdable card eight admitted) short

@@ -1,6 +1,7 @@
 -- Reading and writing a block: what a block holds, and the order of the refusals.
-use Rattle.std.specs.Prelude.{ℕ, ◌+◌, ◌*◌, Bool, false, cond, not, ◌&&◌, List, [], ◌++◌, map, ◌≡◌, leb, ltb, eqb, ℤ, length, take, drop}
-use Rattle.answers.specs.Refusals.{answer, refusal_numbers}
+use Rattle.std.specs.Prelude.{ℕ, ◌+◌, ◌*◌, Bool, false, cond, not, ◌&&◌, List, [], ◌++◌, map, ◌≡◌, leb, ltb, eqb, ℤ, length, take, drop, Result, ⊤, Err, Ok}
+use Rattle.answers.specs.declared.Refusal.{Refusal}
+use Rattle.answers.specs.Refusals.{answer, refusal_numbers, numbers_of, just_zero, no_refusal}
 use Rattle.answers.specs.declared.Numbers.{Numbers}
 use Rattle.answers.specs.declared.Refusal.TheVariants.{Counts, TooShort, WrongCheck, Unused}
 use Rattle.card.specs.Lists.{same, slots}
@@ -9,13 +10,9 @@ use Rattle.card.specs.Admission.{counts_fit, admission}
 use Rattle.card.specs.declared.Iter.{Iter}
 use Rattle.card.specs.declared.Iters.{Iters}
 use Rattle.card.specs.declared.Card.{Card}
-use Rattle.card.specs.declared.Admission.{Admission}
-use Rattle.card.specs.declared.Admission.TheVariants.{Admitted, Refused as NotAdmitted}
 use Rattle.book.specs.Bytes.{field, bytes_from, signed32}
 use Rattle.book.specs.Block.{most_note, check_of, block_of, block_length}
 use Rattle.book.specs.declared.Page.{Page}
-use Rattle.book.specs.declared.Answer.{Answer}
-use Rattle.book.specs.declared.Answer.TheVariants.{Done, Refused}
 
 -- the iter from this byte on
 abbrev pub iter_in : List ℕ → ℕ → Iter
@@ -72,48 +69,47 @@ abbrev pub all_used : List ℕ → Bool
 all_used block = leb (noted_in block) most_note && same (take block_length block) (block_of (card_in block) (note_in block))
 
 -- reading: 11, 19, 1, 20
-unfoldable pub read_answer : List ℕ → Answer
+unfoldable pub read_answer : List ℕ → Result ⊤ Refusal
 read_answer block =
-    cond (ltb (length block) block_length) (Refused (TooShort block_length))
-    (cond (not (check_right block)) (Refused WrongCheck)
-    (cond (not (counts_fit (card_in block))) (Refused Counts)
-    (cond (not (all_used block)) (Refused Unused)
-    Done)))
+    cond (ltb (length block) block_length) (Err (TooShort block_length))
+    (cond (not (check_right block)) (Err WrongCheck)
+    (cond (not (counts_fit (card_in block))) (Err Counts)
+    (cond (not (all_used block)) (Err Unused)
+    no_refusal)))
 
 -- a refused read gives a card of zeros and an empty note
-abbrev pub card_read : Answer → List ℕ → Card
-card_read Done block = card_in block
-card_read (Refused refusal) block = no_card
+abbrev pub card_read : Result ⊤ Refusal → List ℕ → Card
+card_read (Ok _) block = card_in block
+card_read (Err refusal) block = no_card
 
 abbrev pub page_of : List ℕ → Page
 page_of block = record { answer = read_answer block; card = card_read (read_answer block) block }
 
-abbrev pub note_read : Answer → List ℕ → List ℕ
-note_read Done block = note_in block
-note_read (Refused refusal) block = []
+abbrev pub note_read : Result ⊤ Refusal → List ℕ → List ℕ
+note_read (Ok _) block = note_in block
+note_read (Err refusal) block = []
 
 -- and where in memory the note begins, a place being a memory block and a byte of it: 216 bytes into the block, and where refused at its start
-abbrev pub bytes_before : Answer → ℕ
-bytes_before Done = note_from
-bytes_before (Refused refusal) = 0
+abbrev pub bytes_before : Result ⊤ Refusal → ℕ
+bytes_before (Ok _) = note_from
+bytes_before (Err refusal) = 0
 
-abbrev pub NoteBegins : Answer → ℕ × ℕ → ℕ × ℕ → Type 0
+abbrev pub NoteBegins : Result ⊤ Refusal → ℕ × ℕ → ℕ × ℕ → Type 0
 NoteBegins answer block note = (note.0 ≡ block.0) × (note.1 ≡ block.1 + bytes_before answer)
 
 -- writing: checks 1 to 6, then 20, then 11
-abbrev pub write_checked : Admission → ℕ → ℕ → Answer
-write_checked (NotAdmitted refusal) noted room = Refused refusal
-write_checked Admitted noted room = cond (ltb most_note noted) (Refused Unused) (cond (ltb room block_length) (Refused (TooShort block_length)) Done)
+abbrev pub write_checked : Result ⊤ Refusal → ℕ → ℕ → Result ⊤ Refusal
+write_checked (Err refusal) noted room = Err refusal
+write_checked (Ok _) noted room = cond (ltb most_note noted) (Err Unused) (cond (ltb room block_length) (Err (TooShort block_length)) no_refusal)
 
-abbrev pub write_answer : Card → ℕ → ℕ → Answer
+abbrev pub write_answer : Card → ℕ → ℕ → Result ⊤ Refusal
 write_answer card noted room = write_checked (admission card) noted room
 
 -- the lent bytes: the block, and those past it stay; refused, all stay
-abbrev pub lent_after : Answer → Card → List ℕ → List ℕ → List ℕ
-lent_after Done card note memory = block_of card note ++ drop block_length memory
-lent_after (Refused refusal) card note memory = memory
+abbrev pub lent_after : Result ⊤ Refusal → Card → List ℕ → List ℕ → List ℕ
+lent_after (Ok _) card note memory = block_of card note ++ drop block_length memory
+lent_after (Err refusal) card note memory = memory
 
 -- at number 0 the details are zero
-abbrev pub answer_numbers : Answer → Numbers
-answer_numbers Done = answer 0 0 0 0
-answer_numbers (Refused refusal) = refusal_numbers refusal
+abbrev pub answer_numbers : Result ⊤ Refusal → Numbers
+answer_numbers = numbers_of just_zero

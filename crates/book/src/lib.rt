@@ -17,16 +17,9 @@ pub const NOTE: usize = 216;
 
 pub const MOST_NOTE: usize = 292;
 
-// The answer to the reading or the writing of a block.
-#[derive(Clone, Copy)]
-pub enum Answer {
-    Done,
-    Refused(Refusal),
-}
-
 // What reading a block gives beside its note: the answer, and the card.
 #[derive(Clone, Copy)]
 pub struct Page {
-    pub answer: Answer,
+    pub answer: Result<(), Refusal>,
     pub card: Card,
 }

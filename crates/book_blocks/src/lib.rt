@@ -15,10 +15,8 @@ fn weigh(block: &[u8]) -> u64
     ensures { result ≡ check_of (take 508 block.now) }
 {
     let mut sum: u64 = 0;
-    let mut i: usize = 0;
-    while i < book::CHECK {
+    for i in 0..book::CHECK {
         sum += (i as u64 + 1) * book_card::wide(block[i]);
-        i += 1;
     }
     sum % book::MODULUS
 }
@@ -43,10 +41,8 @@ fn fill_body(words: &[u64; 54], note: &[u8], block: &mut [u8])
     requires { length block.old ≡ 512 }
     ensures { (length block.new ≡ 512) × ((j : ℕ) → j < 508 → get_or block.new j 0 ≡ body_byte words.now note.now j) }
 {
-    let mut j: usize = 0;
-    while j < book::CHECK {
+    for j in 0..book::CHECK {
         block[j] = body_byte(words, note, j);
-        j += 1;
     }
 }
 

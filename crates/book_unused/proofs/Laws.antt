@@ -5,7 +5,7 @@ use mathlib.Core.Bool.{Bool, true, false, ◌&&◌, and-eq-true_iff}
 use mathlib.Core.List.{List}
 use mathlib.Core.Logic.{◌⊎◌, inl, inr, ◌↔◌}
 use native.Mathlib.Omega.{arith}
-use borrow.Author.Tests.{leb-true, le-leb, eqb-true, eq-eqb}
+use borrow.Author.Tests.{le-leb, eqb-true, eq-eqb}
 use lib.Dec.{leb, eqb}
 use lib.ListN.{length, get_or, take}
 use Rattle.laws.proofs.Order.{le_or_lt}
@@ -27,43 +27,6 @@ both {a} {b} p q = (
 
 pub is_zero : (n : ℕ) → (eqb n 0 ≡ true) ↔ (n ≡ 0)
 is_zero n = (eqb-true n 0, eq-eqb n 0)
-
-pub is_most : (n most : ℕ) → (leb n most ≡ true) ↔ (n ≤ most)
-is_most n most = (leb-true n most, le-leb n most)
-
--- one byte more is zero
-pub zeros_none : (b : List ℕ) (from : ℕ) → (true ≡ true) ↔ Zeros b from from
-zeros_none b from = (λ t i low high. absurd (omega arith), λ h. refl)
-
-pub zeros_more : (b : List ℕ) (from i : ℕ) (z : Bool) → from ≤ i → ((z ≡ true) ↔ Zeros b from i)
-    → ((z && eqb (get_or b i 0) 0) ≡ true) ↔ Zeros b from (i + 1)
-zeros_more b from i z h so_far =
-    let two = both so_far (is_zero (get_or b i 0)) in (
-      λ t j low high. split (two.0 t) j low high (le_or_lt i j),
-      λ all. two.1 (λ j low high. all j low (omega arith), all i h (omega arith)),
-    )
-  where
-    split : Zeros b from i × (get_or b i 0 ≡ 0) → (j : ℕ) → from ≤ j → j < i + 1 → (i ≤ j) ⊎ (j < i) → get_or b j 0 ≡ 0
-    split s j low high (inl late) = let same : j ≡ i = omega arith in ap (λ (x : ℕ). get_or b x 0) same ∙ s.1
-    split s j low high (inr early) = s.0 j low early
-
--- one slot more ends as it may
-pub ends_none : (b : List ℕ) (from most : ℕ) → (true ≡ true) ↔ SlotsEnd b from most 0
-ends_none b from most = (λ t k h. absurd (omega arith), λ h. refl)
-
-pub ends_more : (b : List ℕ) (from most k at : ℕ) (z : Bool) → at ≡ from + 12 * k + 9 → ((z ≡ true) ↔ SlotsEnd b from most k)
-    → ((z && (leb (get_or b at 0) most && eqb (get_or b (at + 1) 0) 0 && eqb (get_or b (at + 2) 0) 0)) ≡ true) ↔ SlotsEnd b from most (k + 1)
-ends_more b from most k at z place so_far =
-    let here = both so_far (both (both (is_most (get_or b at 0) most) (is_zero (get_or b (at + 1) 0))) (is_zero (get_or b (at + 2) 0))) in (
-      λ t j h. let s = here.0 t in split s.0 (s.1.0.0, s.1.0.1, s.1.1) j h (le_or_lt k j),
-      λ all.
-          let e = subst (End b most) (sym place) (all k (omega arith)) in
-          here.1 (λ j h. all j (omega arith), ((e.0, e.1), e.2)),
-    )
-  where
-    split : SlotsEnd b from most k → End b most at → (j : ℕ) → j < k + 1 → (k ≤ j) ⊎ (j < k) → End b most (from + 12 * j + 9)
-    split s e j h (inl late) = let same : at ≡ from + 12 * j + 9 = omega arith in subst (End b most) same e
-    split s e j h (inr early) = s j early
 
 -- all tests, as they are joined
 abbrev pub Tested : List ℕ → ℕ → ℕ → ℕ → Type 0

@@ -12,10 +12,8 @@ fn are_zeros(block: &[u8], from: usize, to: usize) -> bool
     ensures { (result ≡ true) ↔ Zeros block.now from to }
 {
     let mut zero = true;
-    let mut i = from;
-    while i < to {
+    for i in from..to {
         zero = zero & (block[i] == 0);
-        i += 1;
     }
     zero
 }
@@ -26,12 +24,10 @@ fn are_ends(block: &[u8], from: usize, most: u8, count: usize) -> bool
     ensures { (result ≡ true) ↔ SlotsEnd block.now from most count }
 {
     let mut fine = true;
-    let mut k: usize = 0;
-    while k < count {
+    for k in 0..count {
         let at = from + 12 * k + 9;
         let ends = (block[at] <= most) & (block[at + 1] == 0) & (block[at + 2] == 0);
         fine = fine & ends;
-        k += 1;
     }
     fine
 }

@@ -2,8 +2,7 @@
 // Every field of a card fills or shares an aligned word, so that one function goes by the word's place and one loop stores the bytes.
 #![tactic(auto)]
 
-ghost use Rattle.std.specs.Prelude.{◌≡◌, ℕ, ◌^◌, ◌<◌, ◌≤◌, length, get_or};
-ghost use Rattle.card.specs.Card.{mark_number};
+ghost use Rattle.std.specs.Prelude.{◌≡◌, ℕ, ◌^◌, ◌<◌, length, get_or};
 ghost use Rattle.book.specs.Bytes.{twos};
 ghost use Rattle.book_words.specs.Words.{iter_word, slot_word, first_word, word_of};
 
@@ -19,13 +18,6 @@ fn twos(z: i64) -> u64
     (z as u64) % 4294967296
 }
 
-// A mark as a number.
-fn mark_number(mark: bool) -> u64
-    ensures { (result ≡ mark_number mark) × (result ≤ 1) }
-{
-    if mark { 1 } else { 0 }
-}
-
 // Word j of an iter.
 fn iter_word(iter: Iter, mark: bool, j: usize) -> u64
     ensures { result ≡ iter_word iter mark j }
@@ -36,7 +28,7 @@ fn iter_word(iter: Iter, mark: bool, j: usize) -> u64
     if j == 1 {
         return twos(iter.stride);
     }
-    iter.axis % 256 + 256 * mark_number(mark)
+    iter.axis % 256 + 256 * u64::from(mark)
 }
 
 // Word i of the slots of a list of iters.
@@ -100,10 +92,8 @@ pub fn words_of(card: Card, noted: u64) -> [u64; 54]
     ensures { (length result ≡ 54) × ((i : ℕ) → i < 54 → get_or result i 0 ≡ word_of card noted i) }
 {
     let mut words = [0u64; 54];
-    let mut i: usize = 0;
-    while i < 54 {
-        words[i] = word(card, noted, i);
-        i += 1;
+    for (i, place) in words.iter_mut().enumerate() {
+        *place = word(card, noted, i);
     }
     words
 }

@@ -1,5 +1,6 @@
 -- Registers that are dealt or collected into empty ones and written back leave the arrays as promised: the computation's own are the same,
 -- and every other is empty and writes nothing where it would have written what was read.
+use Rattle.std.specs.Prelude.{Ok, Result, ⊤}
 use mathlib.Core.Path.{◌≡◌, refl, sym, ap, ◌∙◌}
 use mathlib.Core.Bool.{Bool, true, false}
 use mathlib.Core.List.{List, []}
@@ -7,12 +8,12 @@ use Prim.Native.Nat.{ℕ, ◌+◌, ◌*◌, ◌/◌, ◌%◌, ◌<◌}
 use native.Mathlib.Omega.{arith}
 use lib.Dec.{eqb}
 use lib.ListN.{length, get_or, replicate, length-replicate, get_or-replicate}
+use Rattle.answers.specs.Refusals.{no_refusal}
+use Rattle.answers.specs.declared.Refusal.{Refusal}
 use Rattle.fragment.specs.Kinds.{at}
 use Rattle.fragment.specs.Fragment.{is_place}
 use Rattle.c_bits.specs.declared.Bits.{Bits}
 use Rattle.c_bits.specs.declared.Bits.TheVariants.{Empty}
-use Rattle.values.specs.declared.Moved.{Moved}
-use Rattle.values.specs.declared.Moved.TheVariants.{Done}
 use Rattle.values.specs.Rows.{entry}
 use Rattle.values.specs.Values.{is_own, dealt, collected}
 use Rattle.values.specs.Registers.{deal_answer, filled}
@@ -83,7 +84,7 @@ module _ (rows : ℕ) (sorts singles doubles : List ℕ) where
 
 module _ (kind c : ℕ) (sorts singles doubles : List ℕ) where
   -- what is dealt to empty lanes is written as what is dealt to the given ones
-  pub dealt_to_empties : (tile : List (List Bits)) → deal_answer kind c (registers_held tile) ≡ Done
+  pub dealt_to_empties : (tile : List (List Bits)) → deal_answer kind c (registers_held tile) ≡ no_refusal
       → WrittenAlike 32 sorts singles doubles (dealt Empty kind c tile (empties 32)) (dealt_bits kind c tile (rows_from 32 sorts singles doubles))
   dealt_to_empties tile d =
       let given : List (List Bits) = rows_from 32 sorts singles doubles in
@@ -98,7 +99,7 @@ module _ (kind c : ℕ) (sorts singles doubles : List ℕ) where
       }))
 
   -- and what is collected into an empty tile as what is collected into the given one
-  pub collected_into_empties : (m : Moved) (lanes : List (List Bits)) → m ≡ Done
+  pub collected_into_empties : (m : Result ⊤ Refusal) (lanes : List (List Bits)) → m ≡ no_refusal
       → let given = rows_from 8 sorts singles doubles in
       WrittenAlike 8 sorts singles doubles (collected Empty kind c lanes (empties 8)) (filled m (collected Empty kind c lanes given) given)
   collected_into_empties m lanes d =

@@ -1,5 +1,6 @@
 -- Registers that are written back as they were read leave every array as given, a sort above 2 too, and where only some were dealt or
 -- collected the other entries: by cases on the sort.
+use Rattle.std.specs.Prelude.{Result, ⊤, Ok, Err}
 use mathlib.Core.Path.{◌≡◌, refl, sym, ap, ◌∙◌}
 use mathlib.Core.Bool.{Bool, true, false, cond}
 use mathlib.Core.List.{List, []}
@@ -10,12 +11,11 @@ use native.Mathlib.Nat.{le_of_suc-le-suc, not-suc-le-zero}
 use borrow.Author.Tests.{eqb-true}
 use lib.Dec.{eqb}
 use lib.ListN.{length, get_or}
+use Rattle.answers.specs.declared.Refusal.{Refusal}
 use Rattle.fragment.specs.Kinds.{at}
 use Rattle.fragment.specs.Fragment.{is_place}
 use Rattle.c_bits.specs.declared.Bits.{Bits}
 use Rattle.c_bits.specs.declared.Bits.TheVariants.{Empty, Single, Double}
-use Rattle.values.specs.declared.Moved.{Moved}
-use Rattle.values.specs.declared.Moved.TheVariants.{Done, Refused}
 use Rattle.values.specs.Rows.{entry}
 use Rattle.values.specs.Values.{is_own, dealt, collected}
 use Rattle.values.specs.Registers.{deal_answer, collect_answer, filled}
@@ -118,10 +118,10 @@ module _ (rows : ℕ) (sorts singles doubles : List ℕ) where
           each_at (written write registers) l j other (rw e h) ∙ ap (λ (g : Bits). write g (get_or l j other)) (same ∙ entry_at j h) ∙ kept
 
 -- what is filled or not stays where filling keeps it
-filled_keeps : (m : Moved) (new given : List (List Bits)) (r k : ℕ) → entry Empty new r k ≡ entry Empty given r k
+filled_keeps : (m : Result ⊤ Refusal) (new given : List (List Bits)) (r k : ℕ) → entry Empty new r k ≡ entry Empty given r k
     → entry Empty (filled m new given) r k ≡ entry Empty given r k
-filled_keeps Done new given r k e = e
-filled_keeps (Refused refusal) new given r k e = refl
+filled_keeps (Ok _) new given r k e = e
+filled_keeps (Err refusal) new given r k e = refl
 
 module _ (kind c : ℕ) (sorts singles doubles : List ℕ) (j : ℕ) where
   -- dealing leaves every entry whose register is not the computation's
@@ -133,7 +133,7 @@ module _ (kind c : ℕ) (sorts singles doubles : List ℕ) (j : ℕ) where
       (filled_keeps (deal_answer kind c (registers_held tile)) (dealt Empty kind c tile given) given (j / 8) (j % 8) (dealt_other Empty kind c tile given (j / 8) (j % 8) o))
 
   -- collecting leaves every entry whose place is not one of the matrix, from registers as from holdings
-  collected_leaves : (m : Moved) (lanes : List (List Bits)) → j < 64 → is_place kind (at c (j / 8) (j % 8)) ≡ false
+  collected_leaves : (m : Result ⊤ Refusal) (lanes : List (List Bits)) → j < 64 → is_place kind (at c (j / 8) (j % 8)) ≡ false
       → let given = rows_from 8 sorts singles doubles in EntryStays 8 sorts singles doubles (filled m (collected Empty kind c lanes given) given) j
   collected_leaves m lanes h p =
       let given : List (List Bits) = rows_from 8 sorts singles doubles in

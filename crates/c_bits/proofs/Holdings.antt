@@ -1,5 +1,6 @@
 -- Holdings by their bits: what is dealt to them is in their registers, so that collecting it gives back the same bits; every number whose field is not
 -- the kind's own stays; and where refused all of them. By cases on the four fields.
+use Rattle.std.specs.Prelude.{Result, ⊤, Err, Ok}
 use mathlib.Core.Path.{◌≡◌, refl, sym, ap, ◌∙◌}
 use mathlib.Core.Bool.{Bool, true, false, cond, true≢false}
 use mathlib.Core.List.{List, []}
@@ -7,6 +8,8 @@ use Prim.Native.Nat.{ℕ, zero, suc, ◌+◌, ◌*◌, ◌/◌, ◌%◌, ◌<◌
 use native.Mathlib.Omega.{arith}
 use lib.Dec.{eqb, ltb}
 use lib.ListN.{length, get_or}
+use Rattle.answers.specs.Refusals.{no_refusal}
+use Rattle.answers.specs.declared.Refusal.{Refusal}
 use Rattle.laws.proofs.Rungs.{apart, ended_at}
 use Rattle.fragment.specs.Kinds.{at, place}
 use Rattle.fragment.specs.Fragment.{is_place}
@@ -14,8 +17,6 @@ use Rattle.fragment.proofs.Back.{back}
 use Rattle.fragment.specs.declared.Slot.{Slot}
 use Rattle.values.specs.declared.Register.{Register}
 use Rattle.values.specs.declared.Register.TheVariants.{Empty as NoValue}
-use Rattle.values.specs.declared.Moved.{Moved}
-use Rattle.values.specs.declared.Moved.TheVariants.{Done, Refused}
 use Rattle.values.specs.Rows.{each, entry}
 use Rattle.values.specs.Values.{is_own, in_tile, dealt, collected}
 use Rattle.values.specs.Registers.{is_matrix, is_of_sort, filled}
@@ -98,9 +99,9 @@ module _ (kind c : ℕ) (tile : List (List Bits)) (numbers : List ℕ) where
       → get_or (dealt_numbers kind c tile numbers) j 0 ≡ get_or numbers j 0
   dealing_to_holdings_leaves e j h d = by_answer (deal_holdings_answer kind c (registers_held tile)) refl
     where
-      by_answer : (m : Moved) → deal_holdings_answer kind c (registers_held tile) ≡ m → get_or (filled m (numbers_after kind bare numbers) numbers) j 0 ≡ get_or numbers j 0
-      by_answer (Refused r) p = refl
-      by_answer Done p =
+      by_answer : (m : Result ⊤ Refusal) → deal_holdings_answer kind c (registers_held tile) ≡ m → get_or (filled m (numbers_after kind bare numbers) numbers) j 0 ≡ get_or numbers j 0
+      by_answer (Err r) p = refl
+      by_answer (Ok _) p =
           let later = ended_at (ltb 5 kind) p (λ q. apart (cc)) in
           let matrix = ended_at (is_matrix kind c) later.1 (λ q. apart (cc)) in
           let same : j ≡ 4 * (j / 4) + j % 4 = omega arith in
@@ -109,23 +110,23 @@ module _ (kind c : ℕ) (tile : List (List Bits)) (numbers : List ℕ) where
 
   -- bits that were dealt to holdings and are collected from them: every place of the matrix has the same bits, every other stays as given
   pub record BitsHeldGivenBack (into : List (List Bits)) : Type 0 where
-    pub answer : collect_holdings_answer kind c ≡ Done
+    pub answer : collect_holdings_answer kind c ≡ no_refusal
     pub places : (row column : ℕ) → is_place kind (at c row column) ≡ true
         → entry Empty (collected_from_numbers kind c (dealt_numbers kind c tile numbers) into) row column ≡ entry Empty tile row column
     pub others : (row column : ℕ) → is_place kind (at c row column) ≡ false
         → entry Empty (collected_from_numbers kind c (dealt_numbers kind c tile numbers) into) row column ≡ entry Empty into row column
 
-  pub bits_collected_as_dealt_to_holdings : (into : List (List Bits)) → length numbers ≡ 128 → IsTile into → deal_holdings_answer kind c (registers_held tile) ≡ Done
+  pub bits_collected_as_dealt_to_holdings : (into : List (List Bits)) → length numbers ≡ 128 → IsTile into → deal_holdings_answer kind c (registers_held tile) ≡ no_refusal
       → BitsHeldGivenBack into
   bits_collected_as_dealt_to_holdings into e t p =
       let later = ended_at (ltb 5 kind) p (λ q. apart (cc)) in
       let matrix = ended_at (is_matrix kind c) later.1 (λ q. apart (cc)) in
-      let accepted : collect_holdings_answer kind c ≡ Done = rw (later.0, matrix.0) in
+      let accepted : collect_holdings_answer kind c ≡ no_refusal = rw (later.0, matrix.0) in
       let left : List ℕ = numbers_after kind bare numbers in
-      let dealing : dealt_numbers kind c tile numbers ≡ left = ap (λ (m : Moved). filled m left numbers) p in
+      let dealing : dealt_numbers kind c tile numbers ≡ left = ap (λ (m : Result ⊤ Refusal). filled m left numbers) p in
       let whole : collected_from_numbers kind c (dealt_numbers kind c tile numbers) into ≡ collected Empty kind c (lanes_from kind left) into =
       ap (λ (x : List ℕ). collected_from_numbers kind c x into) dealing
-      ∙ ap (λ (m : Moved). filled m (collected Empty kind c (lanes_from kind left) into) into) accepted in
+      ∙ ap (λ (m : Result ⊤ Refusal). filled m (collected Empty kind c (lanes_from kind left) into) into) accepted in
       let sorts = (judged_means kind c (λ lane i. in_tile NoValue (registers_held tile) (place kind lane i))).accepted matrix.1 in
       record {
         answer = accepted;

@@ -1,17 +1,17 @@
 -- Bits read as registers: what stands at a place is read where it stands, and what is dealt or collected as bits is read as what is dealt or
 -- collected as registers. Nothing but the image of each entry: by induction on the lists.
+use Rattle.std.specs.Prelude.{Result, ⊤, Ok, Err}
 use mathlib.Core.Path.{◌≡◌, refl, sym, ap, ◌∙◌}
 use mathlib.Core.Bool.{Bool, true, false, cond}
 use mathlib.Core.List.{List, [], ◌∷◌, map}
 use Prim.Native.Nat.{ℕ, suc, ◌*◌, ◌/◌, ◌%◌, ◌<◌}
 use lib.ListN.{get_or, get_or-map}
+use Rattle.answers.specs.declared.Refusal.{Refusal}
 use Rattle.fragment.specs.Kinds.{at, place}
 use Rattle.fragment.specs.Fragment.{is_place}
 use Rattle.fragment.proofs.Back.{back}
 use Rattle.values.specs.declared.Register.{Register}
 use Rattle.values.specs.declared.Register.TheVariants.{Empty as NoValue}
-use Rattle.values.specs.declared.Moved.{Moved}
-use Rattle.values.specs.declared.Moved.TheVariants.{Done, Refused}
 use Rattle.values.specs.Rows.{each, entry, each_entry}
 use Rattle.values.specs.Values.{is_own, in_tile, dealt_entry, dealt, collected_entry, collected}
 use Rattle.values.proofs.Holder.{in_lanes, collected_back}
@@ -65,9 +65,9 @@ pub read_at : (rows : ℕ) (sorts singles doubles : List ℕ) (j : ℕ) → j < 
 read_at rows sorts singles doubles j h =
     image_at read_as Empty (rows_from rows sorts singles doubles) (j / 8) (j % 8) ∙ ap read_as (entry_at rows sorts singles doubles j h)
 
-image_filled : {A B : Type 0} (f : A → B) (m : Moved) (new given : A) → f (filled m new given) ≡ filled m (f new) (f given)
-image_filled f Done new given = refl
-image_filled f (Refused refusal) new given = refl
+image_filled : {A B : Type 0} (f : A → B) (m : Result ⊤ Refusal) (new given : A) → f (filled m new given) ≡ filled m (f new) (f given)
+image_filled f (Ok _) new given = refl
+image_filled f (Err refusal) new given = refl
 
 -- the questions over registers answer what those over bits do: what is filled, read
 pub read_dealt : (kind c : ℕ) (tile lanes : List (List Bits)) → registers_held (dealt_bits kind c tile lanes) ≡ dealt_lanes kind c (registers_held tile) (registers_held lanes)

@@ -1,19 +1,20 @@
 -- Document 02's request 1 in a caller's arrays: after a tile is dealt to the lanes' arrays and collected from them, every place of the matrix has its
 -- sort and, bit for bit, what that names. The arrays hold what was dealt: an entry that gets nothing had nothing. By cases on the register.
+use Rattle.std.specs.Prelude.{Ok, Result, ⊤}
 use mathlib.Core.Path.{◌≡◌, refl, sym, ap, ◌∙◌}
 use mathlib.Core.Bool.{Bool, true, false, true≢false}
 use mathlib.Core.List.{List}
 use Prim.Native.Nat.{ℕ, ◌+◌, ◌*◌, ◌/◌, ◌%◌, ◌<◌}
 use native.Mathlib.Omega.{arith}
 use lib.ListN.{length, get_or}
+use Rattle.answers.specs.Refusals.{no_refusal}
+use Rattle.answers.specs.declared.Refusal.{Refusal}
 use Rattle.laws.proofs.Rungs.{apart, ended_at}
 use Rattle.fragment.specs.Kinds.{at, place}
 use Rattle.fragment.specs.Fragment.{is_place}
 use Rattle.fragment.proofs.Back.{back}
 use Rattle.fragment.specs.declared.Slot.{Slot}
 use Rattle.values.specs.declared.Register.TheVariants.{Empty as NoValue}
-use Rattle.values.specs.declared.Moved.{Moved}
-use Rattle.values.specs.declared.Moved.TheVariants.{Done}
 use Rattle.values.specs.Rows.{entry}
 use Rattle.values.specs.Values.{is_own, in_tile, dealt_entry, dealt}
 use Rattle.values.specs.Registers.{is_matrix, is_of_sort, deal_answer, filled}
@@ -60,7 +61,7 @@ module _ (rows : ℕ) (sorts singles doubles : List ℕ) (moved : List (List Bit
       ∙ ap (λ (v : ℕ). register_from (sort_after r (get_or sorts j 0)) (single_after r (get_or singles j 0)) v) (each_at (written double_after moved) doubles j 0 (rw size.2 h))
       ∙ by_register r (get_or sorts j 0) (get_or singles j 0) (get_or doubles j 0) empty
 
-module _ (kind c : ℕ) (tile : List (List Bits)) (accepted : deal_answer kind c (registers_held tile) ≡ Done) where
+module _ (kind c : ℕ) (tile : List (List Bits)) (accepted : deal_answer kind c (registers_held tile) ≡ no_refusal) where
   -- what is dealt is of the kind's sort
   of_sort : (lane i : ℕ) → is_own kind c lane i ≡ true → is_of_sort kind (read_as (in_tile Empty tile (place kind lane i))) ≡ true
   of_sort lane i o =
@@ -77,7 +78,7 @@ module _ (kind c : ℕ) (tile : List (List Bits)) (accepted : deal_answer kind c
     filled_lanes = dealt_bits kind c tile given
 
     dealing : filled_lanes ≡ dealt Empty kind c tile given
-    dealing = ap (λ (m : Moved). filled m (dealt Empty kind c tile given) given) accepted
+    dealing = ap (λ (m : Result ⊤ Refusal). filled m (dealt Empty kind c tile given) given) accepted
 
     -- the lanes' arrays hold what was dealt
     pub lanes_hold : (j : ℕ) → j < 256 → entry_after 32 sorts singles doubles filled_lanes j ≡ entry Empty filled_lanes (j / 8) (j % 8)

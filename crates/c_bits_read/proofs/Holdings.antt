@@ -1,5 +1,6 @@
 -- The numbers of a caller's holdings read as holdings: dealing to them and collecting from them fill, read, what the questions over holdings fill. A
 -- register that is dealt to an empty lane leaves a field as one that is dealt to the holding's own registers. By cases on the fields.
+use Rattle.std.specs.Prelude.{Result, ⊤, Err, Ok}
 use mathlib.Core.Path.{◌≡◌, refl, sym, ap, ◌∙◌}
 use mathlib.Core.Bool.{Bool, true, false, cond, ◌&&◌}
 use mathlib.Core.List.{List, [], ◌∷◌, map}
@@ -9,14 +10,14 @@ use lib.Dec.{eqb, ltb}
 use lib.Ieee.{Float, binary64, of_bits}
 use lib.ListN.{length, get_or}
 use lib.Seq.{ext_get_or}
+use Rattle.answers.specs.Refusals.{no_refusal}
+use Rattle.answers.specs.declared.Refusal.{Refusal}
 use Rattle.laws.proofs.Rungs.{apart, ended_at}
 use Rattle.fragment.specs.Kinds.{place}
 use Rattle.fragment.specs.Fragment.{outside}
 use Rattle.values.specs.declared.Register.{Register}
 use Rattle.values.specs.declared.Register.TheVariants.{Empty as NoValue, Double as OneDouble}
 use Rattle.values.specs.declared.Holding.{Holding}
-use Rattle.values.specs.declared.Moved.{Moved}
-use Rattle.values.specs.declared.Moved.TheVariants.{Done, Refused}
 use Rattle.values.specs.Rows.{each, entry}
 use Rattle.values.specs.Values.{is_own, in_tile, dealt, collected}
 use Rattle.values.specs.Registers.{is_matrix, collect_answer, filled}
@@ -69,21 +70,21 @@ pub read_collected_from_holdings : (kind c : ℕ) (numbers : List ℕ) (tile : L
     → registers_held (collected_from_numbers kind c numbers tile) ≡ collected_from_holdings kind c (holdings_from numbers) (registers_held tile)
 read_collected_from_holdings kind c numbers tile = by_answer (collect_holdings_answer kind c) refl
   where
-    by_answer : (m : Moved) → collect_holdings_answer kind c ≡ m
+    by_answer : (m : Result ⊤ Refusal) → collect_holdings_answer kind c ≡ m
         → registers_held (filled m (collected Empty kind c (lanes_from kind numbers) tile) tile)
         ≡ filled m (collected NoValue kind c (map (registers_of kind) (holdings_from numbers)) (registers_held tile)) (registers_held tile)
-    by_answer (Refused r) p = refl
-    by_answer Done p =
+    by_answer (Err r) p = refl
+    by_answer (Ok _) p =
         let above : ltb 5 kind ≡ true = by_test (ltb 5 kind) (is_matrix kind c) p in
-        let accepted : collect_answer kind c (registers_held (lanes_from kind numbers)) ≡ Done =
+        let accepted : collect_answer kind c (registers_held (lanes_from kind numbers)) ≡ no_refusal =
         ap (collect_answer kind c) (lanes_read kind numbers) ∙ no_wrong_sort kind c (holdings_from numbers) (made_length 32 (holding_at numbers)) above ∙ p in
         let bits : List (List Bits) = collected Empty kind c (lanes_from kind numbers) tile in
-        ap registers_held (sym (ap (λ (m : Moved). filled m bits tile) accepted))
+        ap registers_held (sym (ap (λ (m : Result ⊤ Refusal). filled m bits tile) accepted))
         ∙ read_collected kind c (lanes_from kind numbers) tile
-        ∙ ap (λ (m : Moved). filled m (collected NoValue kind c (registers_held (lanes_from kind numbers)) (registers_held tile)) (registers_held tile)) accepted
+        ∙ ap (λ (m : Result ⊤ Refusal). filled m (collected NoValue kind c (registers_held (lanes_from kind numbers)) (registers_held tile)) (registers_held tile)) accepted
         ∙ ap (λ (l : List (List Register)). collected NoValue kind c l (registers_held tile)) (lanes_read kind numbers)
       where
-        by_test : (a b : Bool) → cond (a && b) Done (Refused outside) ≡ Done → a ≡ true
+        by_test : (a b : Bool) → cond (a && b) no_refusal (Err outside) ≡ no_refusal → a ≡ true
         by_test true b q = refl
         by_test false b q = absurd (apart (cc))
 
@@ -162,11 +163,11 @@ module _ (c : ℕ) (tile : List (List Bits)) (numbers : List ℕ) (size : length
   pub read_dealt_to_holdings : (kind : ℕ) → holdings_from (dealt_numbers kind c tile numbers) ≡ dealt_holdings kind c (registers_held tile) (holdings_from numbers)
   read_dealt_to_holdings kind = by_answer (deal_holdings_answer kind c (registers_held tile)) refl
     where
-      by_answer : (m : Moved) → deal_holdings_answer kind c (registers_held tile) ≡ m
+      by_answer : (m : Result ⊤ Refusal) → deal_holdings_answer kind c (registers_held tile) ≡ m
           → holdings_from (filled m (numbers_after kind (bare kind) numbers) numbers)
           ≡ filled m (each (λ lane g. with_registers kind g (get_or (whole kind) lane [])) (holdings_from numbers)) (holdings_from numbers)
-      by_answer (Refused r) p = refl
-      by_answer Done p =
+      by_answer (Err r) p = refl
+      by_answer (Ok _) p =
           let later = ended_at (ltb 5 kind) p (λ q. apart (cc)) in
           let matrix = ended_at (is_matrix kind c) later.1 (λ q. apart (cc)) in
           let f = first_field kind c later.0 matrix.0 in

@@ -2,7 +2,6 @@
 #![tactic(auto)]
 
 ghost use Rattle.std.specs.Prelude.{◌≡◌, ◌<◌};
-ghost use Rattle.descriptor.specs.Descriptor.{bit};
 ghost use Rattle.c_fields.specs.Fields.{fields_from, bytes_of};
 
 use descriptor::Fields;
@@ -24,13 +23,6 @@ pub fn fields(bytes: &[u8; 11], shift: u64) -> Fields
     }
 }
 
-// A yes as the byte 1, a no as 0.
-fn byte(b: bool) -> u8
-    ensures { result ≡ bit b }
-{
-    if b { 1 } else { 0 }
-}
-
 // The fields of a descriptor as twelve bytes, the shift last. With a requires, for the crate above, which
 // writes fields that were read.
 pub fn field_bytes(fields: Fields) -> [u8; 12]
@@ -42,11 +34,11 @@ pub fn field_bytes(fields: Fields) -> [u8; 12]
         fields.start_counts[1],
         fields.start_counts[2],
         fields.start_counts[3],
-        byte(fields.first_spans[0]),
-        byte(fields.first_spans[1]),
-        byte(fields.first_spans[2]),
-        byte(fields.first_spans[3]),
-        byte(fields.non_zero),
+        u8::from(fields.first_spans[0]),
+        u8::from(fields.first_spans[1]),
+        u8::from(fields.first_spans[2]),
+        u8::from(fields.first_spans[3]),
+        u8::from(fields.non_zero),
         fields.skip_span,
         fields.use_span,
         fields.shift as u8,

@@ -81,11 +81,9 @@ pub fn deal_holdings(
     requires sorts_len { (length sorts.now ≡ 64) × (length singles.now ≡ 64) × (length doubles.now ≡ 64) }
     ensures { numbers.new ≡ numbers_after kind (dealt Bits.Empty kind computation (rows_from 8 sorts.now singles.now doubles.now) (empties 32)) numbers.old }
 {
-    let mut j: usize = 0;
-    while j < 128 {
+    for j in 0..128 {
         let register = dealt_to_field(kind, computation, sorts, singles, doubles, j);
         put_double(register, numbers, j);
-        j += 1;
     }
 }
 
@@ -142,10 +140,7 @@ pub fn collect_holdings(
     ensures singles_after { singles.new ≡ entries_after single_after (collected Bits.Empty kind computation (lanes_from kind numbers.now) (empties 8)) singles.old }
     ensures doubles_after { doubles.new ≡ entries_after double_after (collected Bits.Empty kind computation (lanes_from kind numbers.now) (empties 8)) doubles.old }
 {
-    let mut j: usize = 0;
-    while j < 64 {
-        let register = collected_from(kind, computation, numbers, j);
-        c_registers::put(register, sorts, singles, doubles, j);
-        j += 1;
-    }
+    c_registers::write(sorts, singles, doubles, |j| {
+        collected_from(kind, computation, numbers, j)
+    });
 }

@@ -7,7 +7,6 @@ use lib.IntN.{ℤ, pos}
 use lib.ListN.{length, get_or, set, take, drop, length-append, drop_of_length-le}
 use lib.Seq.{sets, sets-eq, drop-cons, length-take-le}
 use Rattle.card.specs.declared.Iter.{Iter}
-use Rattle.card.specs.declared.Iters.{Iters}
 use Rattle.card.specs.Card.{none}
 use Rattle.notation.specs.declared.Layout.{Layout}
 use Rattle.c_card.specs.Card.{eight}
@@ -61,10 +60,6 @@ of_iter at k = (get_or at k none).extent ∷ bits_of (get_or at k none).stride �
 
 abbrev pub of_offset : List ℤ → ℕ → List ℕ
 of_offset offset k = bits_of (get_or offset k (pos 0)) ∷ []
-
-pub iters_written : (iters : Iters) (ks : List ℕ) → written (of_iter iters.at) ks ≡ iter_numbers iters ks
-iters_written iters [] = refl
-iters_written iters (k ∷ ks) = ap (λ (t : List ℕ). of_iter iters.at k ++ t) (iters_written iters ks)
 
 -- what stands behind a place
 abbrev gets : List ℕ → ℕ → ℕ → List ℕ

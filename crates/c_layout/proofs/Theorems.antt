@@ -1,5 +1,6 @@
 -- The two directions belong together: the card that the numbers then are has the layout that was read, its marks with it, and the lengths and the swizzle
 -- that stood there. Slot by slot a list of eight is read back as it was put.
+use Rattle.std.specs.Prelude.{Result, ⊤, Ok, Err}
 use Prim.Native.Nat.{ℕ, zero, suc, ◌+◌, ◌-◌, ◌*◌, ◌/◌, ◌%◌, ◌^◌, ◌≤◌, ◌<◌}
 use mathlib.Core.Path.{◌≡◌, refl, sym, ap, ◌∙◌}
 use mathlib.Core.Bool.{Bool, true, false, cond}
@@ -9,6 +10,7 @@ use borrow.Author.Tests.{lt-ltb, le-ltb, eq-eqb, ne_eqb}
 use lib.Dec.{eqb, ltb}
 use lib.IntN.{ℤ, pos, negsuc, neg_ℤ}
 use lib.ListN.{length, get_or, set, replicate, length-append, length-map, length-replicate, length-set}
+use Rattle.answers.specs.declared.Refusal.{Refusal}
 use Rattle.laws.proofs.Order.{le_or_lt}
 use mathlib.Core.Logic.{◌⊎◌, inl, inr}
 use Rattle.card.specs.Lists.{padded}
@@ -21,8 +23,6 @@ use Rattle.notation.specs.Meaning.{value_of, iters_said, mark_of, laid, no_offse
 use Rattle.notation.specs.Promise.{no_layout, Comes, Answered}
 use Rattle.notation.specs.declared.Step.{Step}
 use Rattle.notation.specs.declared.Layout.{Layout}
-use Rattle.notation.specs.declared.Read.{Read}
-use Rattle.notation.specs.declared.Read.TheVariants.{Done, Refused as NotRead}
 use Rattle.notation.specs.declared.Reading.{Reading}
 use Rattle.notation.proofs.Lists.{each_append}
 use Rattle.c_card.specs.Card.{signed64, eight, lengths_from, marks_from, card_from}
@@ -233,9 +233,9 @@ none_fits =
 pub read_fits : (text : List ℕ) (r : Reading) → Answered text r → Fits r.layout
 read_fits text r = by r.answer
   where
-    by : (x : Read) → Comes x text r.layout → Fits r.layout
-    by Done c = rw c.layout_said (said_fits c.correct.says c.correct.within)
-    by (NotRead refusal) c = rw c.zeros none_fits
+    by : (x : Result ⊤ Refusal) → Comes x text r.layout → Fits r.layout
+    by (Ok _) c = rw c.layout_said (said_fits c.correct.says c.correct.within)
+    by (Err refusal) c = rw c.zeros none_fits
 
 -- so the card of the numbers after a reading, refused or not, has the layout that was read, and the lengths and the swizzle that stood there
 pub read_back_lem : (text numbers : List ℕ) (r : Reading) → Answered text r → card_from (card_with r.layout numbers) (mark_bits r.layout.marks) ≡ card_in r.layout numbers

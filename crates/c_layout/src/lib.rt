@@ -34,8 +34,7 @@ fn put_iters(iters: Iters, slots: usize, card: &mut [u64], from: usize)
     let at = iters.at;
     let count = iters.count;
     card[from] = count;
-    let mut k: usize = 0;
-    while k < slots {
+    for k in 0..slots {
         let iter = at[k];
         let extent = iter.extent;
         let stride = bits(iter.stride);
@@ -44,7 +43,6 @@ fn put_iters(iters: Iters, slots: usize, card: &mut [u64], from: usize)
         card[place] = extent;
         card[place + 1] = stride;
         card[place + 2] = axis;
-        k += 1;
     }
 }
 
@@ -53,10 +51,8 @@ fn put_offset(offset: [i64; 8], card: &mut [u64])
     requires { length card.old ≡ 57 }
     ensures { card.new ≡ sets card.old 38 (offsets_of offset) }
 {
-    let mut k: usize = 0;
-    while k < 8 {
+    for k in 0..8 {
         card[OFFSETS + k] = bits(offset[k]);
-        k += 1;
     }
 }
 

@@ -18,13 +18,6 @@ const OFFSETS: usize = 38;
 
 const LENGTHS: usize = 46;
 
-// How many of eight iters a count names.
-fn named(count: u64) -> u64
-    ensures { result ≡ min count 8 }
-{
-    if count < 8 { count } else { 8 }
-}
-
 // A number of each of the shard's iters, from that of the first on.
 fn of_shard(card: &[u64; 57], at: usize) -> [u64; 8]
     requires { at + 21 < 57 }
@@ -81,14 +74,14 @@ fn of_axes(card: &[u64; 57], at: usize) -> [u64; 8]
 fn elements(card: &[u64; 57]) -> u64
     ensures { result ≡ min (size (shard_from card.now)) beyond }
 {
-    card_products::product(of_shard(card, SHARD), named(card[0]))
+    card_products::product(of_shard(card, SHARD), card[0].min(8))
 }
 
 // The copies.
 fn copies(card: &[u64; 57]) -> u64
     ensures { result ≡ min (size (replica_from card.now)) beyond }
 {
-    card_products::product(of_replica(card, REPLICA), named(card[25]))
+    card_products::product(of_replica(card, REPLICA), card[25].min(8))
 }
 
 // The cells.
@@ -130,10 +123,8 @@ fn put_marks(numbers: &mut [u64; 56], bits: u64)
     if bits == 0 {
         return;
     }
-    let mut k: usize = 0;
-    while k < 8 {
+    for k in 0..8 {
         numbers[card::MARKS + k] = mark(bits, k as u64);
-        k += 1;
     }
 }
 
@@ -143,11 +134,7 @@ fn put(numbers: &mut [u64; 56], column: usize, entries: [u64; 8])
     requires { (length numbers.old ≡ 56) × (column < 7) }
     ensures { Put 0 column 8 (λ k. get_or entries k 0) numbers.old numbers.new }
 {
-    let mut k: usize = 0;
-    while k < 8 {
-        numbers[8 * column + k] = entries[k];
-        k += 1;
-    }
+    numbers[8 * column..8 * column + 8].copy_from_slice(&entries);
 }
 
 // Puts a column of the signed ones.
@@ -155,10 +142,8 @@ fn put_signed(strides: &mut [i64; 24], column: usize, entries: [u64; 8])
     requires { (length strides.old ≡ 24) × (column < 3) }
     ensures { Put (pos 0) column 8 (λ k. signed64 (get_or entries k 0)) strides.old strides.new }
 {
-    let mut k: usize = 0;
-    while k < 8 {
+    for k in 0..8 {
         strides[8 * column + k] = c_card::signed(entries[k]);
-        k += 1;
     }
 }
 

@@ -6,11 +6,11 @@ use Prim.Native.Nat.{ℕ, ◌*◌}
 use lib.Count.{count_leading_zeros}
 use lib.IntN.{pos}
 use lib.ListN.{replicate}
+use Rattle.judgement.specs.Verdict.{approved_with}
 use Rattle.swizzle.specs.Mode.{bit_length}
 use Rattle.card.specs.Card.{none}
 use Rattle.card.specs.declared.Iter.{Iter}
 use Rattle.card.specs.declared.Card.{Card}
-use Rattle.judgement.specs.declared.Verdict.TheVariants.{Approved}
 use Rattle.canonical.specs.Rule.{layout, rule}
 use Rattle.canonical.specs.Printed.{Row, row, MN, K, printed_table, figure}
 use Rattle.canonical.specs.Canonical.{on_m, canonical_card, reported}
@@ -81,7 +81,7 @@ card_192 = refl
 
 -- what is reported of an approved figure: the printed encodings, 1 for the LBO that Figure 189 does not use
 abbrev encodings : Canonical → List ℕ
-encodings a = (reported a (Approved 0 0 0)).lbo ∷ (reported a (Approved 0 0 0)).sbo ∷ []
+encodings a = (reported a (approved_with 0 0 0)).lbo ∷ (reported a (approved_with 0 0 0)).sbo ∷ []
 
 pub figures_encoded :
     (map encodings (figure K 0 32 (64 * 4) (32 * 4) 256 ∷ figure MN 0 16 (128 * 2) (64 * 2) 256 ∷ figure MN 1 16 (128 * 2) (256 * 2) 512 ∷ figure MN 2 16 (256 * 2) (512 * 2) 1024 ∷ [])

@@ -1,5 +1,7 @@
 -- The question over the canonical layouts: document 02, request 7. Its checks, the card that is built, and what is reported of the verdict on it.
-use Rattle.std.specs.Prelude.{◌≡◌, Bool, false, cond, not, ◌&&◌, ◌||◌, List, [], ◌∷◌, ◌++◌, ℕ, ◌*◌, ◌/◌, ◌%◌, eqb, leb, ltb, pos, replicate}
+use Rattle.std.specs.Prelude.{◌≡◌, Bool, false, cond, not, ◌&&◌, ◌||◌, List, [], ◌∷◌, ◌++◌, ℕ, ◌*◌, ◌/◌, ◌%◌, eqb, leb, ltb, pos, replicate, Result, ⊤, Err, Ok}
+use Rattle.answers.specs.Refusals.{no_refusal}
+use Rattle.judgement.specs.declared.Approved.{Approved}
 use Rattle.answers.specs.declared.Numbers.{Numbers}
 use Rattle.answers.specs.declared.Refusal.{Refusal}
 use Rattle.answers.specs.declared.Refusal.TheVariants.{Swizzle, Canonical as NotCanonical}
@@ -9,12 +11,8 @@ use Rattle.card.specs.Limits.{last_axis}
 use Rattle.card.specs.Card.{counted, no_card}
 use Rattle.card.specs.declared.Iter.{Iter}
 use Rattle.card.specs.declared.Card.{Card}
-use Rattle.card.specs.declared.Admission.{Admission}
-use Rattle.card.specs.declared.Admission.TheVariants.{Admitted, Refused}
 use Rattle.judgement.specs.Plain.{VerdictSays}
 use Rattle.judgement.specs.Verdict.{verdict_numbers}
-use Rattle.judgement.specs.declared.Verdict.{Verdict}
-use Rattle.judgement.specs.declared.Verdict.TheVariants.{Approved, Refused as NotApproved}
 use Rattle.canonical.specs.Rule.{CuTeLayout, uses_lbo, rule}
 use Rattle.canonical.specs.declared.Canonical.{Canonical}
 use Rattle.canonical.specs.declared.Built.{Built}
@@ -34,8 +32,8 @@ fits a =
     && stride_fits a.sbo
 
 -- bits or mode go to 6, judged first; then 22
-abbrev pub checked : Canonical → Admission
-checked a = cond (not (known a.bits a.mode)) (Refused Swizzle) (cond (not (fits a)) (Refused NotCanonical) Admitted)
+abbrev pub checked : Canonical → Result ⊤ Refusal
+checked a = cond (not (known a.bits a.mode)) (Err Swizzle) (cond (not (fits a)) (Err NotCanonical) no_refusal)
 
 -- a byte stride in elements
 abbrev pub in_elements : ℕ → ℕ → ℕ
@@ -72,11 +70,11 @@ canonical_card a = record {
 
 -- and a card of zeros where it is refused
 abbrev pub refused_by : Refusal → Built
-refused_by refusal = record { answer = Refused refusal; card = no_card }
+refused_by refusal = record { answer = Err refusal; card = no_card }
 
-abbrev pub built_by : Admission → Canonical → Built
-built_by Admitted a = record { answer = Admitted; card = canonical_card a }
-built_by (Refused refusal) a = refused_by refusal
+abbrev pub built_by : Result ⊤ Refusal → Canonical → Built
+built_by (Ok _) a = record { answer = no_refusal; card = canonical_card a }
+built_by (Err refusal) a = refused_by refusal
 
 abbrev pub built : Canonical → Built
 built a = built_by (checked a) a
@@ -85,18 +83,18 @@ built a = built_by (checked a) a
 abbrev pub encoded_lbo : Canonical → ℕ
 encoded_lbo a = cond (uses_lbo a.major a.mode) (a.lbo / 16) 1
 
-abbrev pub reported : Canonical → Verdict → Reported
-reported a (Approved elements occupied cells) = record {
-  verdict = Approved elements occupied cells;
+abbrev pub reported : Canonical → Result Approved Refusal → Reported
+reported a (Ok approval) = record {
+  verdict = Ok approval;
   lbo = encoded_lbo a;
   sbo = a.sbo / 16;
 }
-reported a (NotApproved refusal) = record { verdict = NotApproved refusal; lbo = 0; sbo = 0 }
+reported a (Err refusal) = record { verdict = Err refusal; lbo = 0; sbo = 0 }
 
 -- the promise: where the checks are passed the verdict on the card, else the refusal and an untouched table
-abbrev pub PromiseBy : Admission → Canonical → List ℕ → List ℕ → Reported → Type 0
-PromiseBy Admitted a before after r = VerdictSays (canonical_card a) before after r.verdict × (r ≡ reported a r.verdict)
-PromiseBy (Refused refusal) a before after r = (r ≡ reported a (NotApproved refusal)) × (after ≡ before)
+abbrev pub PromiseBy : Result ⊤ Refusal → Canonical → List ℕ → List ℕ → Reported → Type 0
+PromiseBy (Ok _) a before after r = VerdictSays (canonical_card a) before after r.verdict × (r ≡ reported a r.verdict)
+PromiseBy (Err refusal) a before after r = (r ≡ reported a (Err refusal)) × (after ≡ before)
 
 abbrev pub CanonicalPromise : Canonical → List ℕ → List ℕ → Reported → Type 0
 CanonicalPromise a before after r = PromiseBy (checked a) a before after r

@@ -5,9 +5,9 @@ use Prim.Native.Nat.{ℕ, ◌≤◌}
 use native.Mathlib.Omega.{arith}
 use lib.Count.{count_leading_zeros}
 use lib.ListN.{length}
+use Rattle.judgement.specs.Verdict.{approved_with}
 use Rattle.swizzle.specs.Mode.{bit_length}
 use Rattle.card.specs.Admission.{admission}
-use Rattle.judgement.specs.declared.Verdict.TheVariants.{Approved}
 use Rattle.judgement.proofs.Theorems.{IsApproval}
 use Rattle.canonical.specs.Printed.{MN, K, figure}
 use Rattle.canonical.specs.Canonical.{reported, CanonicalPromise}
@@ -18,7 +18,7 @@ use Rattle.canonical_approval.proofs.Theorems.{PassedOn, K_swizzled_packed, K_pl
 -- so many elements in so many cells, all occupied, and LBO and SBO as printed, whatever was in the table
 abbrev Comes : Canonical → ℕ → ℕ → ℕ → Type 0
 Comes q n LBO SBO = (before after : List ℕ) (r : Reported) → n ≤ length before → CanonicalPromise q before after r
-    → r ≡ record { verdict = Approved n n n; lbo = LBO; sbo = SBO }
+    → r ≡ record { verdict = approved_with n n n; lbo = LBO; sbo = SBO }
 
 pub figure_188 : Comes (figure K 0 32 256 128 256) 256 16 8
 unfolding bit_length count_leading_zeros admission

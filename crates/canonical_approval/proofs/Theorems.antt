@@ -1,5 +1,6 @@
 -- Which canonical layouts are approved. But for `K_too_wide` and `K_swizzled_exactly`, which say where one is not, the conditions are sufficient and not
 -- necessary: strides of rows and columns that interleave without a clash are not described.
+use Rattle.std.specs.Prelude.{Result, ⊤, Ok, Err}
 use mathlib.Core.Path.{◌≡◌, refl, sym, ap, subst, ◌∙◌}
 use mathlib.Core.Logic.{◌↔◌, ⊎_elim}
 use mathlib.Core.Bool.{Bool, true, false, not, ◌&&◌, ◌||◌, and-eq-true_iff}
@@ -12,6 +13,8 @@ use lib.Count.{count_leading_zeros}
 use lib.Dec.{leb}
 use lib.ListN.{length, get_or, take, replicate}
 use lib.Pow.{pow-add, pow_pos}
+use Rattle.answers.specs.Refusals.{no_refusal}
+use Rattle.answers.specs.declared.Refusal.{Refusal}
 use Rattle.swizzle.specs.Swizzle.{permitted, swizzled}
 use Rattle.swizzle.specs.Mode.{known_bits, bit_length, swizzle_of_mode}
 use Rattle.swizzle.proofs.Widths.{at_known_bits, known_parts}
@@ -19,8 +22,6 @@ use Rattle.swizzle.proofs.Theorems.{demand_3_swizzle, mode_permitted}
 use Rattle.card.specs.Lists.{within}
 use Rattle.card.specs.Card.{marks_of, elements, cells}
 use Rattle.card.specs.Admission.{counts_fit, axes_fit, swizzle_fits, admission}
-use Rattle.card.specs.declared.Admission.{Admission}
-use Rattle.card.specs.declared.Admission.TheVariants.{Admitted, Refused}
 use Rattle.rules.specs.RowMajor.{row_major, components, inside, position}
 use Rattle.rules.specs.Rules.{spot_at, spot}
 use Rattle.rules.specs.Copies.{cell_of}
@@ -31,8 +32,7 @@ use Rattle.rules.specs.Reuse.{Unmarked}
 use Rattle.idle.specs.Idle.{NoIdlePair}
 use Rattle.idle.proofs.Theorems.{admitted_exactly}
 use Rattle.judgement.specs.Judgement.{AllInside, Judgement, NotAdmitted, NoRoom, OutsideAt, Clashing, Passed, Judged, ComesTo}
-use Rattle.judgement.specs.Verdict.{verdict_of}
-use Rattle.judgement.specs.declared.Verdict.TheVariants.{Approved}
+use Rattle.judgement.specs.Verdict.{verdict_of, approved_with}
 use Rattle.judgement.proofs.Run.{lies_inside}
 use Rattle.judgement.proofs.Theorems.{IsApproval, OneElementACell, demand_3_unmarked}
 use Rattle.judgement.proofs.Plain.{verdict_exactly}
@@ -98,10 +98,10 @@ module _ (a : Canonical) where
   no_pair x y h k same = omega (arith, h, k)
 
   -- an admitted card with room for its cells is approved exactly when all lies inside and no two elements share a cell
-  pub approved_exactly : (before after : List ℕ) (r : Reported) → checked a ≡ Admitted → admission (canonical_card a) ≡ Admitted → a.length ≤ length before
+  pub approved_exactly : (before after : List ℕ) (r : Reported) → checked a ≡ no_refusal → admission (canonical_card a) ≡ no_refusal → a.length ≤ length before
       → CanonicalPromise a before after r → IsApproval r.verdict ↔ (AllInside (canonical_card a) × OneElementACell (canonical_card a))
   approved_exactly before after r passed admitted room p =
-      let q = subst (λ (c : Admission). PromiseBy c a before after r) passed p in
+      let q = subst (λ (c : Result ⊤ Refusal). PromiseBy c a before after r) passed p in
       (demand_3_unmarked (canonical_card a) before after r.verdict unmarked admitted no_pair (omega arith)
       ((verdict_exactly (canonical_card a) before after r.verdict).0 q.0)).approved
 
@@ -112,12 +112,12 @@ module _ (a : Canonical) where
       ∙ ap (λ (n : ℕ). n * 2 ^ a.mode) (T_power a.bits k)
       ∙ mul_comm T (2 ^ a.mode)
 
-  its_swizzle : checked a ≡ Admitted → permitted (bit_length (128 / a.bits) - 1) a.mode 3 ≡ true
+  its_swizzle : checked a ≡ no_refusal → permitted (bit_length (128 / a.bits) - 1) a.mode 3 ≡ true
   its_swizzle passed =
       mode_permitted a.bits a.mode (swizzle_of_mode a.bits a.mode) (rw (checks_passed a passed).0)
 
   -- checks 1, 3, 6 and 17 are always passed: of the verdict's refusals only 2, 4, 5, 11, 7 and 8 can come
-  pub others_passed : checked a ≡ Admitted
+  pub others_passed : checked a ≡ no_refusal
       → (counts_fit (canonical_card a) ≡ true) × (axes_fit (canonical_card a) ≡ true) × (swizzle_fits (canonical_card a) ≡ true) × NoIdlePair (canonical_card a).replica
   others_passed passed = (counts (is_k a.major) refl, axes (is_k a.major) refl, its_swizzle passed, no_pair)
     where
@@ -131,8 +131,8 @@ module _ (a : Canonical) where
 
   -- what is asked is passed on to a verdict: the checks, the card's own and the table's length are passed, and the length is a multiple of the width
   pub record PassedOn (before : List ℕ) : Type 0 where
-    pub passed : checked a ≡ Admitted
-    pub admitted : admission (canonical_card a) ≡ Admitted
+    pub passed : checked a ≡ no_refusal
+    pub admitted : admission (canonical_card a) ≡ no_refusal
     pub room : a.length ≤ length before
     pub whole : a.length % wide ≡ 0
 
@@ -159,7 +159,7 @@ module _ (a : Canonical) where
         → ((x y : ℕ) → turn (components (sizes ds) x) ≡ turn (components (sizes ds) y) → components (sizes ds) x ≡ components (sizes ds) y)
         → ((x : ℕ) → inside (sizes es) (decoded es x) ≡ true → inside (sizes ds) (back (decoded es x)) ≡ true)
         → ((x : ℕ) → turn (back (decoded es x)) ≡ decoded es x)
-        → r.verdict ≡ Approved (elements (canonical_card a)) a.length a.length
+        → r.verdict ≡ approved_with (elements (canonical_card a)) a.length a.length
     by_packing es turn back packed full turned-inside turned-value turned-once back_inside back-turned =
         let card = canonical_card a in
         let L = a.length in
@@ -168,7 +168,7 @@ module _ (a : Canonical) where
         let M = bit_length (128 / a.bits) - 1 in
         let blocks : L % 2 ^ (M + a.mode) ≡ 0 = ap (λ (n : ℕ). L % n) (block known-bits) ∙ on.whole in
         let fit = its_swizzle on.passed in
-        let q = subst (λ (c : Admission). PromiseBy c a before after r) on.passed promise in
+        let q = subst (λ (c : Result ⊤ Refusal). PromiseBy c a before after r) on.passed promise in
         let d = demand_3_unmarked card before after r.verdict unmarked on.admitted no_pair (omega (arith, on.room))
         ((verdict_exactly card before after r.verdict).0 q.0) in
         let all-cells : cells card ≡ L = omega arith in
@@ -195,8 +195,8 @@ module _ (a : Canonical) where
         ∙ ap (λ (n : ℕ). Inside (record { 0 = n })) cell in
         (d.nobody approved c (omega (arith, all-cells, h))).0 empty flat flat-below (record { combination = 0; below = omega arith; there = spot_at_lem }) in
         d.counts approved
-        ∙ ap (λ (n : ℕ). Approved (elements card) (occupied (take n after)) n) all-cells
-        ∙ ap (λ (n : ℕ). Approved (elements card) n L) (all_taken L after owned)
+        ∙ ap (λ (n : ℕ). approved_with (elements card) (occupied (take n after)) n) all-cells
+        ∙ ap (λ (n : ℕ). approved_with (elements card) n L) (all_taken L after owned)
 
   module _ (before after : List ℕ) (r : Reported) (on : PassedOn before) (promise : CanonicalPromise a before after r) where
     -- K-major, swizzled: a row of 2k pieces within the width, blocks of eight rows apart
@@ -261,7 +261,7 @@ module _ (a : Canonical) where
 
     -- Packed layouts: approved, and every cell of the length has an owner
     pub K_swizzled_packed : is_k a.major ≡ true → plain a.mode ≡ false → 2 * a.k ≡ pieces a.mode → rows ≡ 8 * wide → a.length ≡ a.m * rows
-        → r.verdict ≡ Approved (elements (canonical_card a)) a.length a.length
+        → r.verdict ≡ approved_with (elements (canonical_card a)) a.length a.length
     K_swizzled_packed k s narrow apart-rows full =
         let next : columns ≡ T = rw (s, k) in
         let within-width : 2 * a.k * columns ≡ wide = rw (next, narrow) refl in
@@ -270,7 +270,7 @@ module _ (a : Canonical) where
         (λ x h. its_inside (canonical_card a) digits_k a.length (lies_K k) x h) (λ x. refl) (λ x y e. e) (λ x h. h) (λ x. refl)
 
     pub K_plain_packed : is_k a.major ≡ true → plain a.mode ≡ true → rows ≡ 8 * wide → columns ≡ a.m * rows → a.length ≡ 2 * a.k * columns
-        → r.verdict ≡ Approved (elements (canonical_card a)) a.length a.length
+        → r.verdict ≡ approved_with (elements (canonical_card a)) a.length a.length
     K_plain_packed k s apart-rows beyond full =
         let one : a.mode ≡ 0 = eqb-true a.mode 0 s in
         let T-wide : T * 1 ≡ wide = rw one (omega arith) in
@@ -287,7 +287,7 @@ module _ (a : Canonical) where
         (λ x. refl)
 
     pub MN_packed : is_k a.major ≡ false → rows ≡ 8 * wide → columns ≡ a.m * rows → a.length ≡ a.k * columns
-        → r.verdict ≡ Approved (elements (canonical_card a)) a.length a.length
+        → r.verdict ≡ approved_with (elements (canonical_card a)) a.length a.length
     MN_packed k apart-rows beyond full =
         let es = a.k by columns ∷ a.m by rows ∷ 8 by wide ∷ pieces a.mode by T ∷ T by 1 ∷ [] in
         by_packing digits_mn (lies_MN k) before after r on promise es fourth_first fourth_back
@@ -303,7 +303,7 @@ module _ (a : Canonical) where
 
     -- and both with the columns within and rows beyond them
     pub K_plain_packed_rows_beyond : is_k a.major ≡ true → plain a.mode ≡ true → columns ≡ 8 * wide → rows ≡ 2 * a.k * columns → a.length ≡ a.m * rows
-        → r.verdict ≡ Approved (elements (canonical_card a)) a.length a.length
+        → r.verdict ≡ approved_with (elements (canonical_card a)) a.length a.length
     K_plain_packed_rows_beyond k s apart-columns beyond full =
         let one : a.mode ≡ 0 = eqb-true a.mode 0 s in
         let T-wide : T * 1 ≡ wide = rw one (omega arith) in
@@ -321,7 +321,7 @@ module _ (a : Canonical) where
         (λ x. refl)
 
     pub MN_packed_rows_beyond : is_k a.major ≡ false → columns ≡ 8 * wide → rows ≡ a.k * columns → a.length ≡ a.m * rows
-        → r.verdict ≡ Approved (elements (canonical_card a)) a.length a.length
+        → r.verdict ≡ approved_with (elements (canonical_card a)) a.length a.length
     MN_packed_rows_beyond k apart-columns beyond full =
         let es = a.m by rows ∷ a.k by columns ∷ 8 by wide ∷ pieces a.mode by T ∷ T by 1 ∷ [] in
         by_packing digits_mn (lies_MN k) before after r on promise es fourth_second fourth_second
@@ -339,7 +339,7 @@ module _ (a : Canonical) where
 
   -- an approved layout passed the checks, its card's own and the table's length
   approved_checks : (before after : List ℕ) (r : Reported) → CanonicalPromise a before after r → IsApproval r.verdict
-      → (checked a ≡ Admitted) × Judged (canonical_card a) (length before)
+      → (checked a ≡ no_refusal) × Judged (canonical_card a) (length before)
   approved_checks before after r promise approved = by_checks (checked a) refl promise
     where
       by_judgement : (j : Judgement) → ComesTo (canonical_card a) (length before) j → IsApproval (verdict_of (canonical_card a) j) → Judged (canonical_card a) (length before)
@@ -349,14 +349,14 @@ module _ (a : Canonical) where
       by_judgement (Clashing x y cell) h i = absurd i
       by_judgement (Passed owners occupied) h i = h.0
 
-      by_checks : (c : Admission) → checked a ≡ c → PromiseBy c a before after r → (checked a ≡ Admitted) × Judged (canonical_card a) (length before)
-      by_checks Admitted e o =
+      by_checks : (c : Result ⊤ Refusal) → checked a ≡ c → PromiseBy c a before after r → (checked a ≡ no_refusal) × Judged (canonical_card a) (length before)
+      by_checks (Ok _) e o =
           let p = (verdict_exactly (canonical_card a) before after r.verdict).0 o.0 in
           (e, by_judgement p.judgement p.comes (subst IsApproval p.answers approved))
-      by_checks (Refused refusal) e o = absurd (subst (λ (x : Reported). IsApproval x.verdict) o.0 approved)
+      by_checks (Err refusal) e o = absurd (subst (λ (x : Reported). IsApproval x.verdict) o.0 approved)
 
   -- m is 1 or more, and T too
-  some_m : checked a ≡ Admitted → 1 ≤ a.m
+  some_m : checked a ≡ no_refusal → 1 ≤ a.m
   some_m passed =
       let used = not (uses_lbo a.major a.mode) || stride_fits a.lbo in
       let p = (and-eq-true_iff (leb a.major 1 && within 1 8 a.m && within 1 8 a.k && used) (stride_fits a.sbo)).0 (checks_passed a passed).1 in

@@ -1,4 +1,5 @@
 -- What the checks leave, and what bits and mode that are not known are refused with.
+use Rattle.std.specs.Prelude.{Err}
 use mathlib.Core.Path.{◌≡◌, refl, sym}
 use mathlib.Core.Bool.{Bool, true, false, cond, not, ◌&&◌, ◌||◌, and-eq-true_iff, false≢true}
 use Prim.Native.Nat.{ℕ, ◌*◌, ◌/◌, ◌%◌, ◌^◌, ◌≤◌, ◌<◌}
@@ -11,7 +12,6 @@ use Rattle.answers.specs.declared.Refusal.TheVariants.{Swizzle}
 use Rattle.laws.proofs.Rungs.{apart, passed_by}
 use Rattle.laws.proofs.Words.{one_shifted}
 use Rattle.swizzle.specs.Mode.{known, known_bits, mode_answer}
-use Rattle.swizzle.specs.declared.Chosen.TheVariants.{Parameters, Refused as NotChosen}
 use Rattle.swizzle.proofs.Widths.{known_parts, at_known_bits}
 use Rattle.card.specs.Lists.{within}
 use Rattle.canonical.specs.Rule.{uses_lbo}
@@ -67,7 +67,7 @@ used_there false true e = absurd (false≢true (sym e))
 used_there false false e = refl
 
 -- bits and mode that are not known are refused with 6
-pub not_chosen : (bits mode : ℕ) (r : Refusal) → mode_answer bits mode ≡ NotChosen r → (known bits mode ≡ false) × (r ≡ Swizzle)
+pub not_chosen : (bits mode : ℕ) (r : Refusal) → mode_answer bits mode ≡ Err r → (known bits mode ≡ false) × (r ≡ Swizzle)
 not_chosen bits mode r e =
     let named = passed_by (known bits mode) e (λ q. apart (cc)) in
     let last = named.1 in

@@ -1,9 +1,8 @@
 // The card of a canonical shared-memory layout, built from what is asked: the checks of request 7, then the iters of source document 001's table.
 #![tactic(auto)]
 
-ghost use Rattle.std.specs.Prelude.{◌≡◌, true, [], ◌∷◌, ◌*◌, ◌/◌, ◌≤◌, ◌<◌};
+ghost use Rattle.std.specs.Prelude.{◌≡◌, true, [], ◌∷◌, ◌*◌, ◌/◌, ◌≤◌, ◌<◌, Ok};
 ghost use Rattle.swizzle.specs.Mode.{known_bits, mode_answer};
-ghost use Rattle.swizzle.specs.declared.Chosen.TheVariants.{Parameters};
 ghost use Rattle.card.specs.Card.{none, counted};
 ghost use Rattle.canonical.specs.Rule.{layout, uses_lbo, across_rows, across_columns};
 ghost use Rattle.canonical.specs.Canonical.{stride_fits, fits, in_elements, cute_of, on_m, shard_of, canonical_card, refused_by, built};
@@ -11,8 +10,8 @@ ghost use Rattle.canonical_build.specs.Clauses.{PassedChecks, longest, StridesSh
 
 use answers::Refusal;
 use canonical::{Built, Canonical};
-use card::{Admission, Card, Iter, Iters};
-use swizzle::{Chosen, Swizzle};
+use card::{Card, Iter, Iters};
+use swizzle::Swizzle;
 
 // Byte strides are multiples of this, and below that.
 const PIECE: u64 = 16;
@@ -162,7 +161,7 @@ fn shard(a: Canonical) -> Iters
 
 // The card, under the mode's swizzle.
 fn card_of(a: Canonical, swizzle: Swizzle) -> Card
-    requires { PassedChecks a × (mode_answer a.bits a.mode ≡ Parameters swizzle) }
+    requires { PassedChecks a × (mode_answer a.bits a.mode ≡ Ok swizzle) }
     ensures { result ≡ canonical_card a }
 {
     let none = empty();
@@ -198,7 +197,7 @@ fn refuse(refusal: Refusal) -> Built
         swizzle: Swizzle { m: 0, b: 0, s: 0 },
     };
     Built {
-        answer: Admission::Refused(refusal),
+        answer: Err(refusal),
         card,
     }
 }
@@ -209,16 +208,16 @@ pub fn build(a: Canonical) -> Built
 {
     let chosen = swizzle::swizzle_of_mode(a.bits, a.mode);
     match chosen {
-        Chosen::Parameters(swizzle) => {
+        Ok(swizzle) => {
             if !is_fit(a) {
                 return refuse(Refusal::Canonical);
             }
             let card = card_of(a, swizzle);
             Built {
-                answer: Admission::Admitted,
+                answer: Ok(()),
                 card,
             }
         }
-        Chosen::Refused(refusal) => refuse(refusal),
+        Err(refusal) => refuse(refusal),
     }
 }

@@ -1,10 +1,12 @@
 -- What an admitted card is: the ladder ends in an admission only where all six checks are passed, and its products then lie within their limits.
+use Rattle.std.specs.Prelude.{Err, Ok, Result, ⊤}
 use mathlib.Core.Path.{◌≡◌, refl}
 use mathlib.Core.Bool.{Bool, true, false, cond, not, ◌&&◌, and-eq-true_iff}
 use mathlib.Core.List.{List, map}
 use Prim.Native.Nat.{ℕ, ◌≤◌}
 use native.Mathlib.Omega.{arith}
 use borrow.Author.Tests.{leb-true}
+use Rattle.answers.specs.Refusals.{no_refusal}
 use Rattle.laws.proofs.Tests.{four_of}
 use lib.Dec.{leb}
 use lib.IntN.{ℤ}
@@ -19,27 +21,25 @@ use Rattle.card.specs.Admission.{counts_fit, iters_fit, marks_fit, numbers_fit, 
 use Rattle.card.specs.Packed.{card_of, Admits}
 use Rattle.card.specs.declared.Iters.{Iters}
 use Rattle.card.specs.declared.Card.{Card}
-use Rattle.card.specs.declared.Admission.{Admission}
-use Rattle.card.specs.declared.Admission.TheVariants.{Admitted, Refused}
 use Rattle.card.proofs.Lists.{product_positive}
 
 -- one rung: it was passed, and so was the rest of the ladder
-passed : (b : Bool) (r : Refusal) (rest : Admission) → cond (not b) (Refused r) rest ≡ Admitted → (b ≡ true) × (rest ≡ Admitted)
+passed : (b : Bool) (r : Refusal) (rest : Result ⊤ Refusal) → cond (not b) (Err r) rest ≡ no_refusal → (b ≡ true) × (rest ≡ no_refusal)
 passed true r rest e = (refl, e)
 passed false r rest e = absurd (apart (cc))
 
 -- checks 1 to 3 by what they come to: refused they refuse whatever comes after, and passed they give it
-pub fields_refused : (card : Card) (then : Admission) {r : Refusal} → field_checks card Admitted ≡ Refused r → field_checks card then ≡ Refused r
+pub fields_refused : (card : Card) (then : Result ⊤ Refusal) {r : Refusal} → field_checks card no_refusal ≡ Err r → field_checks card then ≡ Err r
 fields_refused card then = split (counts_fit card) (numbers_fit card) (axes_fit card)
   where
-    split : (a b c : Bool) {r : Refusal} → cond (not a) (Refused Counts) (cond (not b) (Refused Limits) (cond (not c) (Refused Axis) Admitted)) ≡ Refused r
-        → cond (not a) (Refused Counts) (cond (not b) (Refused Limits) (cond (not c) (Refused Axis) then)) ≡ Refused r
+    split : (a b c : Bool) {r : Refusal} → cond (not a) (Err Counts) (cond (not b) (Err Limits) (cond (not c) (Err Axis) no_refusal)) ≡ Err r
+        → cond (not a) (Err Counts) (cond (not b) (Err Limits) (cond (not c) (Err Axis) then)) ≡ Err r
     split false b c e = e
     split true false c e = e
     split true true false e = e
     split true true true e = absurd (apart (cc))
 
-pub fields_passed : (card : Card) (then : Admission) → field_checks card Admitted ≡ Admitted → field_checks card then ≡ then
+pub fields_passed : (card : Card) (then : Result ⊤ Refusal) → field_checks card no_refusal ≡ no_refusal → field_checks card then ≡ then
 fields_passed card then e =
     let p1 = passed (counts_fit card) Counts _ e in
     let p2 = passed (numbers_fit card) Limits _ p1.1 in
@@ -55,7 +55,7 @@ pub record Checked (card : Card) : Type 0 where
   pub few : few_enough card ≡ true
   pub swizzle : swizzle_fits card ≡ true
 
-pub checked : (card : Card) → admission card ≡ Admitted → Checked card
+pub checked : (card : Card) → admission card ≡ no_refusal → Checked card
 unfolding admission
 checked card e =
     let p1 = passed (counts_fit card) Counts _ e in
@@ -96,7 +96,7 @@ pub record Sized (card : Card) : Type 0 where
   pub some_cells : 1 ≤ cells card
   pub most_cells_lem : cells card ≤ most_cells
 
-pub sized : (card : Card) → admission card ≡ Admitted → Sized card
+pub sized : (card : Card) → admission card ≡ no_refusal → Sized card
 sized card e =
     let k = checked card e in
     let n = numbered card k.numbers in

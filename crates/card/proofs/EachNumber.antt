@@ -1,5 +1,6 @@
 -- Each of the numbers 1 to 6 by itself, for every card: the ladder of checks gives a number exactly where the checks before it are passed and its own
 -- is not, rung by rung.
+use Rattle.std.specs.Prelude.{Result, ⊤, Err, Ok}
 use mathlib.Core.Path.{◌≡◌, refl, sym, ap, ◌∙◌}
 use mathlib.Core.Bool.{Bool, true, false, cond, not, true≢false}
 use mathlib.Core.Logic.{◌↔◌}
@@ -7,14 +8,12 @@ use Prim.Native.Nat.{ℕ, suc, ◌≤◌}
 use native.Mathlib.Omega.{arith}
 use lib.Dec.{leb, eqb}
 use borrow.Author.Tests.{leb-true, eqb-false}
-use Rattle.answers.specs.Refusals.{answer, refusal_numbers}
+use Rattle.answers.specs.Refusals.{answer, refusal_numbers, no_refusal}
 use Rattle.answers.specs.declared.Numbers.{Numbers}
 use Rattle.answers.specs.declared.Refusal.{Refusal}
 use Rattle.answers.proofs.OneToOne.{refusal_not_zero, either}
 use Rattle.card.specs.Admission.{counts_fit, numbers_fit, axes_fit, space_fits, few_enough, swizzle_fits, admission, admission_numbers}
 use Rattle.card.specs.declared.Card.{Card}
-use Rattle.card.specs.declared.Admission.{Admission}
-use Rattle.card.specs.declared.Admission.TheVariants.{Admitted, Refused}
 use Rattle.card.proofs.Theorems.{after_six, after_six_lem}
 use Rattle.card.proofs.Within.{CountsWithin, NumbersWithin, AxesWithin, SpaceWithin, SizesWithin, SwizzleWithin, WithinLimits, counts_exactly, numbers_exactly, axes_exactly, space_exactly, sizes_exactly, swizzle_exactly, within_limits_exactly}
 
@@ -135,7 +134,7 @@ module _ (card : Card) (last : Numbers) (late : Past 6 last) where
       }
 
 -- the refusals of these checks have the numbers 1 to 6
-abbrev Early : Admission → Type 0
+abbrev Early : Result ⊤ Refusal → Type 0
 Early a = leb (admission_numbers a).number 6 ≡ true
 
 early : (card : Card) → Early (admission card)
@@ -148,30 +147,30 @@ early card =
     (either Early (not (few_enough card)) refl
     (either Early (not (swizzle_fits card)) refl refl)))))
 
-pub refused_early : (card : Card) (r : Refusal) → admission card ≡ Refused r → (1 ≤ (refusal_numbers r).number) × ((refusal_numbers r).number ≤ 6)
+pub refused_early : (card : Card) (r : Refusal) → admission card ≡ Err r → (1 ≤ (refusal_numbers r).number) × ((refusal_numbers r).number ≤ 6)
 refused_early card r e =
     let n = (refusal_numbers r).number in
     let some = eqb-false n 0 (refusal_not_zero r) in
-    (omega (arith, some), leb-true n 6 (ap (λ (a : Admission). leb (admission_numbers a).number 6) (sym e) ∙ early card))
+    (omega (arith, some), leb-true n 6 (ap (λ (a : Result ⊤ Refusal). leb (admission_numbers a).number 6) (sym e) ∙ early card))
 
 -- the numbers 1 to 6 of every question that begins with these checks, and gives none of them to a card that passes them
-pub of_six : (card : Card) (n : Numbers) → ((r : Refusal) → admission card ≡ Refused r → n ≡ refusal_numbers r)
-    → (admission card ≡ Admitted → Past 6 n) → OfSix card n
+pub of_six : (card : Card) (n : Numbers) → ((r : Refusal) → admission card ≡ Err r → n ≡ refusal_numbers r)
+    → (admission card ≡ no_refusal → Past 6 n) → OfSix card n
 of_six card n refused admitted =
     let whole = after_six_lem card n (after (admission card)) refused (λ e. sym (ap after e)) in
     rw whole (ladder card (after (admission card)) (late (admission card) refl) (rw whole at passed))
   where
-    after : Admission → Numbers
-    after Admitted = n
-    after (Refused r) = answer 0 0 0 0
+    after : Result ⊤ Refusal → Numbers
+    after (Ok _) = n
+    after (Err r) = answer 0 0 0 0
 
-    late : (a : Admission) → admission card ≡ a → Past 6 (after a)
-    late Admitted e = admitted e
-    late (Refused r) e = λ j low high h. omega arith
+    late : (a : Result ⊤ Refusal) → admission card ≡ a → Past 6 (after a)
+    late (Ok _) e = admitted e
+    late (Err r) e = λ j low high h. omega arith
 
-    only : (a : Admission) → admission card ≡ a → Past 6 n → WithinLimits card
-    only Admitted e past = (within_limits_exactly card).0 e
-    only (Refused r) e past =
+    only : (a : Result ⊤ Refusal) → admission card ≡ a → Past 6 n → WithinLimits card
+    only (Ok _) e past = (within_limits_exactly card).0 e
+    only (Err r) e past =
         let k = refused_early card r e in
         absurd (past (refusal_numbers r).number k.0 k.1 (ap (λ (m : Numbers). m.number) (refused r e)))
 
@@ -179,12 +178,12 @@ of_six card n refused admitted =
     passed = (only (admission card) refl, λ w. admitted ((within_limits_exactly card).1 w))
 
 -- so of the admission itself; at 0 it has no details either
-pub admission_each_number : (card : Card) (r : Admission) → r ≡ admission card → OfSix card (admission_numbers r)
+pub admission_each_number : (card : Card) (r : Result ⊤ Refusal) → r ≡ admission card → OfSix card (admission_numbers r)
 admission_each_number card r e =
     of_six card (admission_numbers r) (λ s h. ap admission_numbers (e ∙ h))
-    (λ h j low high k. let zero_number = ap (λ (a : Admission). (admission_numbers a).number) (e ∙ h) in omega arith)
+    (λ h j low high k. let zero_number = ap (λ (a : Result ⊤ Refusal). (admission_numbers a).number) (e ∙ h) in omega arith)
 
-pub admission_zero : (card : Card) (r : Admission) → r ≡ admission card → (admission_numbers r ≡ answer 0 0 0 0) ↔ WithinLimits card
+pub admission_zero : (card : Card) (r : Result ⊤ Refusal) → r ≡ admission card → (admission_numbers r ≡ answer 0 0 0 0) ↔ WithinLimits card
 admission_zero card r e =
     let six = admission_each_number card r e in (
       λ zero_number. six.passed.0 (λ j low high k. let h = ap (λ (m : Numbers). m.number) zero_number in omega arith),

@@ -1,10 +1,11 @@
 -- What the admission means, in plain statements: it is settled, its numbers are one-to-one, document 01's and none of a later check, and what
 -- stands past a count plays no part.
+use Rattle.std.specs.Prelude.{Result, ⊤, Ok, Err}
 use mathlib.Core.Path.{◌≡◌, refl, sym, ap, ◌∙◌}
 use mathlib.Core.Bool.{Bool, true, false, cond, not, ◌||◌}
 use Prim.Native.Nat.{ℕ}
 use lib.Dec.{eqb}
-use Rattle.answers.specs.Refusals.{answer, refusal_numbers}
+use Rattle.answers.specs.Refusals.{answer, refusal_numbers, no_refusal}
 use Rattle.answers.specs.declared.Numbers.{Numbers}
 use Rattle.answers.specs.declared.Refusal.{Refusal}
 use Rattle.answers.specs.declared.Refusal.TheVariants.{Counts, Limits, Axis, Space, TooMany, Swizzle}
@@ -13,24 +14,22 @@ use Rattle.card.specs.Card.{listed, marks_of}
 use Rattle.card.specs.Admission.{counts_fit, numbers_fit, axes_fit, space_fits, few_enough, swizzle_fits, admission, admission_numbers}
 use Rattle.card.specs.declared.Card.{Card}
 use Rattle.card.specs.declared.Iters.{Iters}
-use Rattle.card.specs.declared.Admission.{Admission}
-use Rattle.card.specs.declared.Admission.TheVariants.{Admitted, Refused}
 use Rattle.card.proofs.Admitted.{Checked}
 
 -- two outcomes that the promise of the admission allows are equal
-pub admission_settled : (card : Card) (p q : Admission) → p ≡ admission card → q ≡ admission card → p ≡ q
+pub admission_settled : (card : Card) (p q : Result ⊤ Refusal) → p ≡ admission card → q ≡ admission card → p ≡ q
 admission_settled card p q e f = e ∙ sym f
 
 -- pinning the numbers pins the answer
-admission_back : (p : Admission) → read_back (λ n. Admitted) Refused (admission_numbers p) ≡ p
-admission_back Admitted = refl
-admission_back (Refused r) = refused_back (λ n. Admitted) Refused r
+admission_back : (p : Result ⊤ Refusal) → read_back (λ n. no_refusal) Err (admission_numbers p) ≡ p
+admission_back (Ok _) = refl
+admission_back (Err r) = refused_back (λ n. no_refusal) Err r
 
-pub admission_one_to_one : (p q : Admission) → admission_numbers p ≡ admission_numbers q → p ≡ q
-admission_one_to_one = pinned (λ n. Admitted) Refused admission_numbers admission_back
+pub admission_one_to_one : (p q : Result ⊤ Refusal) → admission_numbers p ≡ admission_numbers q → p ≡ q
+admission_one_to_one = pinned (λ n. no_refusal) Err admission_numbers admission_back
 
 -- a card that passes all six checks is admitted
-pub checked_admitted : (card : Card) → Checked card → admission card ≡ Admitted
+pub checked_admitted : (card : Card) → Checked card → admission card ≡ no_refusal
 unfolding admission
 checked_admitted card k = rw (k.counts, k.numbers, k.axes, k.space, k.few, k.swizzle)
 
@@ -38,7 +37,7 @@ checked_admitted card k = rw (k.counts, k.numbers, k.axes, k.space, k.few, k.swi
 abbrev pub of_table : ℕ → Bool
 of_table n = eqb n 7 || eqb n 8 || eqb n 12
 
-abbrev Early : Admission → Type 0
+abbrev Early : Result ⊤ Refusal → Type 0
 Early a = (of_table (admission_numbers a).number ≡ false) × (eqb (admission_numbers a).number 17 ≡ false)
 
 pub admission_number : (card : Card) → Early (admission card)
@@ -62,22 +61,22 @@ after_six card passed =
     (cond (not (swizzle_fits card)) (answer 6 0 0 0)
     passed)))))
 
-abbrev numbers_then : Numbers → Admission → Numbers
-numbers_then passed Admitted = passed
-numbers_then passed (Refused r) = refusal_numbers r
+abbrev numbers_then : Numbers → Result ⊤ Refusal → Numbers
+numbers_then passed (Ok _) = passed
+numbers_then passed (Err r) = refusal_numbers r
 
-pub after_six_lem : (card : Card) (n passed : Numbers) → ((r : Refusal) → admission card ≡ Refused r → n ≡ refusal_numbers r)
-    → (admission card ≡ Admitted → n ≡ passed) → n ≡ after_six card passed
+pub after_six_lem : (card : Card) (n passed : Numbers) → ((r : Refusal) → admission card ≡ Err r → n ≡ refusal_numbers r)
+    → (admission card ≡ no_refusal → n ≡ passed) → n ≡ after_six card passed
 unfolding admission
 after_six_lem card n passed refused admitted = split (admission card) refl ∙ ladder
   where
-    split : (a : Admission) → admission card ≡ a → n ≡ numbers_then passed a
-    split Admitted e = admitted e
-    split (Refused r) e = refused r e
+    split : (a : Result ⊤ Refusal) → admission card ≡ a → n ≡ numbers_then passed a
+    split (Ok _) e = admitted e
+    split (Err r) e = refused r e
 
     ladder : numbers_then passed (admission card) ≡ after_six card passed
     ladder =
-        let numbers : Admission → Numbers = numbers_then passed in
+        let numbers : Result ⊤ Refusal → Numbers = numbers_then passed in
         rung numbers (not (counts_fit card)) refl
         (rung numbers (not (numbers_fit card)) refl
         (rung numbers (not (axes_fit card)) refl
@@ -85,7 +84,7 @@ after_six_lem card n passed refused admitted = split (admission card) refl ∙ l
         (rung numbers (not (few_enough card)) refl
         (rung numbers (not (swizzle_fits card)) refl refl)))))
 
-pub admission_in_numbers : (card : Card) (r : Admission) → r ≡ admission card → admission_numbers r ≡ after_six card (answer 0 0 0 0)
+pub admission_in_numbers : (card : Card) (r : Result ⊤ Refusal) → r ≡ admission card → admission_numbers r ≡ after_six card (answer 0 0 0 0)
 admission_in_numbers card r e =
     after_six_lem card (admission_numbers r) (answer 0 0 0 0) (λ s h. ap admission_numbers (e ∙ h)) (λ h. ap admission_numbers (e ∙ h))
 

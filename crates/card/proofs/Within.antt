@@ -1,5 +1,6 @@
 -- The limits as inequalities: checks 1 to 6 are passed exactly when every count, extent, stride, offset, axis, length, product and M, B, S lies within
 -- its numbers, test by test and element by element of each list.
+use Rattle.std.specs.Prelude.{Ok}
 use mathlib.Core.Path.{◌≡◌, refl, sym, ap, ◌∙◌}
 use mathlib.Core.Bool.{Bool, true, false, not, ◌&&◌, ◌||◌, and-eq-true_iff, false≢true}
 use mathlib.Core.Logic.Iff
@@ -13,6 +14,7 @@ use lib.Dec.{T, leb}
 use lib.IntN.{ℤ, pos, negsuc, neg_ℤ}
 use lib.ListN.{length, get_or}
 use lib.Signed.{◌≤ℤ◌, le_z}
+use Rattle.answers.specs.Refusals.{no_refusal}
 use Rattle.laws.proofs.Parts.{le_z_true}
 use Rattle.card.specs.Lists.{all, within, within_z, product}
 use Rattle.card.specs.Card.{listed, marks_of, extent_of, stride_of, axis_of, none, elements, copies}
@@ -20,7 +22,6 @@ use Rattle.card.specs.Admission.{counts_fit, iters_fit, marks_fit, numbers_fit, 
 use Rattle.card.specs.declared.Iter.{Iter}
 use Rattle.card.specs.declared.Iters.{Iters}
 use Rattle.card.specs.declared.Card.{Card}
-use Rattle.card.specs.declared.Admission.TheVariants.{Admitted}
 use Rattle.card.proofs.Admitted.{checked}
 use Rattle.card.proofs.Theorems.{checked_admitted}
 
@@ -229,7 +230,7 @@ swizzle_exactly card =
     )
 
 -- a card is admitted exactly when every number of it lies within the limits
-pub within_limits_exactly : (card : Card) → (admission card ≡ Admitted) ↔ WithinLimits card
+pub within_limits_exactly : (card : Card) → (admission card ≡ no_refusal) ↔ WithinLimits card
 within_limits_exactly card = (
   λ e.
       let k = checked card e in

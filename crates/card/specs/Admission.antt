@@ -1,6 +1,7 @@
 -- The admission of a card: document 01's checks 1 to 6, in this order.
-use Rattle.std.specs.Prelude.{ℕ, Bool, true, cond, not, ◌&&◌, ◌||◌, List, [], ◌∷◌, map, leb, ℤ, pos}
-use Rattle.answers.specs.Refusals.{answer, refusal_numbers}
+use Rattle.std.specs.Prelude.{ℕ, Bool, true, cond, not, ◌&&◌, ◌||◌, List, [], ◌∷◌, map, leb, ℤ, pos, Result, ⊤, Err, Ok}
+use Rattle.answers.specs.declared.Refusal.{Refusal}
+use Rattle.answers.specs.Refusals.{answer, refusal_numbers, numbers_of, just_zero, no_refusal}
 use Rattle.answers.specs.declared.Numbers.{Numbers}
 use Rattle.answers.specs.declared.Refusal.TheVariants.{Counts, Limits, Axis, Space, TooMany, Swizzle}
 use Rattle.swizzle.specs.Swizzle.{permitted}
@@ -9,8 +10,6 @@ use Rattle.card.specs.Limits.{most_shard, most_replica, most_extent, least_strid
 use Rattle.card.specs.Card.{listed, marks_of, extent_of, stride_of, axis_of, elements, copies}
 use Rattle.card.specs.declared.Iters.{Iters}
 use Rattle.card.specs.declared.Card.{Card}
-use Rattle.card.specs.declared.Admission.{Admission}
-use Rattle.card.specs.declared.Admission.TheVariants.{Admitted, Refused}
 
 -- check 1: shard and replica iter count within limits
 abbrev pub counts_fit : Card → Bool
@@ -53,23 +52,22 @@ abbrev pub swizzle_fits : Card → Bool
 swizzle_fits card = permitted card.swizzle.m card.swizzle.b card.swizzle.s
 
 -- checks 1 to 3, and what comes where a card passes them: the first check that it fails refuses it
-abbrev pub field_checks : Card → Admission → Admission
+abbrev pub field_checks : Card → Result ⊤ Refusal → Result ⊤ Refusal
 field_checks card then =
-    cond (not (counts_fit card)) (Refused Counts)
-    (cond (not (numbers_fit card)) (Refused Limits)
-    (cond (not (axes_fit card)) (Refused Axis)
+    cond (not (counts_fit card)) (Err Counts)
+    (cond (not (numbers_fit card)) (Err Limits)
+    (cond (not (axes_fit card)) (Err Axis)
     then))
 
 -- checks 1 to 6
-unfoldable pub admission : Card → Admission
+unfoldable pub admission : Card → Result ⊤ Refusal
 admission card =
     field_checks card
-    (cond (not (space_fits card.lengths)) (Refused Space)
-    (cond (not (few_enough card)) (Refused TooMany)
-    (cond (not (swizzle_fits card)) (Refused Swizzle)
-    Admitted)))
+    (cond (not (space_fits card.lengths)) (Err Space)
+    (cond (not (few_enough card)) (Err TooMany)
+    (cond (not (swizzle_fits card)) (Err Swizzle)
+    no_refusal)))
 
 -- an admission has no details
-abbrev pub admission_numbers : Admission → Numbers
-admission_numbers Admitted = answer 0 0 0 0
-admission_numbers (Refused refusal) = refusal_numbers refusal
+abbrev pub admission_numbers : Result ⊤ Refusal → Numbers
+admission_numbers = numbers_of just_zero

@@ -1,13 +1,13 @@
 -- A packed card: its numbers in two arrays, the card that has these numbers, and bounds. Nothing here has to be believed: it is what the functions
 -- inside promise each other.
-use Rattle.std.specs.Prelude.{ℕ, ◌+◌, ◌*◌, ◌^◌, ◌≤◌, min, ◌≡◌, Bool, not, List, [], ◌∷◌, map, eqb, ℤ, pos, nat_abs, length, get_or}
+use Rattle.std.specs.Prelude.{ℕ, ◌+◌, ◌*◌, ◌^◌, ◌≤◌, min, ◌≡◌, Bool, not, List, [], ◌∷◌, map, eqb, ℤ, pos, nat_abs, length, get_or, Ok}
 use Rattle.std.proofs.Math.Seq.{slice}
+use Rattle.answers.specs.Refusals.{no_refusal}
 use Rattle.swizzle.specs.declared.Swizzle.{Swizzle}
 use Rattle.card.specs.Lists.{slots}
 use Rattle.card.specs.Limits.{least_stride}
 use Rattle.card.specs.Card.{listed, marks_of, stride_of, elements, copies, cells}
 use Rattle.card.specs.Admission.{admission}
-use Rattle.card.specs.declared.Admission.TheVariants.{Admitted}
 use Rattle.card.specs.declared.Iter.{Iter}
 use Rattle.card.specs.declared.Iters.{Iters}
 use Rattle.card.specs.declared.Card.{Card}
@@ -69,7 +69,7 @@ pub record Packs (card : Card) (numbers : List ℕ) (strides : List ℤ) : Type 
 -- a packed card that passes checks 1 to 6
 pub record Admits (numbers : List ℕ) (strides : List ℤ) : Type 0 where
   pub whole : Whole numbers strides
-  pub admitted : admission (card_of numbers strides) ≡ Admitted
+  pub admitted : admission (card_of numbers strides) ≡ no_refusal
 
 abbrev pub last_column : Card → List ℕ
 last_column card =

@@ -1,7 +1,6 @@
 // The layout card and checks 1 to 6: the card by value, the answer of its admission, and where its numbers stand when it is packed. There are no functions.
 #![tactic(auto)]
 
-use answers::Refusal;
 use swizzle::Swizzle;
 
 // The axes are 0 to 7.
@@ -40,13 +39,6 @@ pub struct Card {
     pub offset: [i64; 8],
     pub lengths: [u64; 8],
     pub swizzle: Swizzle,
-}
-
-// The answer to a card.
-#[derive(Clone, Copy)]
-pub enum Admission {
-    Admitted,
-    Refused(Refusal),
 }
 
 // Packed, a card's numbers are two arrays. The unsigned ones are seven columns of eight: the extents and the

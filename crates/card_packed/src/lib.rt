@@ -2,7 +2,7 @@
 #![tactic(auto)]
 
 ghost use Rattle.std.specs.Prelude.{◌≡◌, map, min};
-ghost use Rattle.card.specs.Card.{mark_number, extent_of, size};
+ghost use Rattle.card.specs.Card.{extent_of, size};
 ghost use Rattle.card.specs.Packed.{beyond, last_column, Packs};
 
 use card::{Card, Iters};
@@ -45,19 +45,12 @@ fn extents(iters: Iters) -> [u64; 8]
     ]
 }
 
-// How many of eight iters a count names.
-fn named(count: u64) -> u64
-    ensures { result ≡ min count 8 }
-{
-    if count < 8 { count } else { 8 }
-}
-
 // The product of the extents of a list of iters, told apart below BEYOND.
 fn size(iters: Iters) -> u64
     ensures { result ≡ min (size iters) beyond }
 {
     let extents = extents(iters);
-    card_products::product(extents, named(iters.count))
+    card_products::product(extents, iters.count.min(8))
 }
 
 // The counts, M, B, S and the sizes of a card.
@@ -79,13 +72,6 @@ fn last_column(card: Card) -> [u64; 8]
     ]
 }
 
-// A mark as a number.
-fn mark_number(mark: bool) -> u64
-    ensures { result ≡ mark_number mark }
-{
-    if mark { 1 } else { 0 }
-}
-
 // Packs a card, once: everything after it reads the two arrays.
 pub fn pack(card: Card) -> Packed
     ensures { Packs card result.numbers result.strides }
@@ -98,8 +84,7 @@ pub fn pack(card: Card) -> Packed
     let last = last_column(card);
     let mut numbers = [0u64; 56];
     let mut strides = [0i64; 24];
-    let mut k: usize = 0;
-    while k < 8 {
+    for k in 0..8 {
         let of_shard = shard.at[k];
         let of_replica = replica.at[k];
         numbers[SHARD_EXTENTS + k] = of_shard.extent;
@@ -108,13 +93,12 @@ pub fn pack(card: Card) -> Packed
         numbers[REPLICA_AXES + k] = of_replica.axis;
         numbers[card::LENGTHS + k] = lengths[k];
         numbers[card::COUNTS + k] = last[k];
-        numbers[card::MARKS + k] = mark_number(marks[k]);
+        numbers[card::MARKS + k] = u64::from(marks[k]);
         let shard_stride = of_shard.stride;
         strides[SHARD_STRIDES + k] = shard_stride;
         let replica_stride = of_replica.stride;
         strides[REPLICA_STRIDES + k] = replica_stride;
         strides[card::OFFSET + k] = offset[k];
-        k += 1;
     }
     Packed { numbers, strides }
 }

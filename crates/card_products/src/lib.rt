@@ -32,10 +32,8 @@ pub fn product(numbers: [u64; 8], count: u64) -> u64
     ensures { result ≡ min (product (take count numbers)) beyond }
 {
     let mut part: u64 = 1;
-    let mut k: u64 = 0;
-    while k < count {
+    for k in 0..count {
         part = times(part, numbers[k as usize]);
-        k += 1;
     }
     part
 }

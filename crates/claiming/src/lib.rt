@@ -15,8 +15,7 @@ ghost use Rattle.claiming_runs.specs.Clauses.{Rows};
 ghost use Rattle.claiming_in_order.specs.Clauses.{Pass};
 
 use answers::Refusal;
-use judgement::Verdict;
-use outside::Search;
+use judgement::Approved;
 
 // The runs copy by copy, and only where a cell has an owner already all anew, element by element.
 fn claim_twice(
@@ -27,18 +26,18 @@ fn claim_twice(
     ms: &[i64],
     row: &mut [u32],
     table: &mut [u32],
-) -> Verdict
+) -> Result<Approved, Refusal>
     requires pass { Pass numbers.now strides.now elements row.old × Rows (card_of numbers.now strides.now) levels.now ms.now row.old }
     requires all_inside { AllInside (card_of numbers.now strides.now) × (table.old ≡ replicate (cells (card_of numbers.now strides.now)) 0) }
     ensures { VerdictPromise (card_of numbers.now strides.now) table.old table.new result }
 {
     let occupied = claiming_copies::claim_quickly(numbers, strides, elements, levels, ms, table);
     if occupied != 0 {
-        return Verdict::Approved {
+        return Ok(Approved {
             elements,
             occupied,
             cells: table.len() as u64,
-        };
+        });
     }
     claiming_in_order::claim_runs(numbers, strides, elements, levels, ms, row, table)
 }
@@ -51,7 +50,7 @@ fn claim_all(
     elements: u64,
     row: &mut [u32],
     table: &mut [u32],
-) -> Verdict
+) -> Result<Approved, Refusal>
     requires pass { Pass numbers.now strides.now elements row.old }
     requires all_inside { AllInside (card_of numbers.now strides.now) × (table.old ≡ replicate (cells (card_of numbers.now strides.now)) 0) }
     ensures { VerdictPromise (card_of numbers.now strides.now) table.old table.new result }
@@ -59,11 +58,11 @@ fn claim_all(
     let copies = row.len();
     if (elements == 1) & (copies == 1) {
         let occupied = claiming_elements::claim_alone(numbers, strides, table);
-        return Verdict::Approved {
+        return Ok(Approved {
             elements,
             occupied,
             cells: table.len() as u64,
-        };
+        });
     }
     let mut levels = [0i64; card::MOST_COPIES as usize];
     let mut ms = [0i64; card::MOST_COPIES as usize];
@@ -86,15 +85,18 @@ pub fn judge_passes(
     elements: u64,
     row: &mut [u32],
     table: &mut [u32],
-) -> Verdict
+) -> Result<Approved, Refusal>
     requires pass { Pass numbers.now strides.now elements row.old }
     requires table_len { length table.old ≡ cells (card_of numbers.now strides.now) }
     ensures { VerdictPromise (card_of numbers.now strides.now) table.old table.new result }
 {
     owners::clear(table);
     let search = outside::find_outside(numbers, strides);
-    if let Search::Outside { flat, axis } = search {
-        return Verdict::Refused(Refusal::CopyOutside { flat, axis });
+    if let Some(found) = search {
+        return Err(Refusal::CopyOutside {
+            flat: found.flat,
+            axis: found.axis,
+        });
     }
     claim_all(numbers, strides, elements, row, table)
 }

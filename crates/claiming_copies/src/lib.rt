@@ -38,8 +38,7 @@ fn claim_copies(
     let level = start.level;
     let m = start.m;
     let mut newly: u64 = 0;
-    let mut copy: usize = 0;
-    while copy < levels.len() {
+    for copy in 0..levels.len() {
         let place = LevelAndM {
             level: level + levels[copy],
             m: m + ms[copy],
@@ -48,7 +47,6 @@ fn claim_copies(
             return 0;
         }
         newly += length;
-        copy += 1;
     }
     newly
 }
@@ -77,6 +75,7 @@ fn claim_turns(
     let mut start = copies_runs::begin(numbers, strides, Flat(0));
     let mut occupied: u64 = 0;
     let mut first: u64 = 0;
+    // A while: a turn goes on by a run, not by one.
     while first < elements {
         let run = Run {
             first: Flat(first),

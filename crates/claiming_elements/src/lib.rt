@@ -103,8 +103,7 @@ pub fn claim_run(
     let mut level = start.level;
     let mut m = start.m;
     let mut cells: u64 = 0;
-    let mut done: u64 = 0;
-    while done < length {
+    for done in 0..length {
         let place = LevelAndM { level, m };
         let newly = claim_element(
             numbers,
@@ -126,7 +125,6 @@ pub fn claim_run(
         cells += newly;
         level = level + level_step;
         m = m + m_step;
-        done += 1;
     }
     Claimed {
         elements: length,

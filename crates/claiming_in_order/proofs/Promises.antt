@@ -1,32 +1,32 @@
 -- The verdict's promise, case by case: first in a table of exactly the cells, then in the caller's table, whose entries past the cells stay.
+use Rattle.std.specs.Prelude.{Err, Ok, Result}
 use mathlib.Core.Path.{◌≡◌, refl, sym, ap, ap₂, ◌∙◌, subst}
 use mathlib.Core.List.{List, ◌++◌, append-nil}
 use Prim.Native.Nat.{ℕ, ◌-◌, ◌≤◌, ◌<◌}
 use native.Mathlib.Omega.{arith}
 use lib.ListN.{length, take, drop, replicate, drop_of_length-le, take-append-drop}
 use lib.Seq.{length-take-le}
+use Rattle.answers.specs.Refusals.{no_refusal}
+use Rattle.judgement.specs.declared.Approved.{Approved}
 use Rattle.laws.proofs.Rungs.{apart}
 use Rattle.answers.specs.declared.Flat.{Flat}
 use Rattle.answers.specs.declared.Refusal.{Refusal}
 use Rattle.answers.specs.declared.Refusal.TheVariants.{CopyOutside, TooShort}
 use Rattle.card.specs.Card.{elements, cells}
 use Rattle.card.specs.declared.Card.{Card}
-use Rattle.card.specs.declared.Admission.TheVariants.{Admitted, Refused as NoCard}
 use Rattle.idle.specs.Admission.{full_admission}
 use Rattle.claims.specs.Claims.{FirstClash, OwnedTable as Owned}
 use Rattle.claims.specs.Rows.{entry_met, cell_met}
 use Rattle.owners.specs.Owners.{clash_of}
 use Rattle.judgement.specs.Judgement.{placed, AllInside, FirstOutside, Judgement, NotAdmitted, NoRoom, OutsideAt, Clashing, Passed, Judged, ComesTo}
-use Rattle.judgement.specs.Verdict.{table_after, VerdictPromise}
-use Rattle.judgement.specs.declared.Verdict.{Verdict}
-use Rattle.judgement.specs.declared.Verdict.TheVariants.{Approved, Refused}
+use Rattle.judgement.specs.Verdict.{table_after, VerdictPromise, approved_with}
 
 -- nothing is past a table of exactly the cells
 none_past : (n : ℕ) (table : List ℕ) → length table ≡ n → (t : List ℕ) → t ≡ t ++ drop n table
 none_past n table e t = sym (ap (λ (l : List ℕ). t ++ l) (drop_of_length-le table {i = n} (omega arith)) ∙ append-nil t)
 
 -- an admitted card and a table of exactly its cells
-module _ (card : Card) (before : List ℕ) (admitted : full_admission card ≡ Admitted) (exact : length before ≡ cells card) where
+module _ (card : Card) (before : List ℕ) (admitted : full_admission card ≡ no_refusal) (exact : length before ≡ cells card) where
   judged : Judged card (length before)
   judged = record { admitted = admitted; enough = omega arith }
 
@@ -34,7 +34,7 @@ module _ (card : Card) (before : List ℕ) (admitted : full_admission card ≡ A
   nothing_past = none_past (cells card) before exact
 
   pub outside_promise : {after : List ℕ} (flat : Flat) (axis : ℕ) → FirstOutside card flat.0 axis → after ≡ replicate (cells card) 0
-      → VerdictPromise card before after (Refused (CopyOutside flat axis))
+      → VerdictPromise card before after (Err (CopyOutside flat axis))
   outside_promise {after} flat axis first e = record {
     judgement = OutsideAt flat.0 axis;
     comes = (judged, first);
@@ -46,25 +46,25 @@ module _ (card : Card) (before : List ℕ) (admitted : full_admission card ≡ A
     pub clash_promise : {after : List ℕ} (table row : List ℕ) (flat : Flat)
         → FirstClash (placed card) (elements card) (entry_met table row - 1) flat.0 (cell_met table (entry_met table row) row - 1)
         → {refusal : Refusal} → refusal ≡ clash_of table row flat → after ≡ replicate (cells card) 0
-        → VerdictPromise card before after (Refused refusal)
+        → VerdictPromise card before after (Err refusal)
     clash_promise {after} table row flat first {refusal} r e = record {
       judgement = Clashing (entry_met table row - 1) flat.0 (cell_met table (entry_met table row) row - 1);
       comes = (judged, inside, first);
-      answers = ap Refused r;
+      answers = ap Err r;
       leaves = e ∙ nothing_past (replicate (cells card) 0);
     }
 
     pub approved_promise : {after : List ℕ} {n count m : ℕ} → Owned (placed card) (elements card) (cells card) after count → n ≡ elements card → m ≡ cells card
-        → VerdictPromise card before after (Approved n count m)
+        → VerdictPromise card before after (approved_with n count m)
     approved_promise {after} {n} {count} {m} owned e d = record {
       judgement = Passed after count;
       comes = (judged, inside, owned);
-      answers = ap₂ (λ (n m : ℕ). Approved n count m) e d;
+      answers = ap₂ (λ (n m : ℕ). approved_with n count m) e d;
       leaves = nothing_past after;
     }
 
 -- of exactly the cells it does not matter what they were
-module _ (card : Card) (before other : List ℕ) (admitted : full_admission card ≡ Admitted) (exact : length before ≡ cells card)
+module _ (card : Card) (before other : List ℕ) (admitted : full_admission card ≡ no_refusal) (exact : length before ≡ cells card)
     (alike : length other ≡ cells card) where
   past : (t : List ℕ) → t ++ drop (cells card) other ≡ t ++ drop (cells card) before
   past t = sym (none_past (cells card) other alike t) ∙ none_past (cells card) before exact t
@@ -76,7 +76,7 @@ module _ (card : Card) (before other : List ℕ) (admitted : full_admission card
   same_after (Clashing x y cell) h = past (replicate (cells card) 0)
   same_after (Passed owners occupied) h = past owners
 
-  pub cells_anew : {after : List ℕ} {verdict : Verdict} → VerdictPromise card other after verdict → VerdictPromise card before after verdict
+  pub cells_anew : {after : List ℕ} {verdict : Result Approved Refusal} → VerdictPromise card other after verdict → VerdictPromise card before after verdict
   cells_anew p = record {
     judgement = p.judgement;
     comes = subst (λ (room : ℕ). ComesTo card room p.judgement) (alike ∙ sym exact) p.comes;
@@ -86,14 +86,14 @@ module _ (card : Card) (before other : List ℕ) (admitted : full_admission card
 
 -- the caller's table: a refusal before the cells are judged leaves it
 module _ (card : Card) (before : List ℕ) where
-  pub not_admitted : {refusal : Refusal} → full_admission card ≡ NoCard refusal → VerdictPromise card before before (Refused refusal)
+  pub not_admitted : {refusal : Refusal} → full_admission card ≡ Err refusal → VerdictPromise card before before (Err refusal)
   not_admitted {refusal} e = record { judgement = NotAdmitted refusal; comes = e; answers = refl; leaves = refl }
 
-  pub too_short : {n : ℕ} → full_admission card ≡ Admitted → n ≡ cells card → length before < n → VerdictPromise card before before (Refused (TooShort n))
+  pub too_short : {n : ℕ} → full_admission card ≡ no_refusal → n ≡ cells card → length before < n → VerdictPromise card before before (Err (TooShort n))
   too_short {n} admitted e h = record {
     judgement = NoRoom;
     comes = (admitted, omega arith);
-    answers = ap (λ (n : ℕ). Refused (TooShort n)) e;
+    answers = ap (λ (n : ℕ). Err (TooShort n)) e;
     leaves = refl;
   }
 
@@ -123,7 +123,7 @@ module _ (card : Card) (before : List ℕ) where
     rest_stays (Clashing x y cell) = rest (replicate (cells card) 0)
     rest_stays (Passed owners occupied) = rest owners
 
-    pub whole_table : {after : List ℕ} {verdict : Verdict} → VerdictPromise card (take n before) after verdict
+    pub whole_table : {after : List ℕ} {verdict : Result Approved Refusal} → VerdictPromise card (take n before) after verdict
         → VerdictPromise card before (after ++ drop n before) verdict
     whole_table p = record {
       judgement = p.judgement;

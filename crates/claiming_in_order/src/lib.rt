@@ -14,7 +14,7 @@ ghost use Rattle.claiming_in_order.specs.Clauses.{Pass, Met};
 
 use answers::{Flat, Refusal};
 use claiming_runs::Run;
-use judgement::Verdict;
+use judgement::Approved;
 
 // Why an element can not be claimed; the cells are all nobody's after it.
 fn refuse_clash(
@@ -56,7 +56,7 @@ pub fn claim_runs(
     ms: &[i64],
     row: &mut [u32],
     table: &mut [u32],
-) -> Verdict
+) -> Result<Approved, Refusal>
     requires pass { Pass numbers.now strides.now elements row.old × Rows (card_of numbers.now strides.now) levels.now ms.now row.old }
     requires all_inside { AllInside (card_of numbers.now strides.now) × (table.old ≡ replicate (cells (card_of numbers.now strides.now)) 0) }
     ensures { VerdictPromise (card_of numbers.now strides.now) table.old table.new result }
@@ -66,6 +66,7 @@ pub fn claim_runs(
     let step = copies_runs::added(numbers, strides, card::SHARD, 1);
     let mut occupied: u64 = 0;
     let mut flat: u64 = 0;
+    // A while: a turn goes on by a run, not by one.
     while flat < elements {
         let first = Flat(flat);
         flat += length;
@@ -77,14 +78,14 @@ pub fn claim_runs(
             );
             if claimed.elements < length {
                 let met = Flat(first.0 + claimed.elements);
-                return Verdict::Refused(refuse_clash(numbers, strides, met, row, table));
+                return Err(refuse_clash(numbers, strides, met, row, table));
             }
             occupied += claimed.cells;
         }
     }
-    Verdict::Approved {
+    Ok(Approved {
         elements,
         occupied,
         cells: table.len() as u64,
-    }
+    })
 }

@@ -23,10 +23,8 @@ fn is_free(table: &[u32], from: usize, many: usize) -> bool
     ensures { result ≡ true → (j : ℕ) → j < many → get_or table.now (from + j) 0 ≡ 0 }
 {
     let mut free = true;
-    let mut k: usize = 0;
-    while k < many {
+    for k in 0..many {
         free = free & (table[from + k] == 0);
-        k += 1;
     }
     free
 }
@@ -37,10 +35,8 @@ fn number(table: &mut [u32], from: usize, many: usize, first: u64)
     ensures { Lined (λ j. from + j) (λ j. first + j) many table.old table.new }
 {
     let entry = first as u32 + 1;
-    let mut k: usize = 0;
-    while k < many {
+    for k in 0..many {
         table[from + k] = entry + k as u32;
-        k += 1;
     }
 }
 
@@ -72,8 +68,7 @@ fn claim_cells(
     let m_step = step.m;
     let mut level = start.level;
     let mut m = start.m;
-    let mut done: u64 = 0;
-    while done < many {
+    for done in 0..many {
         let cell = copies_runs::cell_at(by, level, m).0 as usize;
         if table[cell] != 0 {
             return false;
@@ -81,7 +76,6 @@ fn claim_cells(
         table[cell] = (first + done) as u32 + 1;
         level = level + level_step;
         m = m + m_step;
-        done += 1;
     }
     true
 }

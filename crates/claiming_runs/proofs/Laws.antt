@@ -1,15 +1,16 @@
 -- Who claims which cell of a card's table: a row of cells of an element that leads is that of its claims, and a cleared table has those of no element.
+use Rattle.std.specs.Prelude.{Ok}
 use mathlib.Core.Path.{◌≡◌, sym, ap, ◌∙◌}
 use mathlib.Core.List.{List}
 use Prim.Native.Nat.{ℕ, ◌+◌, ◌<◌}
 use native.Mathlib.Omega.{arith}
 use lib.IntN.{ℤ}
 use lib.ListN.{length, replicate, length-replicate}
+use Rattle.answers.specs.Refusals.{no_refusal}
 use Rattle.card.specs.Card.{elements, copies, cells}
 use Rattle.card.specs.Packed.{card_of, Admits, ListOf}
 use Rattle.card.specs.Admission.{admission}
 use Rattle.card.specs.declared.Card.{Card}
-use Rattle.card.specs.declared.Admission.TheVariants.{Admitted}
 use Rattle.card.proofs.Admitted.{checked, sized}
 use Rattle.card.proofs.Listed.{shard_list}
 use Rattle.rules.specs.Rules.{spot}
@@ -44,7 +45,7 @@ pub record RowReady (flat : ℕ) (row table : List ℕ) : Type 0 where
   pub some : 0 < length row
   pub small : flat + 1 < entry_limit
 
-pub row_ready : (card : Card) (flat : ℕ) (table : List ℕ) → admission card ≡ Admitted → Claimable card flat table → {row : List ℕ} → row ≡ copy_cells card flat
+pub row_ready : (card : Card) (flat : ℕ) (table : List ℕ) → admission card ≡ no_refusal → Claimable card flat table → {row : List ℕ} → row ≡ copy_cells card flat
     → RowReady flat row table
 row_ready card flat table admitted claimable {row} e =
     let n = sized card admitted in

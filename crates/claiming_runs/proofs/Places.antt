@@ -1,4 +1,5 @@
 -- The cells of a card's elements by level and m: inside the space each is there, since its cell is the linear form of its sums, neither level nor m is far from zero, and in a run both grow by one step.
+use Rattle.std.specs.Prelude.{Ok}
 use mathlib.Core.Path.{◌≡◌, refl, sym, ap, ap₂, ◌∙◌, subst, fun_ext}
 use mathlib.Core.Bool.{true, and-eq-true_iff, true≢false}
 use mathlib.Core.List.{List, [], ◌∷◌, map}
@@ -11,12 +12,12 @@ use lib.Dec.{leb}
 use lib.IntN.{ℤ, pos, nat_abs, ◌+ℤ◌, ◌*ℤ◌, +ℤ_idr, zero-*ℤ}
 use lib.ListN.{length, get_or, get_or-eq_default}
 use lib.Seq.{slice, get_or-take}
+use Rattle.answers.specs.Refusals.{no_refusal}
 use Rattle.card.specs.Lists.{all, within, product}
 use Rattle.card.specs.Limits.{last_axis, most_length, most_cells}
 use Rattle.card.specs.Card.{listed, elements, copies, cells}
 use Rattle.card.specs.Packed.{iters_of, swizzle_of, card_of, Admits}
 use Rattle.card.specs.Admission.{admission}
-use Rattle.card.specs.declared.Admission.TheVariants.{Admitted}
 use Rattle.card.specs.declared.Card.{Card}
 use Rattle.card.proofs.Admitted.{Checked, checked, numbered, fitting, sized}
 use Rattle.card.proofs.ReadBack.{eight_lengths}
@@ -163,7 +164,7 @@ module _ (numbers : List ℕ) (strides : List ℤ) (a : Admits numbers strides) 
       part_near 1 (omega arith) r {place = record { level = get_or levels r (pos 0); m = get_or ms r (pos 0) }} (record { level_is = adds.levels_at r h; m_is = adds.ms_at r h })
 
 -- runs of one element, and those of the last iter whose extent is not 1
-module _ (card : Card) (admitted : admission card ≡ Admitted) where
+module _ (card : Card) (admitted : admission card ≡ no_refusal) where
   pub runs_by_one : RunsBy card 1
   runs_by_one = record {
     some = omega arith;

@@ -25,9 +25,8 @@ pub fn run_from(numbers: &[u64; 56]) -> usize
     requires { ListOf numbers.now 0 }
     ensures { (strides : List ℤ) → RunFrom (shard_iters numbers.now strides) result }
 {
-    let mut k = numbers[card::COUNTS + card::SHARD] as usize;
-    while 0 < k {
-        k -= 1;
+    let count = numbers[card::COUNTS + card::SHARD] as usize;
+    for k in (0..count).rev() {
         if numbers[k] != 1 {
             return k;
         }
@@ -59,14 +58,12 @@ pub fn put_ways(
     requires { Admits numbers.now strides.now × RunFrom (shard_iters numbers.now strides.now) from × (length levels.old ≡ 8) × (length ms.old ≡ 8) }
     ensures { WaysTo numbers.now strides.now from levels.new ms.new }
 {
-    let mut k: usize = 0;
-    while k < from {
+    for k in 0..from {
         let step = way(numbers, strides, k);
         let level = step.level;
         let m = step.m;
         levels[k] = level;
         ms[k] = m;
-        k += 1;
     }
 }
 
@@ -94,9 +91,7 @@ pub fn turn(
 {
     let mut level = start.level;
     let mut m = start.m;
-    let mut k = from;
-    while 0 < k {
-        k -= 1;
+    for k in (0..from).rev() {
         let digit = digits[k];
         if digit + 1 < numbers[k] {
             digits[k] = digit + 1;

@@ -9,7 +9,7 @@ use native.Mathlib.Decide.{ℕ_discrete}
 use native.Mathlib.Omega.{arith}
 use lib.Dec.{eqb, ltb, eqb-suc-zero}
 use native.Mathlib.Numerals.{add-one}
-use lib.ListN.{length, get_or, set, drop, replicate, length-set, drop_of_length-le}
+use lib.ListN.{length, get_or, set, drop, replicate, length-set}
 use lib.Seq.{drop-cons, get_or-set_same, get_or-set_other, lt-length-set}
 use borrow.Author.Tests.{eq-eqb, eqb-true, ltb-true, ltb-false}
 use Rattle.laws.proofs.Order.{le_or_lt}
@@ -112,13 +112,6 @@ module _ (value : ℕ → ℕ) where
       (λ (f : (c : ℕ) × Among row c × (value c ≡ least value row (min_some best (value d)))). inr (f.0, later d f.1, f.2))
       (least_found row (min_some best (value d)))
 
-  -- and over a row whose cells up to i have been looked at
-  pub least_step : (row : List ℕ) (i best : ℕ) → i < length row → least value (drop (i + 1) row) (min_some best (value (get_or row i 0))) ≡ least value (drop i row) best
-  least_step row i best h = rw (add-one i, drop-cons row i 0 h)
-
-  pub least_done : (row : List ℕ) (i best : ℕ) → length row ≤ i → least value (drop i row) best ≡ best
-  least_done row i best h = rw (drop_of_length-le row h)
-
 module _ (table row : List ℕ) where
   -- where a row meets nobody, each of its cells is nobody's
   pub met_nobody : entry_met table row ≡ 0 → (c : ℕ) → Among row c → get_or table c 0 ≡ 0
@@ -187,9 +180,6 @@ cell_found table row h =
 module _ (entry : ℕ) where
   pub written_step : (row table : List ℕ) (i : ℕ) → i < length row → row_written entry (drop (i + 1) row) (set table (get_or row i 0) entry) ≡ row_written entry (drop i row) table
   written_step row table i h = rw (add-one i, drop-cons row i 0 h)
-
-  pub written_done : (row table : List ℕ) (i : ℕ) → length row ≤ i → row_written entry (drop i row) table ≡ table
-  written_done row table i h = rw (drop_of_length-le row h)
 
   pub written_length : (row table : List ℕ) → length (row_written entry row table) ≡ length table
   written_length [] table = refl

@@ -29,15 +29,13 @@ fn number_among(sizes: &[u64], from: usize, coordinates: &[u64; 8], count: usize
     ensures { result ≡ number_of (position (slice from (from + count) sizes.now) (take count coordinates.now)) }
 {
     let mut number: u64 = 0;
-    let mut k: usize = 0;
-    while k < count {
+    for k in 0..count {
         let size = sizes[from + k];
         let coordinate = coordinates[k];
         if size <= coordinate {
             return card::BEYOND + k as u64;
         }
         number = number * size + coordinate;
-        k += 1;
     }
     number
 }
@@ -103,10 +101,8 @@ fn finish(sums: &[i64; 8], coordinates: &mut [u64; 8])
     requires { (length sums.now ≡ 8) × (length coordinates.old ≡ 8) }
     ensures { coordinates.new ≡ map on_axis sums.now }
 {
-    let mut axis: usize = 0;
-    while axis < 8 {
+    for axis in 0..8 {
         coordinates[axis] = on_axis(sums[axis]);
-        axis += 1;
     }
 }
 
@@ -146,13 +142,6 @@ fn axis_from(number: u64) -> u64
     }
 }
 
-// The smaller of two numbers.
-fn smaller(a: u64, b: u64) -> u64
-    ensures { result ≡ min a b }
-{
-    if a < b { a } else { b }
-}
-
 // Writes the cells of all copies of an element whose base is known, and gives the smallest axis on
 // which one lies outside, or AXES.
 fn place_copies(base: &[i64; 8], numbers: &[u64; 56], strides: &[i64; 24], row: &mut [u32]) -> u64
@@ -160,12 +149,10 @@ fn place_copies(base: &[i64; 8], numbers: &[u64; 56], strides: &[i64; 24], row: 
     ensures { PlacedRow (spot_from (slice 32 40 numbers.now) (swizzle_of numbers.now) (iters_of numbers.now strides.now 1) base.now) row.old row.new result }
 {
     let mut outside = AXES;
-    let mut combination: usize = 0;
-    while combination < row.len() {
+    for (combination, cell) in row.iter_mut().enumerate() {
         let number = copy_number(base, numbers, strides, combination as u64);
-        row[combination] = cell_from(number);
-        outside = smaller(outside, axis_from(number));
-        combination += 1;
+        *cell = cell_from(number);
+        outside = outside.min(axis_from(number));
     }
     outside
 }

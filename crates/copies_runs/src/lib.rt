@@ -32,9 +32,8 @@ pub fn run_length(numbers: &[u64; 56]) -> u64
     requires { ListOf numbers.now 0 }
     ensures { (strides : List ℤ) → result ≡ run_length (listed (iters_of numbers.now strides 0)) }
 {
-    let mut k = numbers[card::COUNTS + card::SHARD] as usize;
-    while 0 < k {
-        k -= 1;
+    let count = numbers[card::COUNTS + card::SHARD] as usize;
+    for k in (0..count).rev() {
         let extent = numbers[k];
         if extent != 1 {
             return extent;
@@ -50,9 +49,7 @@ pub fn weigh(numbers: &[u64; 56], sums: &[i64; 8]) -> i64
 {
     let mut weight = numbers[card::LENGTHS + M];
     let mut sum: i64 = 0;
-    let mut axis: usize = M;
-    while 0 < axis {
-        axis -= 1;
+    for axis in (0..M).rev() {
         sum = copies_sums::step(sum, weight, sums[axis]);
         weight = weight * numbers[card::LENGTHS + axis];
     }
@@ -108,14 +105,12 @@ pub fn put_copies(numbers: &[u64; 56], strides: &[i64; 24], levels: &mut [i64], 
     requires { Admits numbers.now strides.now × (length ms.old ≡ length levels.old) }
     ensures { CopiesTo (card_of numbers.now strides.now) (length levels.old) (length levels.old) levels.new ms.new }
 {
-    let mut combination: usize = 0;
-    while combination < levels.len() {
+    for combination in 0..levels.len() {
         let copy = added(numbers, strides, card::REPLICA, combination as u64);
         let level = copy.level;
         let m = copy.m;
         levels[combination] = level;
         ms[combination] = m;
-        combination += 1;
     }
 }
 
@@ -126,10 +121,8 @@ pub fn fill(numbers: &[u64; 56], level: i64, m: i64, levels: &[i64], ms: &[i64],
     ensures { FilledTo numbers.now level m levels.now ms.now row.old row.new (length row.old) }
 {
     let by = swizzle_of(numbers);
-    let mut combination: usize = 0;
-    while combination < row.len() {
+    for (combination, entry) in row.iter_mut().enumerate() {
         let cell = cell_at(by, level + levels[combination], m + ms[combination]);
-        row[combination] = cell.0 as u32;
-        combination += 1;
+        *entry = cell.0 as u32;
     }
 }

@@ -22,9 +22,8 @@ pub fn walk(numbers: &[u64; 56], strides: &[i64; 24], list: usize, index: u64, s
     ensures { sums.new ≡ walked (iters_of numbers.now strides.now list) index sums.old }
 {
     let mut rest = index;
-    let mut k = numbers[card::COUNTS + list] as usize;
-    while 0 < k {
-        k -= 1;
+    let count = numbers[card::COUNTS + list] as usize;
+    for k in (0..count).rev() {
         let extent = numbers[16 * list + k];
         let axis = numbers[16 * list + 8 + k] as usize;
         let sum = step(sums[axis], rest % extent, strides[8 * list + k]);

@@ -1,13 +1,12 @@
 // Dealing a tile's values to the lanes of a warp and collecting them: which are of the wrong sort, the answer, and what is filled.
 #![tactic(auto)]
 
-ghost use Rattle.std.specs.Prelude.{◌≡◌, not, ◌&&◌, ◌/◌, ◌%◌, ◌<◌};
-ghost use Rattle.values.specs.Rows.{entry};
-ghost use Rattle.values.specs.Values.{is_own};
-ghost use Rattle.values.specs.Registers.{is_matrix, is_of_sort, judged, deal_answer, collect_answer, dealt_lanes, collected_tile, moved_numbers};
+ghost use Rattle.std.specs.Prelude.{◌≡◌, ℕ, Bool, ◌/◌, ◌%◌, ◌<◌};
+ghost use Rattle.values.specs.Registers.{is_matrix, is_of_sort, judged, deal_answer, collect_answer, dealt_lanes, collected_tile};
+ghost use Rattle.dealing_moves.specs.Moves.{source_of};
 
-use answers::{Numbers, Refusal};
-use values::{Moved, Register};
+use answers::Refusal;
+use values::Register;
 
 // The registers of all lanes, eight a lane.
 const REGISTERS: usize = 256;
@@ -30,47 +29,41 @@ fn is_of_sort(kind: u64, register: Register) -> bool
     }
 }
 
-// Whether a register, counted through the lanes, is the computation's and of the wrong sort.
-fn is_wrong(kind: u64, computation: u64, register: Register, n: usize) -> bool
-    requires { n < 256 }
-    ensures { result ≡ (is_own kind computation (n / 8) (n % 8) && not (is_of_sort kind register)) }
+// Whether all of the computation's registers are of the kind's sort, as a test says of a register, counted through the lanes, and of the place that
+// is dealt to it; if not, the first that is not. Public, with a requires, for the crate above, which tests the numbers of a caller's arrays.
+pub fn judge_by<F: Fn(usize, usize) -> bool>(
+    kind: u64,
+    computation: u64,
+    is_right: F,
+) -> Result<(), Refusal>
+    requires lt_kind { 4 < kind }
+    requires pre { (n p : ℕ) → n < 256 → p < 64 → F.pre is_right n p }
+    ensures { (value : ℕ → ℕ → Register) → ((n p : ℕ) (r : Bool) → p ≡ source_of kind computation (n / 8) (n % 8) → n < 256 → p < 64 → F.post is_right n p r → r ≡ is_of_sort kind (value (n / 8) (n % 8))) → result ≡ judged kind computation value }
 {
-    let p = dealing_moves::source(kind, computation, n as u64 / 8, n as u64 % 8);
-    (p < 64) & !is_of_sort(kind, register)
-}
-
-// Whether all of the computation's registers are of the kind's sort; if not, the first that is not.
-fn judge(kind: u64, computation: u64, lanes: [[Register; 8]; 32]) -> Moved
-    ensures { result ≡ judged kind computation (entry Register.Empty lanes) }
-{
-    let mut n: usize = 0;
-    while n < REGISTERS {
-        let register = lanes[n / 8][n % 8];
-        if is_wrong(kind, computation, register, n) {
-            return Moved::Refused(Refusal::Fragment {
+    for n in 0..REGISTERS {
+        let p = dealing_moves::matrix_source(
+            kind,
+            computation,
+            n as u64 / 8,
+            n as u64 % 8,
+        ) as usize;
+        if p < 64 && !is_right(n, p) {
+            return Err(Refusal::Fragment {
                 lane: n as u64 / 8,
                 register: n as u64 % 8,
             });
         }
-        n += 1;
     }
-    Moved::Done
+    Ok(())
 }
 
 // Whether a tile can be dealt: its places are judged in the registers that they would go to.
-pub fn judge_dealing(kind: u64, computation: u64, tile: [[Register; 8]; 8]) -> Moved
+pub fn judge_dealing(kind: u64, computation: u64, tile: [[Register; 8]; 8]) -> Result<(), Refusal>
     ensures { result ≡ deal_answer kind computation tile }
 {
-    if is_matrix(kind, computation) {
-        let none = [[Register::Empty; 8]; 32];
-        judge(
-            kind,
-            computation,
-            dealing_moves::dealt_lanes(kind, computation, tile, none),
-        )
-    } else {
-        Moved::Refused(fragment::outside())
-    }
+    let none = [[Register::Empty; 8]; 32];
+    let lanes = dealing_moves::dealt_lanes(kind, computation, tile, none);
+    judge_collecting(kind, computation, lanes)
 }
 
 // The lanes with the tile dealt to them, or as given where refused.
@@ -83,19 +76,24 @@ pub fn deal(
     ensures { result ≡ dealt_lanes kind computation tile lanes }
 {
     match judge_dealing(kind, computation, tile) {
-        Moved::Done => dealing_moves::dealt_lanes(kind, computation, tile, lanes),
-        Moved::Refused(_) => lanes,
+        Ok(()) => dealing_moves::dealt_lanes(kind, computation, tile, lanes),
+        Err(_) => lanes,
     }
 }
 
 // Whether a tile can be collected from the lanes.
-pub fn judge_collecting(kind: u64, computation: u64, lanes: [[Register; 8]; 32]) -> Moved
+pub fn judge_collecting(
+    kind: u64,
+    computation: u64,
+    lanes: [[Register; 8]; 32],
+) -> Result<(), Refusal>
     ensures { result ≡ collect_answer kind computation lanes }
 {
     if is_matrix(kind, computation) {
-        judge(kind, computation, lanes)
+        let is_right = |n: usize, _: usize| is_of_sort(kind, lanes[n / 8][n % 8]);
+        judge_by(kind, computation, is_right)
     } else {
-        Moved::Refused(fragment::outside())
+        Err(fragment::outside())
     }
 }
 
@@ -109,17 +107,7 @@ pub fn collect(
     ensures { result ≡ collected_tile kind computation lanes tile }
 {
     match judge_collecting(kind, computation, lanes) {
-        Moved::Done => dealing_moves::collected_tile(kind, computation, lanes, tile),
-        Moved::Refused(_) => tile,
-    }
-}
-
-// The plain numbers of an answer.
-pub fn moved_numbers(moved: Moved) -> Numbers
-    ensures { result ≡ moved_numbers moved }
-{
-    match moved {
-        Moved::Done => answers::answer(0, 0, 0, 0),
-        Moved::Refused(refusal) => answers::refusal_numbers(refusal),
+        Ok(()) => dealing_moves::collected_tile(kind, computation, lanes, tile),
+        Err(_) => tile,
     }
 }

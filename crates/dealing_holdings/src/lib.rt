@@ -5,7 +5,8 @@ ghost use Rattle.std.specs.Prelude.{◌≡◌, [], map, get_or};
 ghost use Rattle.values.specs.Rows.{each};
 ghost use Rattle.values.specs.Holdings.{registers_of, double_of, with_registers, deal_holdings_answer, collect_holdings_answer, dealt_holdings, collected_from_holdings};
 
-use values::{Holding, Moved, Register};
+use answers::Refusal;
+use values::{Holding, Register};
 
 // The registers of a lane for a kind.
 fn registers_of(kind: u64, holding: Holding) -> [Register; 8]
@@ -30,11 +31,9 @@ fn lanes_of(kind: u64, holdings: [Holding; 32]) -> [[Register; 8]; 32]
     ensures { result ≡ map (registers_of kind) holdings }
 {
     let mut lanes = [[Register::Empty; 8]; 32];
-    let mut lane: usize = 0;
-    while lane < 32 {
+    for lane in 0..32 {
         let holding = holdings[lane];
         lanes[lane] = registers_of(kind, holding);
-        lane += 1;
     }
     lanes
 }
@@ -85,24 +84,22 @@ fn with_lanes(kind: u64, given: [Holding; 32], lanes: [[Register; 8]; 32]) -> [H
     ensures { result ≡ each (λ lane h. with_registers kind h (get_or lanes lane [])) given }
 {
     let mut holdings = given;
-    let mut lane: usize = 0;
-    while lane < 32 {
+    for lane in 0..32 {
         let before = given[lane];
         let registers = lanes[lane];
         holdings[lane] = with_registers(kind, before, registers);
-        lane += 1;
     }
     holdings
 }
 
 // Whether a tile can be dealt to holdings: kind 5 has none.
-pub fn judge_dealing(kind: u64, computation: u64, tile: [[Register; 8]; 8]) -> Moved
+pub fn judge_dealing(kind: u64, computation: u64, tile: [[Register; 8]; 8]) -> Result<(), Refusal>
     ensures { result ≡ deal_holdings_answer kind computation tile }
 {
     if 5 < kind {
         dealing::judge_dealing(kind, computation, tile)
     } else {
-        Moved::Refused(fragment::outside())
+        Err(fragment::outside())
     }
 }
 
@@ -116,23 +113,23 @@ pub fn deal(
     ensures { result ≡ dealt_holdings kind computation tile holdings }
 {
     match judge_dealing(kind, computation, tile) {
-        Moved::Done => {
+        Ok(()) => {
             let given = lanes_of(kind, holdings);
             let lanes = dealing_moves::dealt_lanes(kind, computation, tile, given);
             with_lanes(kind, holdings, lanes)
         }
-        Moved::Refused(_) => holdings,
+        Err(_) => holdings,
     }
 }
 
 // Whether a tile can be collected from holdings.
-pub fn judge_collecting(kind: u64, computation: u64) -> Moved
+pub fn judge_collecting(kind: u64, computation: u64) -> Result<(), Refusal>
     ensures { result ≡ collect_holdings_answer kind computation }
 {
     if (5 < kind) & dealing::is_matrix(kind, computation) {
-        Moved::Done
+        Ok(())
     } else {
-        Moved::Refused(fragment::outside())
+        Err(fragment::outside())
     }
 }
 
@@ -146,9 +143,9 @@ pub fn collect(
     ensures { result ≡ collected_from_holdings kind computation holdings tile }
 {
     match judge_collecting(kind, computation) {
-        Moved::Done => {
+        Ok(()) => {
             dealing_moves::collected_tile(kind, computation, lanes_of(kind, holdings), tile)
         }
-        Moved::Refused(_) => tile,
+        Err(_) => tile,
     }
 }

@@ -2,12 +2,11 @@
 // Where a value comes from is one number, so that no array goes with it; a lane or a row is made whole and put once.
 #![tactic(auto)]
 
-ghost use Rattle.std.specs.Prelude.{◌≡◌, cond, ◌&&◌, ◌<◌, eqb, ltb};
-ghost use Rattle.values.specs.Rows.{each};
-ghost use Rattle.values.specs.Values.{dealt_entry, dealt, collected_entry, collected};
-ghost use Rattle.dealing_moves.specs.Moves.{source_of, holder_of};
+ghost use Rattle.std.specs.Prelude.{◌≡◌, ℕ, cond, ◌&&◌, ◌<◌, eqb, ltb};
+ghost use Rattle.values.specs.Rows.{each, each_entry};
+ghost use Rattle.values.specs.Values.{dealt, collected};
+ghost use Rattle.dealing_moves.specs.Moves.{source_of, holder_of, from_rows};
 
-use fragment::{Held, Holder};
 use values::Register;
 
 // The source by what the register is answered to hold, for any kind.
@@ -15,14 +14,14 @@ fn source_held(kind: u64, computation: u64, lane: u64, i: u64) -> u64
     ensures { result ≡ source_of kind computation lane i }
 {
     match fragment::held_by(kind, lane, i) {
-        Held::Place(place) => {
+        Ok(place) => {
             if place.computation == computation {
                 8 * place.row + place.column
             } else {
                 64
             }
         }
-        Held::Refused(_) => 64,
+        Err(_) => 64,
     }
 }
 
@@ -92,39 +91,53 @@ pub fn holder(kind: u64, computation: u64, row: u64, column: u64) -> u64
     ensures { result ≡ holder_of kind computation row column }
 {
     match fragment::holder_of(kind, computation, row, column) {
-        Holder::Slot(slot) => 8 * slot.lane + slot.register,
-        Holder::Refused(_) => 256,
+        Ok(slot) => 8 * slot.lane + slot.register,
+        Err(_) => 256,
     }
 }
 
-// What was moved, or what was given where nothing was.
-fn chosen(is_moved: bool, moved: Register, given: Register) -> Register
-    ensures { result ≡ cond is_moved moved given }
-{
-    if is_moved { moved } else { given }
-}
-
-// A lane after dealing.
-fn dealt_lane(
-    kind: u64,
-    computation: u64,
-    tile: [[Register; 8]; 8],
-    lane: u64,
+// A row after each entry got what stands where a source says; past the end of the rows it says to keep what is given.
+fn moved_row<const N: usize, F: Fn(u64) -> u64>(
+    rows: [[Register; 8]; N],
     given: [Register; 8],
+    source: F,
 ) -> [Register; 8]
-    requires { lane < 32 }
-    ensures { result ≡ each (dealt_entry Register.Empty kind computation tile lane) given }
+    requires { (k : ℕ) → k < 8 → F.pre source k }
+    ensures { (rule : ℕ → Register → Register) → ((k s : ℕ) (x : Register) → k < 8 → F.post source k s → rule k x ≡ from_rows Register.Empty N rows.entry x s) → result ≡ each rule given }
 {
-    let mut registers = given;
-    let mut i: usize = 0;
-    while i < 8 {
-        let p = source(kind, computation, lane, i as u64) as usize;
-        let moved = tile[p / 8 % 8][p % 8];
-        let before = given[i];
-        registers[i] = chosen(p < 64, moved, before);
-        i += 1;
+    let mut row = given;
+    for k in 0..8 {
+        let s = source(k as u64) as usize;
+        row[k] = if s / 8 < N {
+            rows[s / 8][s % 8]
+        } else {
+            given[k]
+        };
     }
-    registers
+    row
+}
+
+// All rows after it.
+fn moved<const N: usize, const M: usize, F: Fn(u64, u64) -> u64>(
+    rows: [[Register; 8]; N],
+    given: [[Register; 8]; M],
+    source: F,
+) -> [[Register; 8]; M]
+    requires { (row k : ℕ) → row < M → k < 8 → F.pre source row k }
+    ensures { (rule : ℕ → ℕ → Register → Register) → ((row k s : ℕ) (x : Register) → row < M → k < 8 → F.post source row k s → rule row k x ≡ from_rows Register.Empty N rows.entry x s) → result ≡ each_entry rule given.entry }
+{
+    let mut moved = given;
+    for row in 0..M {
+        let before = given[row];
+        moved[row] = moved_row(
+            rows,
+            before,
+            |k: u64| -> u64
+                requires { F.pre source row k }
+            { source(row as u64, k) },
+        );
+    }
+    moved
 }
 
 // All lanes after dealing.
@@ -136,36 +149,7 @@ pub fn dealt_lanes(
 ) -> [[Register; 8]; 32]
     ensures { result ≡ dealt Register.Empty kind computation tile given }
 {
-    let mut lanes = given;
-    let mut lane: usize = 0;
-    while lane < 32 {
-        let before = given[lane];
-        lanes[lane] = dealt_lane(kind, computation, tile, lane as u64, before);
-        lane += 1;
-    }
-    lanes
-}
-
-// A row of the tile after collecting.
-fn collected_row(
-    kind: u64,
-    computation: u64,
-    lanes: [[Register; 8]; 32],
-    row: u64,
-    given: [Register; 8],
-) -> [Register; 8]
-    ensures { result ≡ each (collected_entry Register.Empty kind computation lanes row) given }
-{
-    let mut places = given;
-    let mut column: usize = 0;
-    while column < 8 {
-        let s = holder(kind, computation, row, column as u64) as usize;
-        let moved = lanes[s / 8 % 32][s % 8];
-        let before = given[column];
-        places[column] = chosen(s < 256, moved, before);
-        column += 1;
-    }
-    places
+    moved(tile, given, |lane, i| source(kind, computation, lane, i))
 }
 
 // The tile after collecting.
@@ -177,12 +161,7 @@ pub fn collected_tile(
 ) -> [[Register; 8]; 8]
     ensures { result ≡ collected Register.Empty kind computation lanes given }
 {
-    let mut tile = given;
-    let mut row: usize = 0;
-    while row < 8 {
-        let before = given[row];
-        tile[row] = collected_row(kind, computation, lanes, row as u64, before);
-        row += 1;
-    }
-    tile
+    moved(lanes, given, |row, column| {
+        holder(kind, computation, row, column)
+    })
 }

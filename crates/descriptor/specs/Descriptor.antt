@@ -1,14 +1,11 @@
 -- Descriptors of zero-column masks: document 01's fields, read from the 64 bits and written into them.
-use Rattle.std.specs.Prelude.{Bool, false, cond, not, ◌||◌, List, [], ◌∷◌, ℕ, ◌+◌, ◌*◌, ◌/◌, ◌%◌, ◌^◌, eqb, ltb, get_or}
-use Rattle.answers.specs.Refusals.{answer, refusal_numbers}
+use Rattle.std.specs.Prelude.{Bool, false, cond, not, ◌||◌, List, [], ◌∷◌, ℕ, ◌+◌, ◌*◌, ◌/◌, ◌%◌, ◌^◌, eqb, ltb, get_or, Err, Ok, Result, ⊤}
+use Rattle.answers.specs.declared.Refusal.{Refusal}
+use Rattle.answers.specs.Refusals.{answer, refusal_numbers, numbers_of, just_zero, one_detail, no_refusal}
 use Rattle.answers.specs.declared.Numbers.{Numbers}
 use Rattle.answers.specs.declared.Refusal.TheVariants.{MaskSize, Reserved, Shift}
 use Rattle.descriptor.specs.declared.Fields.{Fields}
-use Rattle.descriptor.specs.declared.DescriptorRead.{DescriptorRead}
-use Rattle.descriptor.specs.declared.DescriptorRead.TheVariants.{Done, Refused}
 use Rattle.descriptor.specs.declared.DescriptorReading.{DescriptorReading}
-use Rattle.descriptor.specs.declared.DescriptorWritten.{DescriptorWritten}
-use Rattle.descriptor.specs.declared.DescriptorWritten.TheVariants.{Descriptor, Refused as NotWritten}
 
 -- so many bits of a descriptor, from this one on
 abbrev pub bits : ℕ → ℕ → ℕ → ℕ
@@ -41,7 +38,7 @@ reserved d = not (eqb (bits 3 36 d) 0) || not (eqb (bits 2 62 d) 0)
 -- reading refuses 15 only, whatever the shift; at 0 the fields stand beside the answer, refused a record of zeros
 abbrev pub fields_answer : ℕ → DescriptorReading
 fields_answer d =
-    cond (reserved d) (record { answer = Refused Reserved; fields = no_fields }) (record { answer = Done; fields = fields_of d })
+    cond (reserved d) (record { answer = Err Reserved; fields = no_fields }) (record { answer = no_refusal; fields = fields_of d })
 
 -- a yes as the bit 1, a no as 0
 abbrev pub bit : Bool → ℕ
@@ -74,16 +71,14 @@ abbrev pub shift_limit : ℕ → ℕ
 shift_limit M = cond (eqb M 32) 16 32
 
 -- writing for M refuses a wrong M, 13, and then a shift above the limit, 16
-abbrev pub descriptor_answer : ℕ → ℕ → Fields → DescriptorWritten
+abbrev pub descriptor_answer : ℕ → ℕ → Fields → Result ℕ Refusal
 descriptor_answer limit M f =
-    cond (not (mask_m M)) (NotWritten MaskSize) (cond (ltb limit f.shift) (NotWritten (Shift limit)) (Descriptor (descriptor_of f)))
+    cond (not (mask_m M)) (Err MaskSize) (cond (ltb limit f.shift) (Err (Shift limit)) (Ok (descriptor_of f)))
 
 -- at number 0 the details of a reading are zero: its fields stand beside it
-abbrev pub fields_numbers : DescriptorRead → Numbers
-fields_numbers Done = answer 0 0 0 0
-fields_numbers (Refused refusal) = refusal_numbers refusal
+abbrev pub fields_numbers : Result ⊤ Refusal → Numbers
+fields_numbers = numbers_of just_zero
 
 -- at number 0 writing gives the descriptor
-abbrev pub descriptor_numbers : DescriptorWritten → Numbers
-descriptor_numbers (Descriptor d) = answer 0 d 0 0
-descriptor_numbers (NotWritten refusal) = refusal_numbers refusal
+abbrev pub descriptor_numbers : Result ℕ Refusal → Numbers
+descriptor_numbers = numbers_of one_detail

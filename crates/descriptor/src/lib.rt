@@ -8,29 +8,16 @@ use answers::Refusal;
 pub struct Fields {
     pub start_counts: [u8; 4],
     pub first_spans: [bool; 4],
+    // a bit of its own: the other fields stand whether it is set or not
     pub non_zero: bool,
     pub skip_span: u8,
     pub use_span: u8,
     pub shift: u64,
 }
 
-// The answer to the reading of a descriptor.
-#[derive(Clone, Copy)]
-pub enum DescriptorRead {
-    Done,
-    Refused(Refusal),
-}
-
 // What reading a descriptor gives: the answer, and the fields beside it.
 #[derive(Clone, Copy)]
 pub struct DescriptorReading {
-    pub answer: DescriptorRead,
+    pub answer: Result<(), Refusal>,
     pub fields: Fields,
-}
-
-// The answer to the writing of a descriptor.
-#[derive(Clone, Copy)]
-pub enum DescriptorWritten {
-    Descriptor(u64),
-    Refused(Refusal),
 }

@@ -1,11 +1,11 @@
 // Descriptors of zero-column masks read and written, each field at its bits.
 #![tactic(auto)]
 
-ghost use Rattle.std.specs.Prelude.{◌≡◌, ◌+◌, ◌^◌, ◌<◌, ◌≤◌};
-ghost use Rattle.descriptor.specs.Descriptor.{fields_of, no_fields, reserved, fields_answer, bit, count_bits, span_bits, descriptor_of, shift_limit, descriptor_answer, fields_numbers, descriptor_numbers};
+ghost use Rattle.std.specs.Prelude.{◌≡◌, ◌+◌, ◌^◌, ◌<◌};
+ghost use Rattle.descriptor.specs.Descriptor.{fields_of, no_fields, reserved, fields_answer, count_bits, span_bits, descriptor_of, shift_limit, descriptor_answer};
 
-use answers::{Numbers, Refusal};
-use descriptor::{DescriptorRead, DescriptorReading, DescriptorWritten, Fields};
+use answers::Refusal;
+use descriptor::{DescriptorReading, Fields};
 
 // Whether a reserved bit, 36-38 or 62-63, is set. Public for the crates above.
 pub fn has_reserved(descriptor: u64) -> bool
@@ -61,23 +61,16 @@ pub fn read_descriptor(descriptor: u64) -> DescriptorReading
     if has_reserved(descriptor) {
         let fields = no_fields();
         DescriptorReading {
-            answer: DescriptorRead::Refused(Refusal::Reserved),
+            answer: Err(Refusal::Reserved),
             fields,
         }
     } else {
         let fields = fields_of(descriptor);
         DescriptorReading {
-            answer: DescriptorRead::Done,
+            answer: Ok(()),
             fields,
         }
     }
-}
-
-// A yes as the bit 1, a no as 0.
-fn bit(yes: bool) -> u64
-    ensures { (result ≡ bit yes) × (result ≤ 1) }
-{
-    if yes { 1 } else { 0 }
 }
 
 // The start counts at their bits.
@@ -94,7 +87,10 @@ fn count_bits(counts: [u8; 4]) -> u64
 fn span_bits(spans: [bool; 4]) -> u64
     ensures { (result ≡ span_bits spans) × (result < 2 ^ 36) }
 {
-    (bit(spans[0]) << 32) + (bit(spans[1]) << 33) + (bit(spans[2]) << 34) + (bit(spans[3]) << 35)
+    (u64::from(spans[0]) << 32)
+        + (u64::from(spans[1]) << 33)
+        + (u64::from(spans[2]) << 34)
+        + (u64::from(spans[3]) << 35)
 }
 
 // The descriptor of fields whose shift is allowed.
@@ -106,42 +102,22 @@ fn descriptor_of(fields: Fields) -> u64
     let spans = fields.first_spans;
     count_bits(counts)
         + span_bits(spans)
-        + (bit(fields.non_zero) << 39)
+        + (u64::from(fields.non_zero) << 39)
         + ((fields.skip_span as u64) << 40)
         + ((fields.use_span as u64) << 48)
         + (fields.shift << 56)
 }
 
 // The descriptor of any fields, for any M.
-pub fn write_descriptor(m: u64, fields: Fields) -> DescriptorWritten
+pub fn write_descriptor(m: u64, fields: Fields) -> Result<u64, Refusal>
     ensures { result ≡ descriptor_answer (shift_limit m) m fields }
 {
     if !descriptor_limits::is_mask_m(m) {
-        return DescriptorWritten::Refused(Refusal::MaskSize);
+        return Err(Refusal::MaskSize);
     }
     let limit = descriptor_limits::shift_limit(m);
     if limit < fields.shift {
-        return DescriptorWritten::Refused(Refusal::Shift { limit });
+        return Err(Refusal::Shift { limit });
     }
-    DescriptorWritten::Descriptor(descriptor_of(fields))
-}
-
-// The plain numbers of a reading's answer.
-pub fn read_numbers(read: DescriptorRead) -> Numbers
-    ensures { result ≡ fields_numbers read }
-{
-    match read {
-        DescriptorRead::Done => answers::answer(0, 0, 0, 0),
-        DescriptorRead::Refused(refusal) => answers::refusal_numbers(refusal),
-    }
-}
-
-// The plain numbers of a writing's answer.
-pub fn write_numbers(written: DescriptorWritten) -> Numbers
-    ensures { result ≡ descriptor_numbers written }
-{
-    match written {
-        DescriptorWritten::Descriptor(descriptor) => answers::answer(0, descriptor, 0, 0),
-        DescriptorWritten::Refused(refusal) => answers::refusal_numbers(refusal),
-    }
+    Ok(descriptor_of(fields))
 }

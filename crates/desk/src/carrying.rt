@@ -15,7 +15,7 @@ fn ask_carry(numbers: &Kept, plan: &[u64], first: &mut [u32], second: &mut [u32]
     let one = cards::first(numbers);
     let two = cards::second(numbers);
     let checked = planning::check_plan(one, two, plan, first, second);
-    reply::digests(plans_numbers::checked_numbers(checked), first, second)
+    reply::digests(answers::in_numbers(checked), first, second)
 }
 
 // carry CARD, CARD, count, so many plan numbers, length, length
@@ -52,12 +52,7 @@ fn ask_plan(numbers: &Kept, plan: &mut [u64], first: &mut [u32], second: &mut [u
     let one = cards::first(numbers);
     let two = cards::second(numbers);
     let written = planning::write_plan(one, two, plan, first, second);
-    reply::planned(
-        plans_numbers::planning_numbers(written),
-        plan,
-        first,
-        second,
-    )
+    reply::planned(answers::in_numbers(written), plan, first, second)
 }
 
 // plan CARD, CARD, plan length, length, length

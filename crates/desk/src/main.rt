@@ -28,6 +28,7 @@ fn ask(
     second: &mut [u32],
     plan: &mut [u64],
 ) -> LineReply {
+    // A match, and no table of functions: each question is lent something else.
     match word {
         Word::Swizzle => swizzles::swizzle(numbers),
         Word::Mode => swizzles::mode(numbers),
@@ -49,27 +50,35 @@ fn ask(
         Word::Mma => fragments::mma(numbers),
         Word::MmaHolder => fragments::mma_holder(numbers),
         Word::MmaLayout => notations::mma_layout(numbers),
-        Word::Unknown => reply::unknown(),
     }
 }
 
-// Answers a line of so many bytes.
+// Answers a line.
 fn answer(
-    line: &[u8; 4096],
-    held: usize,
+    line: &[u8],
     numbers: &mut Kept,
     lent: &mut [u32],
     second: &mut [u32],
     plan: &mut [u64],
 ) -> LineReply {
-    if words::is_read(line, held) {
-        return notations::read(line, held);
+    if let Some(text) = words::text_to_read(line) {
+        return notations::read(text);
     }
-    if words::is_page(line, held) {
-        return books::page(line, held);
+    if let Some(digits) = words::page_to_read(line) {
+        return books::page(digits);
     }
-    let word = words::question(line, held, numbers);
-    ask(word, numbers, lent, second, plan)
+    match words::question(line, numbers) {
+        Some(word) => ask(word, numbers, lent, second, plan),
+        None => reply::unknown(),
+    }
+}
+
+// The bytes of a line, unless it is longer than its buffer.
+fn held(line: &[u8; 4096], length: usize) -> Option<&[u8]> {
+    if line.len() < length {
+        return None;
+    }
+    Some(&line[..length])
 }
 
 // Writes out what is finished where the next step in the input is a read, which may wait.
@@ -100,7 +109,10 @@ fn answer_whole<W: Write>(
     ensures { OnErr result (out.new ≡ out.old) }
 {
     if input.whole & (0 < input.held) {
-        let reply = answer(line, input.held, numbers, lent, second, plan);
+        let reply = match held(line, input.held) {
+            Some(whole) => answer(whole, numbers, lent, second, plan),
+            None => reply::unknown(),
+        };
         return print::put(to, out, at, reply);
     }
     Ok(at)

@@ -12,7 +12,7 @@ use desk_lines_reply::reply::LineReply;
 fn ask_verdict(numbers: &Kept, lent: &mut [u32]) -> LineReply {
     fill(lent, TABLE);
     let verdict = verdict::judge(cards::first(numbers), lent);
-    reply::digest(judgement_numbers::verdict_numbers(verdict), lent)
+    reply::digest(answers::in_numbers(verdict), lent)
 }
 
 // verdict CARD length
@@ -29,7 +29,7 @@ pub fn verdict(numbers: &Kept, lent: &mut [u32]) -> LineReply {
 fn ask_owner(numbers: &Kept, lent: &mut [u32]) -> LineReply {
     fill(lent, TABLE);
     let owner = verdict::owner_of(cards::first(numbers), eight(numbers, places::CELL), lent);
-    reply::digest(judgement_numbers::owner_numbers(owner), lent)
+    reply::digest(answers::in_numbers(owner), lent)
 }
 
 // owner CARD eight coordinates, length
@@ -49,7 +49,7 @@ fn show_stretch(numbers: &Kept, lent: &[u32]) -> LineReply {
     let coordinates = eight(numbers, places::STRETCH_COORDINATES);
     let located = stretch::locate_stretch(lent, lengths, axis, coordinates);
     let part = stretch::stretch(lent, lengths, axis, coordinates);
-    reply::digest(stretch::stretch_numbers(located), part)
+    reply::digest(answers::in_numbers(located), part)
 }
 
 // The stretch that a line asks for, in entries as they are lent.

@@ -6,10 +6,10 @@ use card::Card;
 use desk_lines::numbers::byte;
 use desk_lines::places;
 use desk_lines::places::Kept;
-use desk_lines_read::{pairs, words};
+use desk_lines_read::pairs;
 use desk_lines_reply::lent::digest_bytes;
 use desk_lines_reply::reply;
-use desk_lines_reply::reply::LineReply;
+use desk_lines_reply::reply::{Form, LineReply};
 use notation::Layout;
 
 // What a lent byte is before the question, the most that the program lends, of a note too, and the largest seed.
@@ -22,10 +22,8 @@ const MOST_SEED: u64 = 255;
 // The note of a seed, as long as it can be.
 fn note_of(seed: u64) -> [u8; 1024] {
     let mut note = [0u8; 1024];
-    let mut i: usize = 0;
-    while i < 1024 {
-        note[i] = byte(seed % 256 + 7 * i as u64);
-        i += 1;
+    for (i, b) in note.iter_mut().enumerate() {
+        *b = byte(seed % 256 + 7 * i as u64);
     }
     note
 }
@@ -33,7 +31,7 @@ fn note_of(seed: u64) -> [u8; 1024] {
 // The block that a line asks for, in lent bytes.
 fn ask_block(numbers: &Kept, note: &[u8], lent: &mut [u8]) -> LineReply {
     let written = storing::write_block(cards::first(numbers), note, lent);
-    reply::digest_bytes(storing::answer_numbers(written), lent)
+    reply::digest_bytes(answers::in_numbers(written), lent)
 }
 
 // block CARD, note length, seed, length
@@ -77,7 +75,7 @@ fn shown(answer: Numbers, card: Card, noted: u64, digest: u64) -> LineReply {
     put_marks(&mut values, places::CARD_MARKS, marks);
     values[places::NOTED] = noted;
     values[places::NOTE_DIGEST] = digest;
-    reply::signed(answer, places::PAGE, values)
+    reply::valued(Form::Signed, answer, places::PAGE, values)
 }
 
 // The reply to a block.
@@ -87,7 +85,7 @@ fn read_page(block: &[u8]) -> LineReply {
     let card = page.card;
     let note = storing::read_note(block);
     shown(
-        storing::answer_numbers(answer),
+        answers::in_numbers(answer),
         card,
         note.len() as u64,
         digest_bytes(note),
@@ -95,17 +93,13 @@ fn read_page(block: &[u8]) -> LineReply {
 }
 
 // page TEXT: pairs of hex digits after the one space after the word
-pub fn page(line: &[u8; 4096], held: usize) -> LineReply {
-    if held < words::SPACED {
-        return reply::unknown();
-    }
-    let length = (held - words::SPACED) / 2;
+pub fn page(digits: &[u8]) -> LineReply {
+    let length = digits.len() / 2;
     if 1024 < length {
         return reply::unknown();
     }
-    if !pairs::are_pairs(line, held) {
-        return reply::unknown();
+    match pairs::bytes(digits) {
+        Some(block) => read_page(&block[0..length]),
+        None => reply::unknown(),
     }
-    let block = pairs::bytes(line);
-    read_page(&block[0..length])
 }

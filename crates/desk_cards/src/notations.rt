@@ -4,9 +4,8 @@ use crate::records::{layout_values, put_marks};
 use answers::Numbers;
 use desk_lines::places;
 use desk_lines::places::Kept;
-use desk_lines_read::words;
 use desk_lines_reply::reply;
-use desk_lines_reply::reply::LineReply;
+use desk_lines_reply::reply::{Form, LineReply};
 use notation::Layout;
 
 // What a lent byte is before the question, and the most that the program lends.
@@ -19,32 +18,21 @@ fn shown(answer: Numbers, layout: Layout) -> LineReply {
     let marks = layout.marks;
     let mut values = layout_values(layout);
     put_marks(&mut values, places::LAYOUT_MARKS, marks);
-    reply::signed(answer, places::LAYOUT, values)
-}
-
-// The reply to a text.
-fn read_text(text: &[u8]) -> LineReply {
-    let reading = reading::read(text);
-    let answer = reading.answer;
-    let layout = reading.layout;
-    shown(reading::read_numbers(answer), layout)
+    reply::valued(Form::Signed, answer, places::LAYOUT, values)
 }
 
 // read TEXT: all that follows the one space after the word
-pub fn read(line: &[u8], held: usize) -> LineReply {
-    if held < words::SPACED {
-        return reply::unknown();
-    }
-    if line.len() < held {
-        return reply::unknown();
-    }
-    read_text(&line[words::SPACED..held])
+pub fn read(text: &[u8]) -> LineReply {
+    let reading = reading::read(text);
+    let answer = reading.answer;
+    let layout = reading.layout;
+    shown(answers::in_numbers(answer), layout)
 }
 
 // The text that a line asks for, in lent bytes.
 fn ask_write(numbers: &Kept, lent: &mut [u8]) -> LineReply {
     let written = writing::write(cards::first(numbers), lent);
-    reply::written(writing::write_numbers(written), lent)
+    reply::written(answers::in_numbers(written), lent)
 }
 
 // write shard, replica, offsets, length
@@ -64,6 +52,6 @@ pub fn mma_layout(numbers: &Kept) -> LineReply {
     let answer = layout.answer;
     let card = layout.card;
     let mut text = [0u8; 1024];
-    let written = writing::write_numbers(writing::write(card, &mut text));
-    reply::text(admission::admission_numbers(answer), written.a, &text)
+    let written = answers::in_numbers(writing::write(card, &mut text));
+    reply::text(answers::in_numbers(answer), written.a, &text)
 }

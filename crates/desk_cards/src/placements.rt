@@ -22,7 +22,7 @@ fn ask_place(numbers: &Kept, lent: &mut [u32]) -> Numbers {
         c_tuple::tuple(&coordinates),
         lent,
     );
-    placement::placement_numbers(placed)
+    answers::in_numbers(placed)
 }
 
 // place CARD dimensions, eight sizes, coordinates, eight coordinates, length
@@ -34,5 +34,5 @@ pub fn place(numbers: &Kept) -> LineReply {
     let length = asked as usize;
     let mut lent = [0u32; 64];
     let answer = ask_place(numbers, &mut lent[0..length]);
-    reply::entries(answer, length, &lent)
+    reply::each(answer, length, &lent)
 }

@@ -1,6 +1,6 @@
-// The numbers of a line, several at once, and small values as numbers. Public, with a requires, only for desk, whose lines
+// The numbers of a line, several at once. Public, with a requires, only for desk, whose lines
 // have these places.
-ghost use Rattle.std.specs.Prelude.{◌≡◌, ◌≤◌};
+ghost use Rattle.std.specs.Prelude.{◌≤◌};
 
 use crate::places;
 use crate::places::Kept;
@@ -44,11 +44,7 @@ pub fn card(numbers: &Kept, from: usize) -> [u64; 57]
     requires { from ≤ 318 }
 {
     let mut all = [0u64; places::CARD];
-    let mut i: usize = 0;
-    while i < places::CARD {
-        all[i] = numbers[from + i];
-        i += 1;
-    }
+    all.copy_from_slice(&numbers[from..from + places::CARD]);
     all
 }
 
@@ -56,12 +52,10 @@ pub fn card(numbers: &Kept, from: usize) -> [u64; 57]
 pub fn within(numbers: &Kept, from: usize, to: usize, limit: u64) -> bool
     requires { to ≤ 375 }
 {
-    let mut i = from;
-    while i < to {
+    for i in from..to {
         if limit < numbers[i] {
             return false;
         }
-        i += 1;
     }
     true
 }
@@ -69,21 +63,4 @@ pub fn within(numbers: &Kept, from: usize, to: usize, limit: u64) -> bool
 // A number kept to a byte.
 pub fn byte(n: u64) -> u8 {
     (n % 256) as u8
-}
-
-// A byte as a number.
-pub fn wide(b: u8) -> u64 {
-    b as u64
-}
-
-// An entry as a number.
-pub fn wide32(n: u32) -> u64
-    ensures { result ≡ n }
-{
-    n as u64
-}
-
-// A bit as a number.
-pub fn yes(b: bool) -> u64 {
-    if b { 1 } else { 0 }
 }

@@ -1,8 +1,7 @@
 // The words that are questions, and what a line asks.
-ghost use Rattle.std.specs.Prelude.{◌≤◌};
+ghost use Rattle.std.specs.Prelude.{◌≤◌, length, IfSome};
 
 use crate::rule;
-use crate::rule::Line;
 use desk_lines::places;
 use desk_lines::places::Kept;
 
@@ -33,107 +32,33 @@ pub enum Word {
     Mma,
     MmaHolder,
     MmaLayout,
-    Unknown,
 }
 
-// Whether the line's word, which ends there, is this name.
-fn is_named(line: &[u8; 4096], end: usize, name: &[u8]) -> bool {
-    if end != name.len() {
-        return false;
+// The word of this name.
+fn word_of(name: &[u8]) -> Option<Word> {
+    match name {
+        b"swizzle" => Some(Word::Swizzle),
+        b"mode" => Some(Word::Mode),
+        b"bank" => Some(Word::Bank),
+        b"fragment" => Some(Word::Fragment),
+        b"holder" => Some(Word::Holder),
+        b"fields" => Some(Word::Fields),
+        b"descriptor" => Some(Word::Descriptor),
+        b"mask" => Some(Word::Mask),
+        b"place" => Some(Word::Place),
+        b"verdict" => Some(Word::Verdict),
+        b"owner" => Some(Word::Owner),
+        b"stretch" => Some(Word::Stretch),
+        b"write" => Some(Word::Write),
+        b"canonical" => Some(Word::Canonical),
+        b"block" => Some(Word::Block),
+        b"carry" => Some(Word::Carry),
+        b"plan" => Some(Word::Plan),
+        b"mma" => Some(Word::Mma),
+        b"mma-holder" => Some(Word::MmaHolder),
+        b"mma-layout" => Some(Word::MmaLayout),
+        _ => None,
     }
-    let mut i = 0;
-    while i < name.len() {
-        if line[i % 4096] != name[i] {
-            return false;
-        }
-        i += 1;
-    }
-    true
-}
-
-// The line's word, by its name: those of the further kinds of fragments,
-fn mma_word(line: &[u8; 4096], end: usize) -> Word {
-    if is_named(line, end, b"mma") {
-        return Word::Mma;
-    }
-    if is_named(line, end, b"mma-holder") {
-        return Word::MmaHolder;
-    }
-    if is_named(line, end, b"mma-layout") {
-        return Word::MmaLayout;
-    }
-    Word::Unknown
-}
-
-// those of plans,
-fn plan_word(line: &[u8; 4096], end: usize) -> Word {
-    if is_named(line, end, b"carry") {
-        return Word::Carry;
-    }
-    if is_named(line, end, b"plan") {
-        return Word::Plan;
-    }
-    mma_word(line, end)
-}
-
-// those of layouts,
-fn layout_word(line: &[u8; 4096], end: usize) -> Word {
-    if is_named(line, end, b"place") {
-        return Word::Place;
-    }
-    if is_named(line, end, b"verdict") {
-        return Word::Verdict;
-    }
-    if is_named(line, end, b"owner") {
-        return Word::Owner;
-    }
-    if is_named(line, end, b"stretch") {
-        return Word::Stretch;
-    }
-    if is_named(line, end, b"write") {
-        return Word::Write;
-    }
-    if is_named(line, end, b"canonical") {
-        return Word::Canonical;
-    }
-    if is_named(line, end, b"block") {
-        return Word::Block;
-    }
-    plan_word(line, end)
-}
-
-// those of masks,
-fn mask_word(line: &[u8; 4096], end: usize) -> Word {
-    if is_named(line, end, b"fields") {
-        return Word::Fields;
-    }
-    if is_named(line, end, b"descriptor") {
-        return Word::Descriptor;
-    }
-    if is_named(line, end, b"mask") {
-        return Word::Mask;
-    }
-    layout_word(line, end)
-}
-
-// and those of swizzles, banks and fragments first.
-fn word_of(line: &[u8; 4096], end: usize) -> Word {
-    if is_named(line, end, b"swizzle") {
-        return Word::Swizzle;
-    }
-    if is_named(line, end, b"mode") {
-        return Word::Mode;
-    }
-    if is_named(line, end, b"bank") {
-        return Word::Bank;
-    }
-    if is_named(line, end, b"fragment") {
-        return Word::Fragment;
-    }
-    if is_named(line, end, b"holder") {
-        return Word::Holder;
-    }
-    mask_word(line, end)
 }
 
 // The most numbers that the plan on a line may have.
@@ -162,7 +87,6 @@ fn most(word: Word) -> usize {
         Word::Mma => 4,
         Word::MmaHolder => 4,
         Word::MmaLayout => 1,
-        Word::Unknown => 0,
     }
 }
 
@@ -190,95 +114,81 @@ fn has_all(word: Word, count: usize, numbers: &Kept) -> bool {
 }
 
 // What a word asks whose numbers begin at a place of the line.
-fn asked(word: Word, line: &[u8; 4096], held: usize, from: usize, numbers: &mut Kept) -> Word
-    requires { held ≤ 4096 }
-{
-    let read = rule::read(line, held, from, cards(word), 0, most(word), numbers);
-    let Line::Read(at, count) = read else {
-        return Word::Unknown;
-    };
-    if (at < held) | !has_all(word, count, numbers) {
-        return Word::Unknown;
+fn asked(word: Word, line: &[u8], from: usize, numbers: &mut Kept) -> Option<Word> {
+    let reached = rule::read(line, from, cards(word), 0, most(word), numbers)?;
+    if (reached.end < line.len()) | !has_all(word, reached.place, numbers) {
+        return None;
     }
-    word
+    Some(word)
 }
 
 // What a word with a star asks: the marks of each card come first, and then it is as without one.
-fn asked_with_marks(
-    word: Word,
-    line: &[u8; 4096],
-    held: usize,
-    from: usize,
-    numbers: &mut Kept,
-) -> Word
-    requires { held ≤ 4096 }
-{
+fn asked_with_marks(word: Word, line: &[u8], from: usize, numbers: &mut Kept) -> Option<Word> {
     let marked = cards(word);
     if marked == 0 {
-        return Word::Unknown;
+        return None;
     }
     let end = places::MARKS + marked;
-    let read = rule::read(line, held, from, 0, places::MARKS, end, numbers);
-    let Line::Read(at, _) = read else {
-        return Word::Unknown;
-    };
+    let reached = rule::read(line, from, 0, places::MARKS, end, numbers)?;
     if (MOST_MARKS < numbers[places::MARKS]) | (MOST_MARKS < numbers[places::MARKS + 1]) {
-        return Word::Unknown;
+        return None;
     }
-    asked(word, line, held, at, numbers)
+    asked(word, line, reached.end, numbers)
 }
 
-// How long a word is that a text follows, with its space, and the most bytes of a text.
-pub const SPACED: usize = 5;
-
+// The most bytes of a text, and the most digits of a block.
 const MOST_TEXT: usize = 1024;
 
 const MOST_DIGITS: usize = 2048;
 
-// Whether a line has such a word and one space, and then at most so many bytes.
-fn has_text(line: &[u8; 4096], held: usize, word: &[u8], most: usize) -> bool {
-    if held < SPACED {
-        return false;
+// What follows a word and one space, if a line begins with these and it is at most so many bytes.
+fn text_after<'a>(line: &'a [u8], word: &[u8], most: usize) -> Option<&'a [u8]>
+    ensures { IfSome result (λ text. length text.now ≤ most) }
+{
+    let text = line.strip_prefix(word)?;
+    if most < text.len() {
+        return None;
     }
-    is_named(line, SPACED, word) & (held - SPACED <= most)
+    Some(text)
 }
 
-// Whether a line asks to read a text of the notation: any bytes.
-pub fn is_read(line: &[u8; 4096], held: usize) -> bool {
-    has_text(line, held, b"read ", MOST_TEXT)
+// The text of the notation that a line asks to read: any bytes.
+pub fn text_to_read(line: &[u8]) -> Option<&[u8]>
+    ensures { IfSome result (λ text. length text.now ≤ 1024) }
+{
+    text_after(line, b"read ", MOST_TEXT)
 }
 
-// Whether a line asks to read a block: a text, of which the digits are still to be looked at.
-pub fn is_page(line: &[u8; 4096], held: usize) -> bool {
-    has_text(line, held, b"page ", MOST_DIGITS)
+// The block that a line asks to read: a text, of which the digits are still to be looked at.
+pub fn page_to_read(line: &[u8]) -> Option<&[u8]>
+    ensures { IfSome result (λ digits. length digits.now ≤ 2048) }
+{
+    text_after(line, b"page ", MOST_DIGITS)
 }
 
 // Where the word of a line ends: at its first space, or with the line.
-fn word_end(line: &[u8; 4096], held: usize) -> usize {
-    let mut i = 0;
-    while i < held {
-        if line[i % 4096] == b' ' {
+fn word_end(line: &[u8]) -> usize
+    ensures { result ≤ length line.now }
+{
+    for i in 0..line.len() {
+        if line[i] == b' ' {
             return i;
         }
-        i += 1;
     }
-    held
+    line.len()
 }
 
-// What a line of so many bytes asks: a word with all its numbers, which are kept in their order. The word
-// may hold any byte but a space: it is compared as a whole.
-pub fn question(line: &[u8; 4096], held: usize, numbers: &mut Kept) -> Word {
-    if line.len() < held {
-        return Word::Unknown;
-    }
-    let end = word_end(line, held);
+// What a line asks: a word with all its numbers, which are kept in their order. The word may hold any byte
+// but a space: it is compared as a whole.
+pub fn question(line: &[u8], numbers: &mut Kept) -> Option<Word> {
+    let end = word_end(line);
     if end == 0 {
-        return Word::Unknown;
+        return None;
     }
     numbers[places::MARKS] = 0;
     numbers[places::MARKS + 1] = 0;
-    if line[(end - 1) % 4096] == STAR {
-        return asked_with_marks(word_of(line, end - 1), line, held, end, numbers);
+    if line[end - 1] == STAR {
+        return asked_with_marks(word_of(&line[..end - 1])?, line, end, numbers);
     }
-    asked(word_of(line, end), line, held, end, numbers)
+    asked(word_of(&line[..end])?, line, end, numbers)
 }

@@ -1,8 +1,6 @@
 // Memory that is lent to a question: what stands in it before, and its digest after.
 ghost use Rattle.std.specs.Prelude.{◌*◌, ◌≤◌};
 
-use desk_lines::numbers;
-
 // What entry 0 of a lent table is before the question, of the second of two tables, and of a plan; each further
 // one is one more.
 pub const TABLE: u32 = 1000000;
@@ -19,19 +17,15 @@ const DIGEST: u64 = 4294967291;
 pub fn fill(lent: &mut [u32], first: u32)
     requires { first ≤ 3000000 }
 {
-    let mut i = 0;
-    while i < lent.len() {
-        lent[i] = first + (i % 65536) as u32;
-        i += 1;
+    for (i, entry) in lent.iter_mut().enumerate() {
+        *entry = first + (i % 65536) as u32;
     }
 }
 
 // The numbers of a plan as they are lent.
 pub fn fill_plan(lent: &mut [u64]) {
-    let mut i = 0;
-    while i < lent.len() {
-        lent[i] = PLAN + i as u64 % 65536;
-        i += 1;
+    for (i, number) in lent.iter_mut().enumerate() {
+        *number = PLAN + i as u64 % 65536;
     }
 }
 
@@ -39,16 +33,14 @@ pub fn fill_plan(lent: &mut [u64]) {
 fn weighted(place: u64, entry: u32) -> u64
     ensures { result ≤ 65535 * 4294967295 }
 {
-    (place % 65536) * numbers::wide32(entry)
+    (place % 65536) * u64::from(entry)
 }
 
 // The digest of a table or of a stretch of it.
 pub fn digest(entries: &[u32]) -> u64 {
     let mut sum: u64 = 0;
-    let mut i: usize = 0;
-    while i < entries.len() {
-        sum = (sum + weighted(i as u64 + 1, entries[i])) % DIGEST;
-        i += 1;
+    for (i, entry) in entries.iter().enumerate() {
+        sum = (sum + weighted(i as u64 + 1, *entry)) % DIGEST;
     }
     sum
 }
@@ -61,10 +53,8 @@ fn entry(b: u8) -> u32 {
 // The digest of lent bytes, or of a note.
 pub fn digest_bytes(bytes: &[u8]) -> u64 {
     let mut sum: u64 = 0;
-    let mut i: usize = 0;
-    while i < bytes.len() {
-        sum = (sum + weighted(i as u64 + 1, entry(bytes[i]))) % DIGEST;
-        i += 1;
+    for (i, byte) in bytes.iter().enumerate() {
+        sum = (sum + weighted(i as u64 + 1, entry(*byte))) % DIGEST;
     }
     sum
 }
@@ -77,10 +67,8 @@ fn reduced(n: u64) -> u32 {
 // The digest of a plan.
 pub fn digest_plan(plan: &[u64]) -> u64 {
     let mut sum: u64 = 0;
-    let mut i: usize = 0;
-    while i < plan.len() {
-        sum = (sum + weighted(i as u64 + 1, reduced(plan[i]))) % DIGEST;
-        i += 1;
+    for (i, number) in plan.iter().enumerate() {
+        sum = (sum + weighted(i as u64 + 1, reduced(*number))) % DIGEST;
     }
     sum
 }

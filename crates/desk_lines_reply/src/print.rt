@@ -9,18 +9,12 @@ use std::io::{Result, Write};
 use std::num::wrapping_sub_u64;
 use text::output;
 
-// A space and a number.
-fn next(out: &mut [u8; 65536], at: usize, n: u64) -> usize {
-    let place = output::byte(out, at, b' ');
-    output::decimal(out, place, n)
-}
-
 // The number and the details of an answer.
 fn details(out: &mut [u8; 65536], at: usize, answer: Numbers) -> usize {
     let number = output::decimal(out, at, answer.number);
-    let a = next(out, number, answer.a);
-    let b = next(out, a, answer.b);
-    next(out, b, answer.c)
+    let a = output::spaced(out, number, answer.a);
+    let b = output::spaced(out, a, answer.b);
+    output::spaced(out, b, answer.c)
 }
 
 // From here on a value is below zero where it may be.
@@ -39,10 +33,8 @@ fn value(out: &mut [u8; 65536], at: usize, n: u64, signed: bool) -> usize {
 // A bar, and each of the values after a space. No count is above 80.
 fn values(out: &mut [u8; 65536], at: usize, count: usize, of: &[u64; 80], signed: bool) -> usize {
     let mut place = output::text(out, at, b" |");
-    let mut i = 0;
-    while i < count {
+    for i in 0..count {
         place = value(out, place, of[i % 80], signed & may_be_below(i, 1));
-        i += 1;
     }
     place
 }
@@ -55,10 +47,8 @@ fn text_byte(of: &[u64; 80], i: usize) -> u8 {
 // A text of so many bytes.
 fn bytes(out: &mut [u8; 65536], at: usize, count: usize, of: &[u64; 80]) -> usize {
     let mut place = at;
-    let mut i = 0;
-    while i < count {
+    for i in 0..count {
         place = output::byte(out, place, text_byte(of, i));
-        i += 1;
     }
     place
 }
@@ -107,6 +97,7 @@ pub fn put<W: Write>(
 {
     let room = output::make_room(to, out, at)?;
     let form = reply.form;
+    // A match, and no closure that is handed on: a reply is plain data.
     Ok(match form {
         Form::Unknown => output::text(out, room, b"?\n"),
         Form::Plain => plain(out, room, reply),

@@ -1,7 +1,9 @@
 // Replies to lines, before they are text.
+ghost use Rattle.std.specs.Prelude.{◌≡◌};
+
 use crate::lent;
 use answers::Numbers;
-use desk_lines::{numbers, places};
+use desk_lines::places;
 
 // How a reply is put.
 #[derive(Clone, Copy)]
@@ -26,68 +28,50 @@ pub enum Form {
 #[derive(Clone, Copy)]
 pub struct LineReply {
     pub form: Form,
+    // numbers to print, whatever they say
     pub answer: Numbers,
     pub count: usize,
     pub values: [u64; 80],
 }
 
-// The reply to a line that is no question.
-pub fn unknown() -> LineReply {
+// An answer in this form, with so many values after it.
+pub fn valued(form: Form, answer: Numbers, count: usize, values: [u64; 80]) -> LineReply
+    ensures { (result.answer ≡ answer) × (result.count ≡ count) × (result.values ≡ values) }
+{
     LineReply {
-        form: Form::Unknown,
-        answer: answers::answer(0, 0, 0, 0),
-        count: 0,
-        values: [0; 80],
-    }
-}
-
-// An answer with nothing after it.
-pub fn plain(answer: Numbers) -> LineReply {
-    LineReply {
-        form: Form::Plain,
-        answer,
-        count: 0,
-        values: [0; 80],
-    }
-}
-
-// An answer with values after it.
-fn barred(answer: Numbers, count: usize, values: [u64; 80]) -> LineReply {
-    LineReply {
-        form: Form::Barred,
+        form,
         answer,
         count,
         values,
     }
 }
 
-// An answer and each lent byte.
-pub fn bytes(answer: Numbers, count: usize, from: &[u8; 64]) -> LineReply {
-    let mut values = [0u64; 80];
-    let mut i = 0;
-    while i < 64 {
-        values[i] = numbers::wide(from[i]);
-        i += 1;
-    }
-    barred(answer, count, values)
+// The reply to a line that is no question.
+pub fn unknown() -> LineReply {
+    valued(Form::Unknown, answers::answer(0, 0, 0, 0), 0, [0; 80])
 }
 
-// An answer and each lent entry.
-pub fn entries(answer: Numbers, count: usize, from: &[u32; 64]) -> LineReply {
+// An answer with nothing after it.
+pub fn plain(answer: Numbers) -> LineReply {
+    valued(Form::Plain, answer, 0, [0; 80])
+}
+
+// An answer and each lent byte or entry.
+pub fn each<T: Copy + Into<u64>>(answer: Numbers, count: usize, from: &[T; 64]) -> LineReply
+    ensures { (result.answer ≡ answer) × (result.count ≡ count) }
+{
     let mut values = [0u64; 80];
-    let mut i = 0;
-    while i < 64 {
-        values[i] = numbers::wide32(from[i]);
-        i += 1;
+    for (i, lent) in from.iter().enumerate() {
+        values[i] = (*lent).into();
     }
-    barred(answer, count, values)
+    valued(Form::Barred, answer, count, values)
 }
 
 // An answer and one value.
 fn one(answer: Numbers, value: u64) -> LineReply {
     let mut values = [0u64; 80];
     values[0] = value;
-    barred(answer, 1, values)
+    valued(Form::Barred, answer, 1, values)
 }
 
 // An answer and the digest of lent entries.
@@ -100,7 +84,7 @@ pub fn digests(answer: Numbers, first: &[u32], second: &[u32]) -> LineReply {
     let mut values = [0u64; 80];
     values[0] = lent::digest(first);
     values[1] = lent::digest(second);
-    barred(answer, 2, values)
+    valued(Form::Barred, answer, 2, values)
 }
 
 // An answer and the digests of a lent plan and of two lent tables.
@@ -109,7 +93,7 @@ pub fn planned(answer: Numbers, plan: &[u64], first: &[u32], second: &[u32]) -> 
     values[0] = lent::digest_plan(plan);
     values[1] = lent::digest(first);
     values[2] = lent::digest(second);
-    barred(answer, 3, values)
+    valued(Form::Barred, answer, 3, values)
 }
 
 // An answer, LBO and SBO as reported, and the digest of lent entries.
@@ -118,30 +102,18 @@ pub fn encoded(answer: Numbers, lbo: u64, sbo: u64, from: &[u32]) -> LineReply {
     values[0] = lbo;
     values[1] = sbo;
     values[2] = lent::digest(from);
-    barred(answer, 3, values)
+    valued(Form::Barred, answer, 3, values)
 }
 
 // An answer and the twelve fields of a descriptor: start counts, first spans and what all share.
 pub fn fields(answer: Numbers, counts: [u8; 4], spans: [bool; 4], shared: [u64; 4]) -> LineReply {
     let mut values = [0u64; 80];
-    let mut i = 0;
-    while i < 4 {
-        values[places::START_COUNTS + i] = numbers::wide(counts[i]);
-        values[places::FIRST_SPANS + i] = numbers::yes(spans[i]);
+    for i in 0..4 {
+        values[places::START_COUNTS + i] = u64::from(counts[i]);
+        values[places::FIRST_SPANS + i] = u64::from(spans[i]);
         values[places::NON_ZERO + i] = shared[i];
-        i += 1;
     }
-    barred(answer, places::FIELDS, values)
-}
-
-// An answer and the numbers of a layout or of a card.
-pub fn signed(answer: Numbers, count: usize, values: [u64; 80]) -> LineReply {
-    LineReply {
-        form: Form::Signed,
-        answer,
-        count,
-        values,
-    }
+    valued(Form::Barred, answer, places::FIELDS, values)
 }
 
 // An answer and the digest of lent bytes.
@@ -153,17 +125,12 @@ pub fn digest_bytes(answer: Numbers, from: &[u8]) -> LineReply {
 fn with_text(value: u64, from: &[u8], length: u64) -> [u64; 80] {
     let mut values = [0u64; 80];
     values[0] = value;
-    let mut i: usize = 0;
-    while i < 512 {
-        if from.len() <= i {
-            return values;
-        }
+    for (i, b) in from.iter().take(512).enumerate() {
         if length <= i as u64 {
-            return values;
+            break;
         }
         let place = 1 + i / 8;
-        values[place] = values[place] | (numbers::wide(from[i]) << (i % 8 * 8));
-        i += 1;
+        values[place] = values[place] | (u64::from(*b) << (i % 8 * 8));
     }
     values
 }
@@ -173,23 +140,14 @@ pub fn written(answer: Numbers, from: &[u8]) -> LineReply {
     if answer.number != 0 {
         return digest_bytes(answer, from);
     }
-    LineReply {
-        form: Form::Written,
-        answer,
-        count: 1,
-        values: with_text(lent::digest_bytes(from), from, answer.a),
-    }
+    let values = with_text(lent::digest_bytes(from), from, answer.a);
+    valued(Form::Written, answer, 1, values)
 }
 
 // At number 0 a text of so many bytes, else nothing after the bar.
 pub fn text(answer: Numbers, length: u64, from: &[u8]) -> LineReply {
     if answer.number != 0 {
-        return barred(answer, 0, [0; 80]);
+        return valued(Form::Barred, answer, 0, [0; 80]);
     }
-    LineReply {
-        form: Form::Text,
-        answer,
-        count: 0,
-        values: with_text(length, from, length),
-    }
+    valued(Form::Text, answer, 0, with_text(length, from, length))
 }

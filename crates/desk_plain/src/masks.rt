@@ -1,7 +1,7 @@
 // The words of the subject mask.
 use answers::Numbers;
 use descriptor::Fields;
-use desk_lines::numbers::{byte, wide, within, yes};
+use desk_lines::numbers::{byte, within};
 use desk_lines::places;
 use desk_lines::places::Kept;
 use desk_lines_reply::reply;
@@ -68,9 +68,9 @@ fn are_fields(numbers: &Kept) -> bool {
 // The fields that all sub-masks share, as numbers.
 fn shared(fields: Fields) -> [u64; 4] {
     [
-        yes(fields.non_zero),
-        wide(fields.skip_span),
-        wide(fields.use_span),
+        u64::from(fields.non_zero),
+        u64::from(fields.skip_span),
+        u64::from(fields.use_span),
         fields.shift,
     ]
 }
@@ -82,19 +82,14 @@ pub fn fields(numbers: &Kept) -> LineReply {
     let fields = reading.fields;
     let counts = fields.start_counts;
     let spans = fields.first_spans;
-    reply::fields(
-        descriptor_bits::read_numbers(answer),
-        counts,
-        spans,
-        shared(fields),
-    )
+    reply::fields(answers::in_numbers(answer), counts, spans, shared(fields))
 }
 
 // descriptor M, with the twelve fields
 pub fn descriptor(numbers: &Kept) -> LineReply {
     if are_fields(numbers) {
         let written = descriptor_bits::write_descriptor(numbers[0], given(numbers));
-        return reply::plain(descriptor_bits::write_numbers(written));
+        return reply::plain(answers::in_numbers(written));
     }
     reply::unknown()
 }
@@ -102,7 +97,7 @@ pub fn descriptor(numbers: &Kept) -> LineReply {
 // The mask that a line asks for, in lent bytes.
 fn ask_mask(numbers: &Kept, lent: &mut [u8]) -> Numbers {
     let generated = mask::generate_mask(numbers[0], numbers[1], numbers[2], lent);
-    mask::mask_numbers(generated)
+    answers::in_numbers(generated)
 }
 
 // mask M N descriptor length
@@ -114,5 +109,5 @@ pub fn mask(numbers: &Kept) -> LineReply {
     let length = asked as usize;
     let mut lent = [LENT; 64];
     let answer = ask_mask(numbers, &mut lent[0..length]);
-    reply::bytes(answer, length, &lent)
+    reply::each(answer, length, &lent)
 }

@@ -4,10 +4,9 @@
 ghost use Rattle.std.specs.Prelude.{◌≡◌};
 ghost use Rattle.canonical.specs.Canonical.{encoded_lbo, reported, reported_numbers, CanonicalPromise};
 
-use answers::Numbers;
+use answers::{Numbers, Refusal};
 use canonical::{Canonical, Reported};
-use card::Admission;
-use judgement::Verdict;
+use judgement::Approved;
 
 // A descriptor counts byte strides in pieces of 16 bytes, and an LBO that is not used is assumed to be 1.
 const PIECE: u64 = 16;
@@ -26,20 +25,16 @@ fn encoded_lbo(a: Canonical) -> u64
 }
 
 // What is reported of a verdict.
-fn report(a: Canonical, verdict: Verdict) -> Reported
+fn report(a: Canonical, verdict: Result<Approved, Refusal>) -> Reported
     ensures { result ≡ reported a verdict }
 {
     match verdict {
-        Verdict::Approved {
-            elements: _,
-            occupied: _,
-            cells: _,
-        } => Reported {
+        Ok(_) => Reported {
             verdict,
             lbo: encoded_lbo(a),
             sbo: a.sbo / PIECE,
         },
-        Verdict::Refused(_) => Reported {
+        Err(_) => Reported {
             verdict,
             lbo: 0,
             sbo: 0,
@@ -54,12 +49,12 @@ pub fn judge(a: Canonical, table: &mut [u32]) -> Reported
     let built = canonical_build::build(a);
     let answer = built.answer;
     match answer {
-        Admission::Admitted => {
+        Ok(()) => {
             let card = built.card;
             let verdict = verdict::judge(card, table);
             report(a, verdict)
         }
-        Admission::Refused(refusal) => report(a, Verdict::Refused(refusal)),
+        Err(refusal) => report(a, Err(refusal)),
     }
 }
 
@@ -68,5 +63,5 @@ pub fn reported_numbers(reported: Reported) -> Numbers
     ensures { result ≡ reported_numbers reported }
 {
     let verdict = reported.verdict;
-    judgement_numbers::verdict_numbers(verdict)
+    answers::in_numbers(verdict)
 }

@@ -3,11 +3,11 @@
 
 mod accumulator;
 
-ghost use Rattle.std.specs.Prelude.{◌≡◌, true, ◌+◌, ◌*◌, ◌<◌};
+ghost use Rattle.std.specs.Prelude.{◌≡◌, true, ◌+◌, ◌*◌, ◌<◌, Ok};
 ghost use Rattle.fragment.specs.Kinds.{computations, high, at, place};
-ghost use Rattle.fragment.specs.Fragment.{is_slot, is_place, outside, held_answer, HolderAnswer, held_numbers, holder_numbers};
+ghost use Rattle.fragment.specs.Fragment.{is_slot, is_place, outside, held_answer, HolderAnswer};
 
-use answers::{Numbers, Refusal};
+use answers::{Details, Numbers, Refusal};
 
 // The kinds, and the lanes of a warp.
 const KINDS: u64 = 9;
@@ -31,6 +31,19 @@ pub struct Place {
     pub column: u64,
 }
 
+impl Details for Place {
+    ghost use Rattle.std.specs.Prelude.{refl};
+    ghost use Rattle.fragment.specs.Fragment.{place_numbers};
+
+    ghost as_numbers = { place_numbers };
+
+    ghost reads_back = { (λ n. record { computation = n.a; row = n.b; column = n.c }, λ x. (refl, refl)) };
+
+    fn details(self) -> Numbers {
+        answers::answer(0, self.computation, self.row, self.column)
+    }
+}
+
 // A register of a lane.
 #[derive(Clone, Copy)]
 pub struct Slot {
@@ -38,18 +51,17 @@ pub struct Slot {
     pub register: u64,
 }
 
-// The answer to what a register holds.
-#[derive(Clone, Copy)]
-pub enum Held {
-    Place(Place),
-    Refused(Refusal),
-}
+impl Details for Slot {
+    ghost use Rattle.std.specs.Prelude.{refl};
+    ghost use Rattle.fragment.specs.Fragment.{slot_numbers};
 
-// The answer to which register holds a place.
-#[derive(Clone, Copy)]
-pub enum Holder {
-    Slot(Slot),
-    Refused(Refusal),
+    ghost as_numbers = { slot_numbers };
+
+    ghost reads_back = { (λ n. record { lane = n.a; register = n.b }, λ x. (refl, refl)) };
+
+    fn details(self) -> Numbers {
+        answers::answer(0, self.lane, self.register, 0)
+    }
 }
 
 // The computations of a kind; an unknown one has none.
@@ -145,13 +157,13 @@ pub fn outside() -> Refusal
 }
 
 // What a register of a lane holds, for any numbers.
-pub fn held_by(kind: u64, lane: u64, register: u64) -> Held
+pub fn held_by(kind: u64, lane: u64, register: u64) -> Result<Place, Refusal>
     ensures { result ≡ held_answer kind lane register }
 {
     if is_slot(kind, lane, register) {
-        Held::Place(place_held(kind, lane, register))
+        Ok(place_held(kind, lane, register))
     } else {
-        Held::Refused(outside())
+        Err(outside())
     }
 }
 
@@ -170,7 +182,7 @@ fn in_group(group: u64, h: u64, q: u64, register: u64) -> Slot
 // The register that holds a place, by the kind: h and q are those of its lane.
 fn slot_holding(kind: u64, computation: u64, row: u64, column: u64) -> Slot
     requires { is_place kind (at computation row column) ≡ true }
-    ensures { HolderAnswer kind (at computation row column) (Holder.Slot result) }
+    ensures { HolderAnswer kind (at computation row column) (Ok result) }
 {
     match kind {
         0 => in_group(computation, row & 4, row % 4, column),
@@ -191,32 +203,12 @@ fn slot_holding(kind: u64, computation: u64, row: u64, column: u64) -> Slot
 }
 
 // Which register of which lane holds a place, for any numbers.
-pub fn holder_of(kind: u64, computation: u64, row: u64, column: u64) -> Holder
+pub fn holder_of(kind: u64, computation: u64, row: u64, column: u64) -> Result<Slot, Refusal>
     ensures { HolderAnswer kind (at computation row column) result }
 {
     if is_place(kind, computation, row, column) {
-        Holder::Slot(slot_holding(kind, computation, row, column))
+        Ok(slot_holding(kind, computation, row, column))
     } else {
-        Holder::Refused(outside())
-    }
-}
-
-// The plain numbers of what a register holds.
-pub fn held_numbers(held: Held) -> Numbers
-    ensures { result ≡ held_numbers held }
-{
-    match held {
-        Held::Place(place) => answers::answer(0, place.computation, place.row, place.column),
-        Held::Refused(refusal) => answers::refusal_numbers(refusal),
-    }
-}
-
-// The plain numbers of which register holds a place.
-pub fn holder_numbers(holder: Holder) -> Numbers
-    ensures { result ≡ holder_numbers holder }
-{
-    match holder {
-        Holder::Slot(slot) => answers::answer(0, slot.lane, slot.register, 0),
-        Holder::Refused(refusal) => answers::refusal_numbers(refusal),
+        Err(outside())
     }
 }

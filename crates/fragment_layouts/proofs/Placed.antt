@@ -1,4 +1,5 @@
 -- A fragment is a layout: what a register holds is placed in that lane and register, by one computed test over all registers of all kinds.
+use Rattle.std.specs.Prelude.{Result, ⊤, Ok, Err}
 use mathlib.Core.Path.{◌≡◌, refl, sym, ap, ◌∙◌}
 use mathlib.Core.Bool.{Bool, true, false, ◌&&◌, and-eq-true_iff}
 use mathlib.Core.List.{List, ◌∷◌}
@@ -6,6 +7,8 @@ use Prim.Native.Nat.{ℕ, ◌≤◌, ◌<◌}
 use borrow.Author.Tests.{eqb-true, le-leb}
 use lib.Dec.{eqb}
 use lib.ListN.{length, drop}
+use Rattle.answers.specs.Refusals.{no_refusal}
+use Rattle.answers.specs.declared.Refusal.{Refusal}
 use Rattle.laws.proofs.Below.{below, below_at}
 use Rattle.laws.proofs.Rungs.{apart}
 use Rattle.swizzle.specs.Swizzle.{swizzled}
@@ -14,8 +17,6 @@ use Rattle.fragment.specs.Fragment.{is_slot}
 use Rattle.fragment.proofs.Inside.{slot_numbers}
 use Rattle.card.specs.Card.{elements}
 use Rattle.card.specs.Admission.{admission}
-use Rattle.card.specs.declared.Admission.{Admission}
-use Rattle.card.specs.declared.Admission.TheVariants.{Admitted, Refused}
 use Rattle.rules.specs.RowMajor.{position}
 use Rattle.rules.specs.Rules.{coordinates, spot}
 use Rattle.rules.specs.Copies.{copy_cells, outside_axis}
@@ -24,17 +25,15 @@ use Rattle.rules.specs.declared.Spot.TheVariants.{Inside, Outside}
 use Rattle.idle.specs.Run.{pair_of}
 use Rattle.idle.specs.Admission.{full_admission}
 use Rattle.placement_judged.specs.Placement.{shape_admitted, coordinates_fit, placement_answer, placement_memory, Placing}
-use Rattle.placement_judged.specs.declared.Placement.{Placement}
-use Rattle.placement_judged.specs.declared.Placement.TheVariants.{Copies}
 use Rattle.fragment_layouts.specs.Layouts.{kind_shard, kind_card, shape_of, coordinates_of, element_of, slot_cell}
 
-abbrev is_admitted : Admission → Bool
-is_admitted Admitted = true
-is_admitted (Refused refusal) = false
+abbrev is_admitted : Result ⊤ Refusal → Bool
+is_admitted (Ok _) = true
+is_admitted (Err refusal) = false
 
-admitted_is : (a : Admission) → is_admitted a ≡ true → a ≡ Admitted
-admitted_is Admitted e = refl
-admitted_is (Refused refusal) e = absurd (apart (cc))
+admitted_is : (a : Result ⊤ Refusal) → is_admitted a ≡ true → a ≡ no_refusal
+admitted_is (Ok _) e = refl
+admitted_is (Err refusal) e = absurd (apart (cc))
 
 abbrev in_cell : Spot → ℕ → Bool
 in_cell (Inside cell) n = eqb cell.0 n
@@ -63,7 +62,7 @@ unfolding rows columns computations computation registers place kind_shard swizz
 slots_fit = refl
 
 pub record KindFits (kind : ℕ) : Type 0 where
-  pub admitted : full_admission (kind_card kind) ≡ Admitted
+  pub admitted : full_admission (kind_card kind) ≡ no_refusal
   pub shaped : shape_admitted (shape_of kind) (elements (kind_card kind)) ≡ true
 
 pub kind_facts : (kind : ℕ) → kind < 9 → KindFits kind
@@ -86,9 +85,9 @@ slot_facts kind lane i e =
     record { known = n.known; fits = both.0; there = inside_is (spot (kind_card kind) (element_of kind (place kind lane i)) 0) (slot_cell kind lane i) both.1 }
 
 -- placing what a register holds, its computation, row and column in the kind's shape, gives one copy, in that lane and register
-pub fragment_is_layout : (kind lane i : ℕ) → is_slot kind lane i ≡ true → (before after : List ℕ) (p : Placement) → 1 ≤ length before
+pub fragment_is_layout : (kind lane i : ℕ) → is_slot kind lane i ≡ true → (before after : List ℕ) (p : Result ℕ Refusal) → 1 ≤ length before
     → Placing (kind_card kind) (shape_of kind) (coordinates_of (place kind lane i)) before after p
-    → (p ≡ Copies 1) × (after ≡ slot_cell kind lane i ∷ drop 1 before)
+    → (p ≡ Ok 1) × (after ≡ slot_cell kind lane i ∷ drop 1 before)
 unfolding placement_answer placement_memory copy_cells outside_axis
 fragment_is_layout kind lane i e before after p room placing =
     let s = slot_facts kind lane i e in

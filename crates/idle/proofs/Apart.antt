@@ -1,5 +1,6 @@
 -- Where there is no idle pair, two different copies of one element never lie in one cell: in one cell all coordinates are the same, the swizzle
 -- is one-to-one, and the shard and the offset give both the same.
+use Rattle.std.specs.Prelude.{Ok}
 use mathlib.Core.Path.{◌≡◌, refl, sym, ap, ◌∙◌}
 use mathlib.Core.Bool.{true}
 use mathlib.Core.List.{List, map}
@@ -9,6 +10,7 @@ use native.Mathlib.Omega.{arith}
 use lib.IntN.{ℤ, pos, negsuc, ◌+ℤ◌, ◌-ℤ◌, +ℤ_comm, +ℤ-neg_ℤ_cancel, pos-ne-negsuc}
 use lib.ListN.{length, get_or, get_or-map}
 use lib.Seq.{get_or-set_other}
+use Rattle.answers.specs.Refusals.{no_refusal}
 use Rattle.answers.specs.declared.Cell.{Cell}
 use Rattle.swizzle.specs.Swizzle.{permitted}
 use Rattle.swizzle.specs.declared.Swizzle.{Swizzle}
@@ -17,7 +19,6 @@ use Rattle.card.specs.Limits.{last_axis}
 use Rattle.card.specs.Card.{copies}
 use Rattle.card.specs.Admission.{admission}
 use Rattle.card.specs.declared.Card.{Card}
-use Rattle.card.specs.declared.Admission.TheVariants.{Admitted}
 use Rattle.card.proofs.Admitted.{Checked, checked}
 use Rattle.rules.specs.Rules.{axes, part, sum, swizzled_z, finished, on_axis, coordinates, spot}
 use Rattle.rules.specs.declared.Spot.TheVariants.{Inside}
@@ -66,7 +67,7 @@ module _ (card : Card) (flat : ℕ) where
         | no other ↦ sym (finished_other r axis h other) ∙ e ∙ finished_other s axis h other
       ]
 
-  module _ (admitted : admission card ≡ Admitted) (eight : length card.lengths ≡ 8) (r s : ℕ) (cell : Cell)
+  module _ (admitted : admission card ≡ no_refusal) (eight : length card.lengths ≡ 8) (r s : ℕ) (cell : Cell)
       (here : spot card flat r ≡ Inside cell) (there : spot card flat s ≡ Inside cell) where
     passed : Checked card
     passed = checked card admitted
@@ -89,7 +90,7 @@ module _ (card : Card) (flat : ℕ) where
         (same_coordinate axis)))
 
 -- two different copies of one element never lie in one cell
-pub copies_apart : (card : Card) → admission card ≡ Admitted → length card.lengths ≡ 8 → NoIdlePair card.replica → (flat r s : ℕ) (cell : Cell)
+pub copies_apart : (card : Card) → admission card ≡ no_refusal → length card.lengths ≡ 8 → NoIdlePair card.replica → (flat r s : ℕ) (cell : Cell)
     → r < copies card → s < copies card → spot card flat r ≡ Inside cell → spot card flat s ≡ Inside cell → r ≡ s
 copies_apart card admitted eight none flat r s cell hr hs here there =
     elim (dec_lt r s) [

@@ -1,4 +1,5 @@
 -- The run finds what the record says, by the laws of twins, and the record allows one finding.
+use Rattle.std.specs.Prelude.{Some, Option, None}
 use mathlib.Core.Path.{◌≡◌, refl, sym, ap, ap₂, ◌∙◌, subst}
 use mathlib.Core.Bool.{Bool, true, false, cond, and-eq-true_iff, false≢true}
 use mathlib.Core.List.{List, [], ◌∷◌}
@@ -16,8 +17,6 @@ use Rattle.card.proofs.ReadBack.{eight_at}
 use Rattle.idle.specs.Idle.{SameSums, IdlePair, NoIdlePair, Finds}
 use Rattle.idle.specs.Run.{equal, same_on, twin_from, pair_from, pair_of}
 use Rattle.idle.specs.Clauses.{NoneBelow, Twin, NoneBefore}
-use Rattle.idle.specs.declared.Finding.{Finding}
-use Rattle.idle.specs.declared.Finding.TheVariants.{Pair, NoPair}
 use Rattle.idle.proofs.Twins.{none_below_zero, none_below_more, twin_found, twin_none, none_before_zero, none_before_more, pair_found}
 
 equal_true : (x y : ℤ) → equal x y ≡ true → x ≡ y
@@ -42,6 +41,10 @@ module _ (f g : ℕ → ℤ) where
   same_on_lem (axis ∷ l) all =
       (and-eq-true_iff (equal (f axis) (g axis)) (same_on f g l)).1
       (ap (equal (f axis)) (sym (all 0 (omega arith))) ∙ equal_self (f axis), same_on_lem l (λ k h. all (suc k) (omega arith)))
+
+-- a pair found
+abbrev some_pair : ℕ → ℕ → Option (ℕ × ℕ)
+some_pair x y = Some (x, y)
 
 module _ (replica : Iters) where
   axis_there : (axis : ℕ) → axis < length axes → get_or axes axis 0 ≡ axis
@@ -72,7 +75,7 @@ module _ (replica : Iters) where
       twin = twin_from_lem b 0 b (omega arith) (none_below_zero replica b)
 
       split : (t : Bool) → ltb (twin_from replica b 0 b) b ≡ t → (NoneBefore replica (b + 1) → Finds replica (pair_from replica (b + 1) n))
-          → Finds replica (cond t (Pair (twin_from replica b 0 b) b) (pair_from replica (b + 1) n))
+          → Finds replica (cond t (Some ((twin_from replica b 0 b), b)) (pair_from replica (b + 1) n))
       split true t rest =
           pair_found replica b (twin_from replica b 0 b) (omega arith) (ltb-true (twin_from replica b 0 b) b t) twin so_far
       split false t rest = rest (none_before_more replica b (twin_from replica b 0 b) (ltb-false (twin_from replica b 0 b) b t) twin so_far)
@@ -94,15 +97,15 @@ module _ (replica : Iters) where
         (p.smallest_a a' (rw same_b q.different) (subst (SameSums replica a') (sym same_b) q.same))
         (q.smallest_a a (rw (sym same_b) p.different) (subst (SameSums replica a) same_b p.same))
 
-    pair_unique : Pair a b ≡ Pair a' b'
-    pair_unique = ap₂ Pair same_a same_b
+    pair_unique : some_pair a b ≡ some_pair a' b'
+    pair_unique = ap₂ some_pair same_a same_b
 
   -- two findings that the definition allows are equal
-  pub idle_settled : (i j : Finding) → Finds replica i → Finds replica j → i ≡ j
-  idle_settled (Pair a b) (Pair a' b') p q = pair_unique p q
-  idle_settled (Pair a b) NoPair p q = absurd (pair_is_some p q)
-  idle_settled NoPair (Pair a b) p q = absurd (pair_is_some q p)
-  idle_settled NoPair NoPair p q = refl
+  pub idle_settled : (i j : Option (ℕ × ℕ)) → Finds replica i → Finds replica j → i ≡ j
+  idle_settled (Some (a, b)) (Some (a', b')) p q = pair_unique p q
+  idle_settled (Some (a, b)) None p q = absurd (pair_is_some p q)
+  idle_settled None (Some (a, b)) p q = absurd (pair_is_some q p)
+  idle_settled None None p q = refl
 
   -- the run finds what the definition says
   pub run_finds : Finds replica (pair_of replica)
@@ -110,5 +113,5 @@ module _ (replica : Iters) where
   run_finds = pair_from_lem 0 (size replica) (omega arith) (none_before_zero replica)
 
   -- and nothing else does, so what the run computes is what the definition says
-  pub found_is_run : (i : Finding) → Finds replica i → i ≡ pair_of replica
+  pub found_is_run : (i : Option (ℕ × ℕ)) → Finds replica i → i ≡ pair_of replica
   found_is_run i f = idle_settled i (pair_of replica) f run_finds

@@ -1,10 +1,8 @@
 -- Idle copies: document 02, request 8. Two different combinations of a replica that give the same sum on every axis.
-use Rattle.std.specs.Prelude.{◌≡◌, ℕ, ◌≤◌, ◌<◌, length}
+use Rattle.std.specs.Prelude.{◌≡◌, ℕ, ◌≤◌, ◌<◌, length, Option, Some, None}
 use Rattle.card.specs.Card.{size}
 use Rattle.card.specs.declared.Iters.{Iters}
 use Rattle.rules.specs.Rules.{axes, part}
-use Rattle.idle.specs.declared.Finding.{Finding}
-use Rattle.idle.specs.declared.Finding.TheVariants.{Pair, NoPair}
 
 -- combinations a and b, counted from 0 with the last replica iter fastest, give the same sum on every axis
 abbrev pub SameSums : Iters → ℕ → ℕ → Type 0
@@ -23,6 +21,6 @@ abbrev pub NoIdlePair : Iters → Type 0
 NoIdlePair replica = (x y : ℕ) → x < y → y < size replica → SameSums replica x y → ⊥
 
 -- what a search for the pair finds
-abbrev pub Finds : Iters → Finding → Type 0
-Finds replica (Pair a b) = IdlePair replica a b
-Finds replica NoPair = NoIdlePair replica
+abbrev pub Finds : Iters → Option (ℕ × ℕ) → Type 0
+Finds replica (Some (a, b)) = IdlePair replica a b
+Finds replica None = NoIdlePair replica

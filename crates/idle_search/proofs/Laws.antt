@@ -1,18 +1,17 @@
--- What the loops of the search have done so far: lists that agree in so many places, keys in their places; that a walk leaves the sums of its
+-- What the loops of the search have done so far: keys in their places; that a walk leaves the sums of its
 -- combination, and that equal sums have equal keys, since a key is a function of the sums.
-use mathlib.Core.Path.{◌≡◌, refl, sym, ap, ◌∙◌, subst}
-use mathlib.Core.Bool.{Bool, true, false, cond, false≢true}
+use mathlib.Core.Path.{◌≡◌, refl, sym, ap, ◌∙◌}
+use mathlib.Core.Bool.{Bool, true, false, cond}
 use mathlib.Core.List.{List, [], ◌∷◌, map}
 use Prim.Native.Nat.{ℕ, zero, suc, ◌+◌, ◌-◌, ◌≤◌, ◌<◌}
 use native.Mathlib.Nat.{zero-div, zero-mod}
-use native.Mathlib.Numerals.{add-one}
 use native.Mathlib.Decide.{ℕ_discrete, dec_lt}
 use native.Mathlib.Omega.{arith}
 use borrow.Author.Tests.{ltb-true}
 use lib.Dec.{eqb, ltb}
 use lib.IntN.{ℤ, pos, negsuc, nat_abs, ◌+ℤ◌, +ℤ_idr, zero-*ℤ}
 use lib.ListN.{length, get_or, set, drop, replicate, get_or-replicate, length-set}
-use lib.Seq.{ext_get_or, drop-cons, drop-length, get_or-set_same, get_or-set_other}
+use lib.Seq.{ext_get_or, drop-length, get_or-set_same, get_or-set_other}
 use Rattle.card.specs.Lists.{product}
 use Rattle.card.specs.Card.{listed, extent_of}
 use Rattle.card.specs.declared.Iter.{Iter}
@@ -27,30 +26,7 @@ use Rattle.copies_sums.proofs.Turn.{along_room}
 use Rattle.idle.specs.Idle.{SameSums}
 use Rattle.idle.specs.Clauses.{Says, NoneBelow}
 use Rattle.idle.proofs.Apart.{cancel}
-use Rattle.idle_search.specs.Clauses.{far, natural, Natural, mixed, key_from, key_of, Keyed, Passes}
-
--- two lists agree in the first k places
-abbrev pub Agree : List ℤ → List ℤ → ℕ → Type 0
-Agree one other k = (i : ℕ) → i < k → get_or one i (pos 0) ≡ get_or other i (pos 0)
-
-pub agree_more : (one other : List ℤ) (k : ℕ) → get_or one k (pos 0) ≡ get_or other k (pos 0) → Agree one other k → Agree one other (k + 1)
-agree_more one other k here so_far i h =
-    elim (ℕ_discrete i k) [
-      | yes same ↦ subst (λ (j : ℕ). get_or one j (pos 0) ≡ get_or other j (pos 0)) (sym same) here
-      | no before ↦ so_far i (omega arith)
-    ]
-
-pub says_equal : (one other : List ℤ) → length one ≡ 8 → length other ≡ 8 → Agree one other 8 → Says (one ≡ other) true
-says_equal one other l m so_far = record {
-  yes_holds = λ t. ext_get_or (pos 0) one other (l ∙ sym m) (λ i h. so_far i (omega arith));
-  no_fails = λ f same. false≢true (sym f);
-}
-
-pub says_different : (one other : List ℤ) (k : ℕ) → (get_or one k (pos 0) ≡ get_or other k (pos 0) → ⊥) → Says (one ≡ other) false
-says_different one other k differ = record {
-  yes_holds = λ t. absurd (false≢true t);
-  no_fails = λ f same. differ (ap (λ (l : List ℤ). get_or l k (pos 0)) same);
-}
+use Rattle.idle_search.specs.Clauses.{far, natural, Natural, key_from, key_of, Keyed, Passes}
 
 -- what holds exactly when another does is said by the same answer
 pub says_alike : {p q : Type 0} {r : Bool} → (p → q) → (q → p) → Says p r → Says q r
@@ -122,11 +98,8 @@ naturals numbers strides w b =
       each = λ axis h. rw (left_by iters b axis h) (from_far roomy (part iters b axis) (omega (arith, along_room numbers strides 1 w 0 b axis)));
     }
 
--- the key of sums, from the first on
+-- after eight sums none is left to be mixed in
 module _ (sums : List ℤ) (eight : length sums ≡ 8) where
-  pub key_more : (key k : ℕ) → k < 8 → key_from key (drop k sums) ≡ key_from (mixed key (get_or sums k (pos 0))) (drop (k + 1) sums)
-  key_more key k h = rw (add-one k) (ap (key_from key) (drop-cons sums k (pos 0) (omega (arith, eight))))
-
   pub key_all : (key : ℕ) → key_from key (drop 8 sums) ≡ key
   key_all key = ap (key_from key) (ap (λ (n : ℕ). drop n sums) (sym eight) ∙ drop-length sums)
 

@@ -17,8 +17,7 @@ ghost use Rattle.idle.specs.Clauses.{Says, Twin};
 ghost use Rattle.idle_search.specs.Clauses.{natural, mixed, Natural, key_of, Keyed, Passes};
 
 use answers::Refusal;
-use card::{Admission, Card};
-use idle::Finding;
+use card::Card;
 
 // What the sums of a combination are counted from here, 2^40: so far from zero that none comes below it.
 const FAR: i64 = 1099511627776;
@@ -28,14 +27,7 @@ fn are_equal(one: &[i64; 8], other: &[i64; 8]) -> bool
     requires { (length one.now ≡ 8) × (length other.now ≡ 8) }
     ensures { Says (one.now ≡ other.now) result }
 {
-    let mut axis: usize = 0;
-    while axis < 8 {
-        if one[axis] != other[axis] {
-            return false;
-        }
-        axis += 1;
-    }
-    true
+    one == other
 }
 
 // Whether two replica combinations give the same sum on every axis.
@@ -64,10 +56,8 @@ fn key_of(sums: &[i64; 8]) -> u64
     ensures { result ≡ key_of sums.now }
 {
     let mut key: u64 = 0;
-    let mut k: usize = 0;
-    while k < 8 {
-        key = mix(key, sums[k]);
-        k += 1;
+    for sum in sums {
+        key = mix(key, *sum);
     }
     key
 }
@@ -100,6 +90,7 @@ fn find_key(keys: &[u64; 64], from: u64, b: u64) -> u64
 {
     let key = keys[b as usize];
     let mut a = from;
+    // A while: the search asks for no bound, since b has its own key.
     while keys[a as usize] != key {
         a += 1;
     }
@@ -112,6 +103,7 @@ fn find_twin(numbers: &[u64; 56], strides: &[i64; 24], keys: &[u64; 64], b: u64)
     ensures { Twin (iters_of numbers.now strides.now 1) b result }
 {
     let mut a = find_key(keys, 0, b);
+    // A while: the next place is the one that find_key gives.
     while a < b {
         if same_sums(numbers, strides, a, b) {
             return a;
@@ -123,46 +115,41 @@ fn find_twin(numbers: &[u64; 56], strides: &[i64; 24], keys: &[u64; 64], b: u64)
 
 // The pair of a packed card that passes checks 1 to 6. The first combination is the second of none, and
 // a card without replica is not searched.
-fn find_pair(numbers: &[u64; 56], strides: &[i64; 24]) -> Finding
+fn find_pair(numbers: &[u64; 56], strides: &[i64; 24]) -> Option<(u64, u64)>
     requires { Admits numbers.now strides.now }
     ensures { Finds (iters_of numbers.now strides.now 1) result }
 {
     let copies = numbers[card::COPIES];
     if copies < 2 {
-        return Finding::NoPair;
+        return None;
     }
     let mut keys = [0u64; 64];
     put_first_key(&mut keys);
-    let mut b: u64 = 1;
-    while b < copies {
+    for b in 1..copies {
         put_key(numbers, strides, b, &mut keys);
         let a = find_twin(numbers, strides, &keys, b);
         if a < b {
-            return Finding::Pair(a, b);
+            return Some((a, b));
         }
-        b += 1;
     }
-    Finding::NoPair
+    None
 }
 
 // The admission of a packed card to verdict, owner and placement: checks 1 to 6, then 17. Public, with a
 // requires, for the crates above, which pack a card first.
-pub fn admit_packed(numbers: &[u64; 56], strides: &[i64; 24]) -> Admission
+pub fn admit_packed(numbers: &[u64; 56], strides: &[i64; 24]) -> Result<(), Refusal>
     requires { Whole numbers.now strides.now }
     ensures { result ≡ full_admission (card_of numbers.now strides.now) }
 {
-    let admission = admission::admit_packed(numbers, strides);
-    if let Admission::Refused(refusal) = admission {
-        return Admission::Refused(refusal);
-    }
+    admission::admit_packed(numbers, strides)?;
     match find_pair(numbers, strides) {
-        Finding::Pair(a, b) => Admission::Refused(Refusal::Idle { a, b }),
-        Finding::NoPair => Admission::Admitted,
+        Some((a, b)) => Err(Refusal::Idle { a, b }),
+        None => Ok(()),
     }
 }
 
 // The admission of any card to verdict, owner and placement.
-pub fn admit(card: Card) -> Admission
+pub fn admit(card: Card) -> Result<(), Refusal>
     ensures { AdmissionSays card result }
 {
     let packed = card_packed::pack(card);

@@ -60,7 +60,7 @@ fn judge_kept(
     let lengths = kept(first, first_held);
     let text = kept(second, second_held);
     let verdict = typed::judge_lines(lengths, text, &mut lent);
-    judgement_numbers::verdict_numbers(verdict)
+    answers::in_numbers(verdict)
 }
 
 // Judges the first two lines of the input.
@@ -72,12 +72,6 @@ fn judge_input<R: Read>(from: &mut R, part: &mut [u8; 65536]) -> Result<Numbers>
     Ok(judge_kept(&first, &second, before.held, after.held))
 }
 
-// A space and a number.
-fn next(out: &mut [u8; 65536], at: usize, n: u64) -> usize {
-    let place = output::byte(out, at, b' ');
-    output::decimal(out, place, n)
-}
-
 // accepted A B C, or refused N A B C
 fn put(out: &mut [u8; 65536], answer: Numbers) -> usize {
     let mut place = 0;
@@ -85,11 +79,11 @@ fn put(out: &mut [u8; 65536], answer: Numbers) -> usize {
         place = output::text(out, 0, b"accepted");
     } else {
         place = output::text(out, 0, b"refused");
-        place = next(out, place, answer.number);
+        place = output::spaced(out, place, answer.number);
     }
-    place = next(out, place, answer.a);
-    place = next(out, place, answer.b);
-    place = next(out, place, answer.c);
+    place = output::spaced(out, place, answer.a);
+    place = output::spaced(out, place, answer.b);
+    place = output::spaced(out, place, answer.c);
     output::byte(out, place, b'\n')
 }
 

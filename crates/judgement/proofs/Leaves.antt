@@ -1,4 +1,5 @@
 -- What the verdict and the owner leave in the lent table, entry by entry, from the judgement: a front of the cells, then what stood there.
+use Rattle.std.specs.Prelude.{Result, Ok, Err}
 use mathlib.Core.Path.{◌≡◌, refl, sym, ap, ◌∙◌}
 use mathlib.Core.Bool.{false, true≢false}
 use mathlib.Core.Logic.{◌⊎◌, ⊎_elim}
@@ -7,6 +8,7 @@ use Prim.Native.Nat.{ℕ, ◌+◌, ◌-◌, ◌≤◌, ◌<◌}
 use native.Mathlib.Omega.{arith}
 use lib.ListN.{length, get_or, drop, replicate, length-replicate, get_or-replicate, get_or-append}
 use lib.Seq.{length_front, length-take-le, get_or-append-add, get_or-drop}
+use Rattle.judgement.specs.declared.Approved.{Approved}
 use Rattle.laws.proofs.Rungs.{apart}
 use Rattle.answers.specs.Refusals.{refusal_numbers}
 use Rattle.answers.specs.declared.Refusal.{Refusal}
@@ -20,10 +22,6 @@ use Rattle.rules.proofs.Spots.{position_past, outside_past}
 use Rattle.idle.proofs.Theorems.{full_number}
 use Rattle.judgement.specs.Judgement.{Judgement, NotAdmitted, NoRoom, OutsideAt, Clashing, Passed, ComesTo}
 use Rattle.judgement.specs.Verdict.{verdict_of, cleared, table_after, VerdictPromise, OwnerJudgement, NoCell, ByVerdict, OwnerComesTo, read_entry, owner_table_after, owner_of, OwnerPromise, verdict_numbers, owner_numbers}
-use Rattle.judgement.specs.declared.Verdict.{Verdict}
-use Rattle.judgement.specs.declared.Verdict.TheVariants.{Approved, Refused as NotApproved}
-use Rattle.judgement.specs.declared.Owner.{Owner}
-use Rattle.judgement.specs.declared.Owner.TheVariants.{Refused as NoOwner}
 
 -- what an answer of this number leaves in the lent table
 pub record Leaves (card : Card) (before after : List ℕ) (number : ℕ) : Type 0 where
@@ -89,17 +87,17 @@ module _ (card : Card) where
           untouched = λ e. absurd (omega arith);
         }
 
-same_number : (v : Verdict) (entry : ℕ) → (owner_numbers (read_entry v entry)).number ≡ (verdict_numbers v).number
-same_number (Approved e o c) entry = refl
-same_number (NotApproved r) entry = refl
+same_number : (v : Result Approved Refusal) (entry : ℕ) → (owner_numbers (read_entry v entry)).number ≡ (verdict_numbers v).number
+same_number (Ok approval) entry = refl
+same_number (Err r) entry = refl
 
 -- of every outcome of the verdict
-pub verdict_leaves : (card : Card) (before after : List ℕ) (v : Verdict) → VerdictPromise card before after v
+pub verdict_leaves : (card : Card) (before after : List ℕ) (v : Result Approved Refusal) → VerdictPromise card before after v
     → Leaves card before after (verdict_numbers v).number
 verdict_leaves card before after v p = rw (p.answers, p.leaves) (judgement_leaves card before p.judgement p.comes)
 
 -- and of the owner of a cell
-pub owner_leaves : (card : Card) (coordinates before after : List ℕ) (owner : Owner) → OwnerPromise card coordinates before after owner
+pub owner_leaves : (card : Card) (coordinates before after : List ℕ) (owner : Result ℕ Refusal) → OwnerPromise card coordinates before after owner
     → Leaves card before after (owner_numbers owner).number
 owner_leaves card coordinates before after owner p = rw (p.answers, p.leaves) (go p.judgement p.comes)
   where
@@ -110,10 +108,10 @@ owner_leaves card coordinates before after owner p = rw (p.answers, p.leaves) (g
 
 -- refusal 12 of the owner names the smallest axis on which the asked coordinates lie outside the space
 pub owner_outside : (card : Card) (coordinates before after : List ℕ) (axis : ℕ) → length coordinates ≡ length card.lengths
-    → OwnerPromise card coordinates before after (NoOwner (CellOutside axis)) → FirstPast card.lengths coordinates axis
+    → OwnerPromise card coordinates before after (Err (CellOutside axis)) → FirstPast card.lengths coordinates axis
 owner_outside card coordinates before after axis same p = go p.judgement p.comes p.answers
   where
-    named : (j : Judgement) (entry : ℕ) → ComesTo card (length before) j → NoOwner (CellOutside axis) ≡ read_entry (verdict_of card j) entry → ⊥
+    named : (j : Judgement) (entry : ℕ) → ComesTo card (length before) j → Err (CellOutside axis) ≡ read_entry (verdict_of card j) entry → ⊥
     named (NotAdmitted r) entry h e =
         let same-refusal : CellOutside axis ≡ r = cc in
         true≢false (rw (h, sym same-refusal) at (full_number card))
@@ -122,7 +120,7 @@ owner_outside card coordinates before after axis same p = go p.judgement p.comes
     named (Clashing x y cell) entry h e = apart (cc)
     named (Passed owners occupied) entry h e = apart (cc)
 
-    go : (j : OwnerJudgement) → OwnerComesTo card coordinates (length before) j → NoOwner (CellOutside axis) ≡ owner_of card coordinates j before
+    go : (j : OwnerJudgement) → OwnerComesTo card coordinates (length before) j → Err (CellOutside axis) ≡ owner_of card coordinates j before
         → FirstPast card.lengths coordinates axis
     go (NoCell a) h e =
         let found : a ≡ axis = cc in

@@ -1,8 +1,11 @@
 -- Iters past a count play no part in the verdict and in the owner: two cards that differ there alone have the same numbers and the same spots.
+use Rattle.std.specs.Prelude.{Result}
 use mathlib.Core.Path.{◌≡◌, refl, sym, ap, ◌∙◌, subst}
 use mathlib.Core.List.{List, map}
 use Prim.Native.Nat.{ℕ}
 use lib.ListN.{length}
+use Rattle.answers.specs.declared.Refusal.{Refusal}
+use Rattle.judgement.specs.declared.Approved.{Approved}
 use Rattle.card.specs.Lists.{product}
 use Rattle.card.specs.Card.{extent_of, elements, copies, cells}
 use Rattle.card.specs.declared.Card.{Card}
@@ -13,8 +16,6 @@ use Rattle.rules.proofs.Theorems.{same_spot, same_led}
 use Rattle.idle.proofs.Theorems.{past_the_count_idle}
 use Rattle.judgement.specs.Judgement.{placed, LiesInside, AllInside, FirstOutside, Judgement, NotAdmitted, NoRoom, OutsideAt, Clashing, Passed, Judged, ComesTo}
 use Rattle.judgement.specs.Verdict.{verdict_of, table_after, VerdictPromise, asked_spot, OwnerJudgement, NoCell, ByVerdict, OwnerComesTo, owner_table_after, owner_of, OwnerPromise}
-use Rattle.judgement.specs.declared.Verdict.{Verdict}
-use Rattle.judgement.specs.declared.Owner.{Owner}
 
 module _ (a b : Card) (alike : AlikeCards a b) where
   same_elements : elements a ≡ elements b
@@ -67,7 +68,7 @@ module _ (a b : Card) (alike : AlikeCards a b) where
   same_table (Passed owners n) table = rw same_cells
 
   -- what the verdict on the one may answer and leave, the verdict on the other may
-  pub past_the_count_verdict : (before after : List ℕ) (v : Verdict) → VerdictPromise a before after v → VerdictPromise b before after v
+  pub past_the_count_verdict : (before after : List ℕ) (v : Result Approved Refusal) → VerdictPromise a before after v → VerdictPromise b before after v
   past_the_count_verdict before after v p = record {
     judgement = p.judgement;
     comes = comes_alike (length before) p.judgement p.comes;
@@ -92,7 +93,7 @@ module _ (a b : Card) (alike : AlikeCards a b) where
   same_owner_table (ByVerdict j) table = same_table j table
 
   -- and so with the owner of a cell
-  pub past_the_count_owner : (xs before after : List ℕ) (owner : Owner) → OwnerPromise a xs before after owner → OwnerPromise b xs before after owner
+  pub past_the_count_owner : (xs before after : List ℕ) (owner : Result ℕ Refusal) → OwnerPromise a xs before after owner → OwnerPromise b xs before after owner
   past_the_count_owner xs before after owner p = record {
     judgement = p.judgement;
     comes = owner_comes_alike xs (length before) p.judgement p.comes;

@@ -1,4 +1,5 @@
 -- The runs come to judgements that the definitions allow: the search by induction on the elements that are left, the claims by their own law.
+use Rattle.std.specs.Prelude.{Ok, Result, ⊤, Err}
 use mathlib.Core.Path.{◌≡◌, refl, sym, ap, ◌∙◌, subst}
 use mathlib.Core.Bool.{Bool, true, false}
 use mathlib.Core.Logic.{◌⊎◌, ⊎_elim}
@@ -10,11 +11,12 @@ use native.Mathlib.Omega.{arith}
 use lib.Dec.{leb}
 use lib.ListN.{length}
 use borrow.Author.Tests.{leb-true, leb-false, eq-eqb, ne_eqb}
+use Rattle.answers.specs.Refusals.{no_refusal}
+use Rattle.judgement.specs.declared.Approved.{Approved}
+use Rattle.answers.specs.declared.Refusal.{Refusal}
 use Rattle.laws.proofs.Order.{le_or_lt}
 use Rattle.card.specs.Card.{elements, copies, cells}
 use Rattle.card.specs.declared.Card.{Card}
-use Rattle.card.specs.declared.Admission.{Admission}
-use Rattle.card.specs.declared.Admission.TheVariants.{Admitted, Refused}
 use Rattle.rules.specs.Rules.{spot}
 use Rattle.rules.specs.Reuse.{leader}
 use Rattle.rules.specs.Copies.{cell_of}
@@ -28,8 +30,6 @@ use Rattle.claims.proofs.Rows.{smaller_is}
 use Rattle.claims.proofs.Run.{run_comes}
 use Rattle.judgement.specs.Judgement.{placed, LiesInside, AllInside, FirstOutside, Judgement, Judged, ComesTo}
 use Rattle.judgement.specs.Verdict.{verdict_of, table_after, VerdictPromise, asked_spot, OwnerJudgement, OwnerComesTo, owner_table_after, owner_of, OwnerPromise}
-use Rattle.judgement.specs.declared.Verdict.{Verdict}
-use Rattle.judgement.specs.declared.Owner.{Owner}
 use Rattle.judgement.specs.Run.{axis_entry, axis_met, claimed, judge_from, judge_with, judge_after, judge, owner_at, owner_after, owner_run}
 use Rattle.judgement.proofs.Unique.{not_both, judgement_unique, owner_judgement_unique}
 
@@ -145,21 +145,21 @@ module _ (card : Card) where
   pub judge_comes : (room : ℕ) → ComesTo card room (judge card room)
   judge_comes room = after (full_admission card) refl
     where
-      with_room : (b : Bool) → leb (cells card) room ≡ b → full_admission card ≡ Admitted → ComesTo card room (judge_with card b)
+      with_room : (b : Bool) → leb (cells card) room ≡ b → full_admission card ≡ no_refusal → ComesTo card room (judge_with card b)
       with_room true t e =
           judge_from_lem room (record { admitted = e; enough = leb-true (cells card) room t }) (elements card) 0 (zero-add (elements card))
           (λ f r h. absurd (omega arith))
       with_room false t e = (e, leb-false (cells card) room t)
 
-      after : (a : Admission) → full_admission card ≡ a → ComesTo card room (judge_after card room a)
-      after Admitted e = with_room (leb (cells card) room) refl e
-      after (Refused refusal) e = e
+      after : (a : Result ⊤ Refusal) → full_admission card ≡ a → ComesTo card room (judge_after card room a)
+      after (Ok _) e = with_room (leb (cells card) room) refl e
+      after (Err refusal) e = e
 
   -- a judgement that a card comes to is the one of the run, so a load that the run computes is a load of the promise
   pub judgement_is_run : (room : ℕ) (j : Judgement) → ComesTo card room j → j ≡ judge card room
   judgement_is_run room j h = judgement_unique card room j (judge card room) h (judge_comes room)
 
-  pub verdict_is_run : (before after : List ℕ) (v : Verdict) → VerdictPromise card before after v
+  pub verdict_is_run : (before after : List ℕ) (v : Result Approved Refusal) → VerdictPromise card before after v
       → (v ≡ verdict_of card (judge card (length before))) × (after ≡ table_after card (judge card (length before)) before)
   verdict_is_run before after v h =
       let same = judgement_is_run (length before) h.judgement h.comes in (
@@ -171,15 +171,15 @@ module _ (card : Card) where
   pub owner_run_comes : (coordinates : List ℕ) (room : ℕ) → OwnerComesTo card coordinates room (owner_run card coordinates room)
   owner_run_comes coordinates room = after (full_admission card) refl
     where
-      at_spot : (s : Spot) → asked_spot card coordinates ≡ s → full_admission card ≡ Admitted → OwnerComesTo card coordinates room (owner_at card room s)
+      at_spot : (s : Spot) → asked_spot card coordinates ≡ s → full_admission card ≡ no_refusal → OwnerComesTo card coordinates room (owner_at card room s)
       at_spot (Inside cell) q e = (λ h. rw q tt, judge_comes room)
       at_spot (Outside axis) q e = (e, q)
 
-      after : (a : Admission) → full_admission card ≡ a → OwnerComesTo card coordinates room (owner_after card coordinates room a)
-      after Admitted e = at_spot (asked_spot card coordinates) refl e
-      after (Refused refusal) e = (λ h. absurd (not_both card e h), e)
+      after : (a : Result ⊤ Refusal) → full_admission card ≡ a → OwnerComesTo card coordinates room (owner_after card coordinates room a)
+      after (Ok _) e = at_spot (asked_spot card coordinates) refl e
+      after (Err refusal) e = (λ h. absurd (not_both card e h), e)
 
-  pub owner_is_run : (coordinates before after : List ℕ) (owner : Owner) → OwnerPromise card coordinates before after owner
+  pub owner_is_run : (coordinates before after : List ℕ) (owner : Result ℕ Refusal) → OwnerPromise card coordinates before after owner
       → (owner ≡ owner_of card coordinates (owner_run card coordinates (length before)) before)
       × (after ≡ owner_table_after card (owner_run card coordinates (length before)) before)
   owner_is_run coordinates before after owner h =

@@ -1,4 +1,5 @@
 -- What the definitions of the verdict and of the owner mean, in plain for-alls: demand 3, and the numbers.
+use Rattle.std.specs.Prelude.{Result, Err, Ok}
 use mathlib.Core.Path.{◌≡◌, refl, sym, ap, ◌∙◌, subst}
 use mathlib.Core.Logic.{◌↔◌, ⊎_elim}
 use mathlib.Core.List.{List, ◌++◌}
@@ -8,6 +9,8 @@ use native.Mathlib.Omega.{arith}
 use borrow.Author.Tests.{eq-eqb}
 use lib.ListN.{length, get_or, take, drop, get_or-append}
 use lib.Seq.{take_at}
+use Rattle.answers.specs.Refusals.{no_refusal}
+use Rattle.judgement.specs.declared.Approved.{Approved}
 use Rattle.answers.specs.declared.Cell.{Cell}
 use Rattle.answers.specs.declared.Flat.{Flat}
 use Rattle.answers.specs.declared.Numbers.{Numbers}
@@ -17,7 +20,6 @@ use Rattle.answers.proofs.OneToOne.{read_back, refused_back, pinned}
 use Rattle.card.specs.Card.{elements, copies, cells}
 use Rattle.card.specs.Admission.{admission}
 use Rattle.card.specs.declared.Card.{Card}
-use Rattle.card.specs.declared.Admission.TheVariants.{Admitted}
 use Rattle.rules.specs.Rules.{spot}
 use Rattle.rules.specs.Copies.{cell_of}
 use Rattle.rules.specs.Reuse.{own_components, AreOne, leader, Unmarked}
@@ -30,17 +32,13 @@ use Rattle.claims.specs.Claims.{Claims, Share, occupied, OwnedTable as Owned, Fi
 use Rattle.claims.specs.Outcome.{NoneShare}
 use Rattle.claims.proofs.Theorems.{owners_none_share, clash_shares, nobody_exactly}
 use Rattle.judgement.specs.Judgement.{placed, LiesInside, AllInside, FirstOutside, Judgement, NotAdmitted, NoRoom, OutsideAt, Clashing, Passed, ComesTo}
-use Rattle.judgement.specs.Verdict.{verdict_of, table_after, VerdictPromise, asked_spot, OwnerJudgement, NoCell, ByVerdict, OwnerComesTo, read_entry, owner_table_after, owner_of, OwnerPromise, verdict_numbers, owner_numbers}
+use Rattle.judgement.specs.Verdict.{verdict_of, table_after, VerdictPromise, asked_spot, OwnerJudgement, NoCell, ByVerdict, OwnerComesTo, read_entry, owner_table_after, owner_of, OwnerPromise, verdict_numbers, owner_numbers, approved_with}
 use Rattle.judgement.specs.Plain.{HasCopyIn, SmallestIn, ShareCell, FirstShared, OneClassACell}
-use Rattle.judgement.specs.declared.Verdict.{Verdict}
-use Rattle.judgement.specs.declared.Verdict.TheVariants.{Approved, Refused}
-use Rattle.judgement.specs.declared.Owner.{Owner}
-use Rattle.judgement.specs.declared.Owner.TheVariants.{Entry, Refused as NoOwner}
 use Rattle.judgement.proofs.Unique.{not_both, inside_not_outside, judgement_unique, owner_judgement_unique}
 use Rattle.judgement.proofs.Run.{lies_inside, some_leads}
 
 -- two outcomes that the promise of the verdict allows are equal
-pub verdict_settled : (card : Card) (before a b : List ℕ) (v w : Verdict) → VerdictPromise card before a v → VerdictPromise card before b w
+pub verdict_settled : (card : Card) (before a b : List ℕ) (v w : Result Approved Refusal) → VerdictPromise card before a v → VerdictPromise card before b w
     → (a ≡ b) × (v ≡ w)
 verdict_settled card before a b v w h k =
     let same = judgement_unique card (length before) h.judgement k.judgement h.comes k.comes in (
@@ -49,7 +47,7 @@ verdict_settled card before a b v w h k =
     )
 
 -- and so are two that the promise of the owner of a cell allows
-pub owner_settled : (card : Card) (coordinates before a b : List ℕ) (v w : Owner) → OwnerPromise card coordinates before a v
+pub owner_settled : (card : Card) (coordinates before a b : List ℕ) (v w : Result ℕ Refusal) → OwnerPromise card coordinates before a v
     → OwnerPromise card coordinates before b w → (a ≡ b) × (v ≡ w)
 owner_settled card coordinates before a b v w h k =
     let same = owner_judgement_unique card coordinates (length before) h.judgement k.judgement h.comes k.comes in (
@@ -58,12 +56,12 @@ owner_settled card coordinates before a b v w h k =
     )
 
 -- a verdict is an approval
-abbrev pub IsApproval : Verdict → Type 0
-IsApproval (Approved elements occupied cells) = Unit
-IsApproval (Refused refusal) = ⊥
+abbrev pub IsApproval : Result Approved Refusal → Type 0
+IsApproval (Ok approval) = Unit
+IsApproval (Err refusal) = ⊥
 
 -- demand 3 of an outcome of the verdict
-pub record Demand3 (card : Card) (after : List ℕ) (verdict : Verdict) : Type 0 where
+pub record Demand3 (card : Card) (after : List ℕ) (verdict : Result Approved Refusal) : Type 0 where
   -- approved exactly when every copy of every element lies in the stated space and no two elements that are not one share a cell
   pub approved : IsApproval verdict ↔ (AllInside card × OneClassACell card)
   -- once approved, each cell's owner is the smallest of the one class placed there
@@ -71,7 +69,7 @@ pub record Demand3 (card : Card) (after : List ℕ) (verdict : Verdict) : Type 0
   -- or nobody exactly when none is
   pub nobody : IsApproval verdict → (c : ℕ) → c < cells card → (get_or after c 0 ≡ 0) ↔ ((f : ℕ) → f < elements card → HasCopyIn card f c → ⊥)
   -- and the answer has elements, occupied cells, cells
-  pub counts : IsApproval verdict → verdict ≡ Approved (elements card) (occupied (take (cells card) after)) (cells card)
+  pub counts : IsApproval verdict → verdict ≡ approved_with (elements card) (occupied (take (cells card) after)) (cells card)
 
 -- an element that leads has its copies, one that follows has none
 module _ (card : Card) (f : ℕ) where
@@ -97,7 +95,7 @@ claims_copy card inside f c h k =
       there = rw (sym k.there) (lies_inside (spot card f k.copy) (inside f k.copy h (claimed_below card f c k)));
     }
 
-module _ (card : Card) (admitted : admission card ≡ Admitted) where
+module _ (card : Card) (admitted : admission card ≡ no_refusal) where
   -- elements that are one have their copies in the same cells
   pub one_copy : (f g c : ℕ) → AreOne card f g → HasCopyIn card f c → HasCopyIn card g c
   one_copy f g c one h =
@@ -125,7 +123,7 @@ module _ (card : Card) (admitted : admission card ≡ Admitted) where
   )
 
   -- a refusal, where some copy lies outside or two elements that are not one share a cell
-  demand_3_refused : (after : List ℕ) (r : Refusal) → (AllInside card × OneClassACell card → ⊥) → Demand3 card after (Refused r)
+  demand_3_refused : (after : List ℕ) (r : Refusal) → (AllInside card × OneClassACell card → ⊥) → Demand3 card after (Err r)
   demand_3_refused after r not_so =
       record {
         approved = (λ h. absurd h, not_so);
@@ -155,7 +153,7 @@ module _ (card : Card) (admitted : admission card ≡ Admitted) where
 
   -- an approval, from the owners of the cells
   demand_3_passed : (owners past : List ℕ) (n : ℕ) → AllInside card → Owned (placed card) (elements card) (cells card) owners n
-      → Demand3 card (owners ++ past) (Approved (elements card) n (cells card))
+      → Demand3 card (owners ++ past) (approved_with (elements card) n (cells card))
   demand_3_passed owners past n inside a =
       let entry : (c : ℕ) → c < cells card → get_or (owners ++ past) c 0 ≡ get_or owners c 0 =
       λ c h. get_or-append owners past 0 c (omega (arith, a.size)) in
@@ -173,14 +171,14 @@ module _ (card : Card) (admitted : admission card ≡ Admitted) where
           λ none. entry c k ∙ (nobody c).1 (λ f below has. none f below (claims_copy card inside f c below has)),
         );
         counts = λ h.
-            ap (λ (m : ℕ). Approved (elements card) m (cells card))
+            ap (λ (m : ℕ). approved_with (elements card) m (cells card))
             (a.counted ∙ ap occupied (sym (take_at owners past (cells card) a.size)));
       }
 
 -- Demand 3, for a layout whose numbers lie within the limits and which has no two replica combinations with the same sums, and a long enough
 -- table: approved exactly when every copy of every element lies in the stated space and no two elements that are not one share a cell; once
 -- approved, each cell's owner is the smallest of the one class placed there, or nobody exactly when none is
-pub demand_3 : (card : Card) (before after : List ℕ) (verdict : Verdict) → admission card ≡ Admitted → NoIdlePair card.replica
+pub demand_3 : (card : Card) (before after : List ℕ) (verdict : Result Approved Refusal) → admission card ≡ no_refusal → NoIdlePair card.replica
     → cells card ≤ length before → VerdictPromise card before after verdict → Demand3 card after verdict
 demand_3 card before after verdict admitted no_pair long p = rw (p.answers, p.leaves) (go p.judgement p.comes)
   where
@@ -199,7 +197,7 @@ OneElementACell card = (x y r s : ℕ) (c : Cell) → x < elements card → y < 
     → spot card x r ≡ Inside c → spot card y s ≡ Inside c → x ≡ y
 
 -- demand 3 as document 01 has it, of a card without marks
-pub record Demand3Unmarked (card : Card) (after : List ℕ) (verdict : Verdict) : Type 0 where
+pub record Demand3Unmarked (card : Card) (after : List ℕ) (verdict : Result Approved Refusal) : Type 0 where
   -- approved exactly when every copy of every element lies in the stated space and no two different elements share a cell
   pub approved : IsApproval verdict ↔ (AllInside card × OneElementACell card)
   -- once approved, each cell's owner is the one element placed there
@@ -207,9 +205,9 @@ pub record Demand3Unmarked (card : Card) (after : List ℕ) (verdict : Verdict) 
   -- or nobody exactly when none is
   pub nobody : IsApproval verdict → (c : ℕ) → c < cells card → (get_or after c 0 ≡ 0) ↔ ((f : ℕ) → f < elements card → HasCopyIn card f c → ⊥)
   -- and the answer has elements, occupied cells, cells
-  pub counts : IsApproval verdict → verdict ≡ Approved (elements card) (occupied (take (cells card) after)) (cells card)
+  pub counts : IsApproval verdict → verdict ≡ approved_with (elements card) (occupied (take (cells card) after)) (cells card)
 
-pub demand_3_unmarked : (card : Card) (before after : List ℕ) (verdict : Verdict) → Unmarked card → admission card ≡ Admitted
+pub demand_3_unmarked : (card : Card) (before after : List ℕ) (verdict : Result Approved Refusal) → Unmarked card → admission card ≡ no_refusal
     → NoIdlePair card.replica → cells card ≤ length before → VerdictPromise card before after verdict → Demand3Unmarked card after verdict
 demand_3_unmarked card before after verdict none admitted no_pair long p =
     let d = demand_3 card before after verdict admitted no_pair long p in
@@ -236,7 +234,7 @@ demand_3_unmarked card before after verdict none admitted no_pair long p =
     }
 
 -- the first clash of the leaders is the first over all elements
-module _ (card : Card) (admitted : admission card ≡ Admitted) (x y cell : ℕ) (inside : AllInside card)
+module _ (card : Card) (admitted : admission card ≡ no_refusal) (x y cell : ℕ) (inside : AllInside card)
     (k : FirstClash (placed card) (elements card) x y cell) where
   x_below : x < elements card
   x_below = omega (arith, k.ordered, k.element)
@@ -285,7 +283,7 @@ module _ (card : Card) (admitted : admission card ≡ Admitted) (x y cell : ℕ)
   }
 
 -- and the first over all elements is the first clash of the leaders
-module _ (card : Card) (admitted : admission card ≡ Admitted) (x y cell : ℕ) (inside : AllInside card) (k : FirstShared card x y cell) where
+module _ (card : Card) (admitted : admission card ≡ no_refusal) (x y cell : ℕ) (inside : AllInside card) (k : FirstShared card x y cell) where
   below_x : x < elements card
   below_x = omega (arith, k.ordered, k.element)
 
@@ -344,19 +342,19 @@ module _ (card : Card) (admitted : admission card ≡ Admitted) (x y cell : ℕ)
   }
 
 -- an approval comes of a judgement that all is passed
-pub approved_passed : (card : Card) (before after : List ℕ) (verdict : Verdict) → VerdictPromise card before after verdict → IsApproval verdict
-    → (owners : List ℕ) × (n : ℕ) × ComesTo card (length before) (Passed owners n) × (verdict ≡ Approved (elements card) n (cells card))
+pub approved_passed : (card : Card) (before after : List ℕ) (verdict : Result Approved Refusal) → VerdictPromise card before after verdict → IsApproval verdict
+    → (owners : List ℕ) × (n : ℕ) × ComesTo card (length before) (Passed owners n) × (verdict ≡ approved_with (elements card) n (cells card))
 approved_passed card before after verdict p h = go p.judgement p.comes p.answers
   where
     go : (j : Judgement) → ComesTo card (length before) j → verdict ≡ verdict_of card j
-        → (owners : List ℕ) × (n : ℕ) × ComesTo card (length before) (Passed owners n) × (verdict ≡ Approved (elements card) n (cells card))
+        → (owners : List ℕ) × (n : ℕ) × ComesTo card (length before) (Passed owners n) × (verdict ≡ approved_with (elements card) n (cells card))
     go (NotAdmitted r) c e = absurd (subst IsApproval e h)
     go NoRoom c e = absurd (subst IsApproval e h)
     go (OutsideAt flat axis) c e = absurd (subst IsApproval e h)
     go (Clashing x y cell) c e = absurd (subst IsApproval e h)
     go (Passed owners n) c e = (owners, n, c, e)
 
-module _ (card : Card) (before after : List ℕ) (verdict : Verdict) (admitted : admission card ≡ Admitted) (no_pair : NoIdlePair card.replica)
+module _ (card : Card) (before after : List ℕ) (verdict : Result Approved Refusal) (admitted : admission card ≡ no_refusal) (no_pair : NoIdlePair card.replica)
     (long : cells card ≤ length before) (promise : VerdictPromise card before after verdict) where
   demand : Demand3 card after verdict
   demand = demand_3 card before after verdict admitted no_pair long promise
@@ -382,10 +380,10 @@ module _ (card : Card) (before after : List ℕ) (verdict : Verdict) (admitted :
 
   -- x, y and the cell of refusal 8, over all elements: y is the smallest that shares a cell with a smaller one that is not one with it, x the smallest
   -- such for y, and the cell the smallest that they share
-  pub clash_means : (x y : Flat) (cell : Cell) → verdict ≡ Refused (Shared x y cell) → FirstShared card x.0 y.0 cell.0
+  pub clash_means : (x y : Flat) (cell : Cell) → verdict ≡ Err (Shared x y cell) → FirstShared card x.0 y.0 cell.0
   clash_means x y cell e = go promise.judgement promise.comes (sym promise.answers ∙ e)
     where
-      go : (j : Judgement) → ComesTo card (length before) j → verdict_of card j ≡ Refused (Shared x y cell) → FirstShared card x.0 y.0 cell.0
+      go : (j : Judgement) → ComesTo card (length before) j → verdict_of card j ≡ Err (Shared x y cell) → FirstShared card x.0 y.0 cell.0
       go (NotAdmitted r) h q = absurd (not_both card h ((admitted_exactly card).1 (admitted, no_pair)))
       go NoRoom h q = absurd (omega arith)
       go (OutsideAt flat axis) h q = absurd (omega (arith, ap (λ v. (verdict_numbers v).number) q))
@@ -397,7 +395,7 @@ module _ (card : Card) (before after : List ℕ) (verdict : Verdict) (admitted :
       go (Passed owners n) h q = absurd (omega (arith, ap (λ v. (verdict_numbers v).number) q))
 
   -- 7 is given exactly with the first: the smallest flat of which a copy lies outside the space, and the smallest axis for it
-  pub outside_means : (flat : Flat) (axis : ℕ) → (verdict ≡ Refused (CopyOutside flat axis)) ↔ FirstOutside card flat.0 axis
+  pub outside_means : (flat : Flat) (axis : ℕ) → (verdict ≡ Err (CopyOutside flat axis)) ↔ FirstOutside card flat.0 axis
   outside_means flat axis = (
     λ e. go promise.judgement promise.comes (sym promise.answers ∙ e),
     λ first.
@@ -407,7 +405,7 @@ module _ (card : Card) (before after : List ℕ) (verdict : Verdict) (admitted :
         (record { admitted = (admitted_exactly card).1 (admitted, no_pair); enough = long }, first)),
   )
     where
-      go : (j : Judgement) → ComesTo card (length before) j → verdict_of card j ≡ Refused (CopyOutside flat axis) → FirstOutside card flat.0 axis
+      go : (j : Judgement) → ComesTo card (length before) j → verdict_of card j ≡ Err (CopyOutside flat axis) → FirstOutside card flat.0 axis
       go (NotAdmitted r) h q = absurd (not_both card h ((admitted_exactly card).1 (admitted, no_pair)))
       go NoRoom h q = absurd (omega arith)
       go (OutsideAt f a) h q =
@@ -418,13 +416,13 @@ module _ (card : Card) (before after : List ℕ) (verdict : Verdict) (admitted :
       go (Passed owners n) h q = absurd (omega (arith, ap (λ v. (verdict_numbers v).number) q))
 
 -- the owner of a cell is the verdict with one entry read, for coordinates that name a cell
-pub owner_by_verdict : (card : Card) (coordinates before after : List ℕ) (owner : Owner) (cell : Cell)
+pub owner_by_verdict : (card : Card) (coordinates before after : List ℕ) (owner : Result ℕ Refusal) (cell : Cell)
     → asked_spot card coordinates ≡ Inside cell → OwnerPromise card coordinates before after owner
-    → (v : Verdict) × VerdictPromise card before after v × (owner ≡ read_entry v (get_or after cell.0 0))
+    → (v : Result Approved Refusal) × VerdictPromise card before after v × (owner ≡ read_entry v (get_or after cell.0 0))
 owner_by_verdict card coordinates before after owner cell asked p = go p.judgement p.comes p.answers p.leaves
   where
     go : (j : OwnerJudgement) → OwnerComesTo card coordinates (length before) j → owner ≡ owner_of card coordinates j before
-        → after ≡ owner_table_after card j before → (v : Verdict) × VerdictPromise card before after v × (owner ≡ read_entry v (get_or after cell.0 0))
+        → after ≡ owner_table_after card j before → (v : Result Approved Refusal) × VerdictPromise card before after v × (owner ≡ read_entry v (get_or after cell.0 0))
     go (NoCell axis) h e l = absurd (subst LiesInside (sym asked ∙ h.1) tt)
     go (ByVerdict j) h e l = (
       verdict_of card j,
@@ -433,20 +431,20 @@ owner_by_verdict card coordinates before after owner cell asked p = go p.judgeme
     )
 
 -- pinning the numbers pins the answer
-approval : Numbers → Verdict
-approval n = Approved n.a n.b n.c
+approval : Numbers → Result Approved Refusal
+approval n = approved_with n.a n.b n.c
 
-verdict_back : (v : Verdict) → read_back approval Refused (verdict_numbers v) ≡ v
+verdict_back : (v : Result Approved Refusal) → read_back approval Err (verdict_numbers v) ≡ v
 unfolding approval
-verdict_back (Approved e o c) = refl
-verdict_back (Refused r) = refused_back approval Refused r
+verdict_back (Ok approval) = refl
+verdict_back (Err r) = refused_back approval Err r
 
-pub verdict_one_to_one : (v w : Verdict) → verdict_numbers v ≡ verdict_numbers w → v ≡ w
-verdict_one_to_one = pinned approval Refused verdict_numbers verdict_back
+pub verdict_one_to_one : (v w : Result Approved Refusal) → verdict_numbers v ≡ verdict_numbers w → v ≡ w
+verdict_one_to_one = pinned approval Err verdict_numbers verdict_back
 
-owner_back : (o : Owner) → read_back (λ n. Entry n.a) NoOwner (owner_numbers o) ≡ o
-owner_back (Entry entry) = refl
-owner_back (NoOwner r) = refused_back (λ n. Entry n.a) NoOwner r
+owner_back : (o : Result ℕ Refusal) → read_back (λ n. Ok n.a) Err (owner_numbers o) ≡ o
+owner_back (Ok entry) = refl
+owner_back (Err r) = refused_back (λ n. Ok n.a) Err r
 
-pub owner_one_to_one : (o q : Owner) → owner_numbers o ≡ owner_numbers q → o ≡ q
-owner_one_to_one = pinned (λ n. Entry n.a) NoOwner owner_numbers owner_back
+pub owner_one_to_one : (o q : Result ℕ Refusal) → owner_numbers o ≡ owner_numbers q → o ≡ q
+owner_one_to_one = pinned (λ n. Ok n.a) Err owner_numbers owner_back

@@ -1,13 +1,14 @@
 -- What a card comes to is unique: each case repeats the condition under which it is given, so two different cases contradict each other.
+use Rattle.std.specs.Prelude.{Err, Ok}
 use mathlib.Core.Path.{◌≡◌, refl, sym, ap, ap₂, subst}
 use mathlib.Core.List.{List}
 use Prim.Native.Nat.{ℕ}
 use native.Mathlib.Omega.{arith}
+use Rattle.answers.specs.Refusals.{no_refusal}
 use Rattle.laws.proofs.Rungs.{apart}
 use Rattle.answers.specs.declared.Refusal.{Refusal}
 use Rattle.card.specs.Card.{elements, cells}
 use Rattle.card.specs.declared.Card.{Card}
-use Rattle.card.specs.declared.Admission.TheVariants.{Admitted, Refused}
 use Rattle.idle.specs.Admission.{full_admission}
 use Rattle.claims.specs.Outcome.{Outcome, Owned, Clash, ClaimsComeTo as Comes}
 use Rattle.claims.proofs.Theorems.{outcome_unique}
@@ -17,7 +18,7 @@ use Rattle.judgement.specs.Run.{claimed}
 
 module _ (card : Card) where
   -- a card is not both refused and admitted
-  pub not_both : {r : Refusal} → full_admission card ≡ Refused r → full_admission card ≡ Admitted → ⊥
+  pub not_both : {r : Refusal} → full_admission card ≡ Err r → full_admission card ≡ no_refusal → ⊥
   not_both e f = apart (cc)
 
   -- where every copy lies inside, none lies outside

@@ -1,9 +1,9 @@
 -- What a card comes to in a table of so many entries: the order 1, 2, 3, 4, 5, 6, 17, 11, 7, 8 of document 01 with document 02's 17.
-use Rattle.std.specs.Prelude.{◌≡◌, cond, List, ℕ, ◌≤◌, ◌<◌, eqb}
+use Rattle.std.specs.Prelude.{◌≡◌, cond, List, ℕ, ◌≤◌, ◌<◌, eqb, Ok, Err}
+use Rattle.answers.specs.Refusals.{no_refusal}
 use Rattle.answers.specs.declared.Refusal.{Refusal}
 use Rattle.card.specs.Card.{elements, copies, cells}
 use Rattle.card.specs.declared.Card.{Card}
-use Rattle.card.specs.declared.Admission.TheVariants.{Admitted, Refused}
 use Rattle.rules.specs.Rules.{spot}
 use Rattle.rules.specs.Copies.{cell_of}
 use Rattle.rules.specs.Reuse.{leader}
@@ -47,12 +47,12 @@ pub data Judgement : Type 0 where
 
 -- checks 1 to 6, 17 and 11 are passed
 pub record Judged (card : Card) (room : ℕ) : Type 0 where
-  pub admitted : full_admission card ≡ Admitted
+  pub admitted : full_admission card ≡ no_refusal
   pub enough : cells card ≤ room
 
 abbrev pub ComesTo : Card → ℕ → Judgement → Type 0
-ComesTo card room (NotAdmitted refusal) = full_admission card ≡ Refused refusal
-ComesTo card room NoRoom = (full_admission card ≡ Admitted) × (room < cells card)
+ComesTo card room (NotAdmitted refusal) = full_admission card ≡ Err refusal
+ComesTo card room NoRoom = (full_admission card ≡ no_refusal) × (room < cells card)
 ComesTo card room (OutsideAt flat axis) = Judged card room × FirstOutside card flat axis
 ComesTo card room (Clashing x y cell) = Judged card room × AllInside card × FirstClash (placed card) (elements card) x y cell
 ComesTo card room (Passed owners occupied) =

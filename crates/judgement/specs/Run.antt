@@ -1,10 +1,9 @@
 -- The verdict and the owner run, so that loads compute. Nothing here has to be believed: proofs/Run.antt shows that a run comes to the one
 -- judgement that Judgement.antt allows.
-use Rattle.std.specs.Prelude.{Bool, true, false, List, ℕ, zero, suc, ◌+◌, leb}
+use Rattle.std.specs.Prelude.{Bool, true, false, List, ℕ, zero, suc, ◌+◌, leb, Result, ⊤, Ok, Err}
+use Rattle.answers.specs.declared.Refusal.{Refusal}
 use Rattle.card.specs.Card.{elements, copies, cells}
 use Rattle.card.specs.declared.Card.{Card}
-use Rattle.card.specs.declared.Admission.{Admission}
-use Rattle.card.specs.declared.Admission.TheVariants.{Admitted, Refused}
 use Rattle.rules.specs.Rules.{spot}
 use Rattle.rules.specs.declared.Spot.{Spot}
 use Rattle.rules.specs.declared.Spot.TheVariants.{Inside, Outside}
@@ -39,9 +38,9 @@ abbrev pub judge_with : Card → Bool → Judgement
 judge_with card true = judge_from card (elements card) 0
 judge_with card false = NoRoom
 
-abbrev pub judge_after : Card → ℕ → Admission → Judgement
-judge_after card room Admitted = judge_with card (leb (cells card) room)
-judge_after card room (Refused refusal) = NotAdmitted refusal
+abbrev pub judge_after : Card → ℕ → Result ⊤ Refusal → Judgement
+judge_after card room (Ok _) = judge_with card (leb (cells card) room)
+judge_after card room (Err refusal) = NotAdmitted refusal
 
 -- what a card comes to in a table of so many entries
 abbrev pub judge : Card → ℕ → Judgement
@@ -51,9 +50,9 @@ abbrev pub owner_at : Card → ℕ → Spot → OwnerJudgement
 owner_at card room (Inside cell) = ByVerdict (judge card room)
 owner_at card room (Outside axis) = NoCell axis
 
-abbrev pub owner_after : Card → List ℕ → ℕ → Admission → OwnerJudgement
-owner_after card coordinates room Admitted = owner_at card room (asked_spot card coordinates)
-owner_after card coordinates room (Refused refusal) = ByVerdict (NotAdmitted refusal)
+abbrev pub owner_after : Card → List ℕ → ℕ → Result ⊤ Refusal → OwnerJudgement
+owner_after card coordinates room (Ok _) = owner_at card room (asked_spot card coordinates)
+owner_after card coordinates room (Err refusal) = ByVerdict (NotAdmitted refusal)
 
 -- and what asking for the owner of a cell comes to
 abbrev pub owner_run : Card → List ℕ → ℕ → OwnerJudgement

@@ -1,22 +1,25 @@
 // What a layout card comes to, in the order of checks: the answers of the verdict and of the owner of a cell, and demand 3. There are no functions.
 #![tactic(auto)]
 
-use answers::Refusal;
+use answers::{Details, Numbers};
 
 // The answer to the verdict: elements, occupied cells and cells of an approved card.
 #[derive(Clone, Copy)]
-pub enum Verdict {
-    Approved {
-        elements: u64,
-        occupied: u64,
-        cells: u64,
-    },
-    Refused(Refusal),
+pub struct Approved {
+    pub elements: u64,
+    pub occupied: u64,
+    pub cells: u64,
 }
 
-// The answer to the owner of a cell: the entry read, the flat index plus 1, or 0 for nobody.
-#[derive(Clone, Copy)]
-pub enum Owner {
-    Entry(u64),
-    Refused(Refusal),
+impl Details for Approved {
+    ghost use Rattle.std.specs.Prelude.{refl};
+    ghost use Rattle.judgement.specs.Verdict.{approved_numbers};
+
+    ghost as_numbers = { approved_numbers };
+
+    ghost reads_back = { (λ n. record { elements = n.a; occupied = n.b; cells = n.c }, λ x. (refl, refl)) };
+
+    fn details(self) -> Numbers {
+        answers::answer(0, self.elements, self.occupied, self.cells)
+    }
 }

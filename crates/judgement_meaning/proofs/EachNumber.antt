@@ -1,17 +1,18 @@
 -- Each number of the verdict and of the owner by itself, for every card and all arguments: 1 to 6, 17, 12, 11, 7, 8 and 0, each exactly when it is given and with
 -- its details; what the card comes to names one of them, and no two are alike.
+use Rattle.std.specs.Prelude.{Result, Err}
 use mathlib.Core.Path.{◌≡◌, refl, sym, ap, ◌∙◌, subst}
 use mathlib.Core.Logic.{◌⊎◌, inl, inr, ◌↔◌, ⊎_elim}
 use mathlib.Core.List.{List}
 use Prim.Native.Nat.{ℕ, ◌≤◌, ◌<◌}
 use native.Mathlib.Omega.{arith}
 use lib.ListN.{length, get_or, take}
+use Rattle.judgement.specs.declared.Approved.{Approved}
 use Rattle.answers.specs.Refusals.{answer, refusal_numbers}
 use Rattle.answers.specs.declared.Numbers.{Numbers}
 use Rattle.answers.specs.declared.Refusal.{Refusal}
 use Rattle.card.specs.Card.{elements, cells}
 use Rattle.card.specs.declared.Card.{Card}
-use Rattle.card.specs.declared.Admission.TheVariants.{Refused}
 use Rattle.card.proofs.Admitted.{checked}
 use Rattle.card.proofs.Theorems.{after_six}
 use Rattle.card.proofs.Within.{WithinLimits, within_limits_exactly}
@@ -28,11 +29,8 @@ use Rattle.idle.proofs.EachNumber.{Late, Free, OfAdmission, free_exactly, of_adm
 use Rattle.claims.specs.Claims.{occupied}
 use Rattle.claims.proofs.Theorems.{owners_none_share}
 use Rattle.judgement.specs.Judgement.{placed, AllInside, FirstOutside, Judgement, NotAdmitted, NoRoom, OutsideAt, Clashing, Passed, ComesTo}
-use Rattle.judgement.specs.Verdict.{verdict_of, VerdictPromise, asked_spot, OwnerJudgement, NoCell, ByVerdict, OwnerComesTo, read_entry, owner_of, OwnerPromise, verdict_numbers, owner_numbers}
+use Rattle.judgement.specs.Verdict.{verdict_of, VerdictPromise, asked_spot, OwnerJudgement, NoCell, ByVerdict, OwnerComesTo, read_entry, owner_of, OwnerPromise, verdict_numbers, owner_numbers, approved_with}
 use Rattle.judgement.specs.Plain.{OneClassACell, FirstShared, VerdictSays, OwnerSays}
-use Rattle.judgement.specs.declared.Verdict.{Verdict}
-use Rattle.judgement.specs.declared.Verdict.TheVariants.{Approved, Refused as NotApproved}
-use Rattle.judgement.specs.declared.Owner.{Owner}
 use Rattle.judgement.proofs.Unique.{not_both, judgement_unique}
 use Rattle.judgement.proofs.Theorems.{one_class_exactly, first_shared_lem, demand_3, owner_by_verdict}
 use Rattle.judgement.proofs.InNumbers.{table_in_numbers, owner_in_numbers}
@@ -80,8 +78,8 @@ same_shared card {u} {v} {w} {x} {y} {cell} first e =
     let same_cell : w ≡ cell = ap (λ (m : Numbers). m.c) e in
     rw (sym same_x, sym same_y, sym same_cell) first
 
-module _ (card : Card) (before after : List ℕ) (v : Verdict) (p : VerdictPromise card before after v) (numbers : Verdict → Numbers)
-    (refused : (r : Refusal) → numbers (NotApproved r) ≡ refusal_numbers r) (zero_number : (e o c : ℕ) → (numbers (Approved e o c)).number ≡ 0) where
+module _ (card : Card) (before after : List ℕ) (v : Result Approved Refusal) (p : VerdictPromise card before after v) (numbers : Result Approved Refusal → Numbers)
+    (refused : (r : Refusal) → numbers (Err r) ≡ refusal_numbers r) (zero_number : (e o c : ℕ) → (numbers (approved_with e o c)).number ≡ 0) where
   abbrev n : Numbers
   n = numbers v
 
@@ -89,10 +87,10 @@ module _ (card : Card) (before after : List ℕ) (v : Verdict) (p : VerdictPromi
   room = length before
 
   abbrev approved : Numbers
-  approved = numbers (Approved (elements card) (occupied (take (cells card) after)) (cells card))
+  approved = numbers (approved_with (elements card) (occupied (take (cells card) after)) (cells card))
 
   -- what a card comes to, with its number
-  judged : (goal : Type 0) → ((r : Refusal) → full_admission card ≡ Refused r → n ≡ refusal_numbers r → goal)
+  judged : (goal : Type 0) → ((r : Refusal) → full_admission card ≡ Err r → n ≡ refusal_numbers r → goal)
       → (Free card → room < cells card → n ≡ answer 11 (cells card) 0 0 → goal)
       → ((flat axis : ℕ) → Free card → cells card ≤ room → FirstOutside card flat axis → n ≡ answer 7 flat axis 0 → goal)
       → ((x y cell : ℕ) → Free card → cells card ≤ room → AllInside card → FirstShared card x y cell → n ≡ answer 8 x y cell → goal)
@@ -130,7 +128,7 @@ module _ (card : Card) (before after : List ℕ) (v : Verdict) (p : VerdictPromi
       (λ x y cell f long inside first is. late n 8 (inr (omega arith)) (λ h. omega arith) (number is))
       (λ f long inside one is. late n 0 (inl refl) (λ h. omega arith) (number is ∙ zero_number _ _ _)))
 
-  unrefused : (r : Refusal) → full_admission card ≡ Refused r → Late n → ⊥
+  unrefused : (r : Refusal) → full_admission card ≡ Err r → Late n → ⊥
   unrefused r h l = not_both card h ((free_exactly card).1 (begins.passed.0 l))
 
   -- the four numbers of the table, each told by its number alone
@@ -198,7 +196,7 @@ module _ (card : Card) (before after : List ℕ) (v : Verdict) (p : VerdictPromi
       }
 
 -- the verdict: 1 to 6 and 17, and of a card that is free of them 11, 7, 8 and 0 with elements, occupied cells and cells
-pub verdict_each_number : (card : Card) (before after : List ℕ) (v : Verdict) → VerdictSays card before after v
+pub verdict_each_number : (card : Card) (before after : List ℕ) (v : Result Approved Refusal) → VerdictSays card before after v
     → OfAdmission card (verdict_numbers v)
     × InTable (Free card) card (length before) (verdict_numbers v) (answer 0 (elements card) (occupied (take (cells card) after)) (cells card))
 verdict_each_number card before after v says =
@@ -280,7 +278,7 @@ not_12 card room n approved six rows e =
     (⊎_elim (λ (h : n.number ≡ 7). omega arith) (⊎_elim (λ (h : n.number ≡ 8). omega arith) (λ (h : n.number ≡ 0). omega arith)))
     (rows.only (six.passed.0 (late n 12 (inr (omega arith)) (λ z. omega arith) e)))
 
-module _ (card : Card) (coordinates before after : List ℕ) (o : Owner) (promise : OwnerPromise card coordinates before after o)
+module _ (card : Card) (coordinates before after : List ℕ) (o : Result ℕ Refusal) (promise : OwnerPromise card coordinates before after o)
     (same : length coordinates ≡ length card.lengths) where
   -- of coordinates that name a cell: the verdict's numbers, at 0 with its entry
   inside_numbers : EachBelow card.lengths coordinates → OwnerEachNumber card coordinates (length before) after (owner_numbers o)
@@ -288,7 +286,7 @@ module _ (card : Card) (coordinates before after : List ℕ) (o : Owner) (promis
       let cell : ℕ = row_major card.lengths coordinates in
       let asked = ap spot_at ((at_exactly card.lengths coordinates same cell).1 (below, refl)) in
       let v = owner_by_verdict card coordinates before after o (record { 0 = cell }) asked promise in
-      let numbers : Verdict → Numbers = λ (w : Verdict). owner_numbers (read_entry w (get_or after cell 0)) in
+      let numbers : Result Approved Refusal → Numbers = λ (w : Result Approved Refusal). owner_numbers (read_entry w (get_or after cell 0)) in
       let six = begins card before after v.0 v.1 numbers (λ r. refl) (λ e n c. refl) in
       let rows = in_table card before after v.0 v.1 numbers (λ r. refl) (λ e n c. refl) in
       rw v.2 (record {
@@ -310,7 +308,7 @@ module _ (card : Card) (coordinates before after : List ℕ) (o : Owner) (promis
     twelve f =
         at_free card (owner_numbers o) (answer 12 axis 0 0) ((owner_in_numbers card coordinates before after o promise).1 axis asked_outside) f
 
-    refusals : (r : Refusal) → full_admission card ≡ Refused r → owner_numbers o ≡ refusal_numbers r
+    refusals : (r : Refusal) → full_admission card ≡ Err r → owner_numbers o ≡ refusal_numbers r
     refusals r e = go promise.judgement promise.comes promise.answers
       where
         go : (j : OwnerJudgement) → OwnerComesTo card coordinates (length before) j → o ≡ owner_of card coordinates j before → owner_numbers o ≡ refusal_numbers r
@@ -348,7 +346,7 @@ module _ (card : Card) (coordinates before after : List ℕ) (o : Owner) (promis
         }
 
 -- the owner of a cell, for every card and all coordinates
-pub owner_each_number : (card : Card) (coordinates before after : List ℕ) (o : Owner) → length coordinates ≡ length card.lengths
+pub owner_each_number : (card : Card) (coordinates before after : List ℕ) (o : Result ℕ Refusal) → length coordinates ≡ length card.lengths
     → OwnerSays card coordinates before after o → OwnerEachNumber card coordinates (length before) after (owner_numbers o)
 owner_each_number card coordinates before after o same says =
     let p = (owner_exactly card coordinates before after o).0 says in

@@ -1,5 +1,6 @@
 -- Demand 3 without a definition that tests: the limits as inequalities, copies by their finished coordinates, which are whole numbers, and cells as their row-major
 -- numbers; by what admitted, inside and one cell mean exactly.
+use Rattle.std.specs.Prelude.{Result}
 use mathlib.Core.Path.{◌≡◌, refl, sym, ap, ◌∙◌}
 use mathlib.Core.Logic.Iff
 use mathlib.Core.Logic.{◌↔◌}
@@ -7,6 +8,8 @@ use mathlib.Core.List.{List}
 use Prim.Native.Nat.{ℕ, ◌+◌, ◌≤◌, ◌<◌}
 use lib.IntN.{pos}
 use lib.ListN.{length, get_or, take}
+use Rattle.answers.specs.declared.Refusal.{Refusal}
+use Rattle.judgement.specs.declared.Approved.{Approved}
 use Rattle.answers.specs.declared.Cell.{Cell}
 use Rattle.card.specs.Card.{elements, copies, cells}
 use Rattle.card.specs.declared.Card.{Card}
@@ -20,22 +23,19 @@ use Rattle.rules.proofs.CellNumber.{LiesOn, InCell, inside_exactly, outside_exac
 use Rattle.idle.specs.Idle.{NoIdlePair}
 use Rattle.claims.specs.Claims.{occupied}
 use Rattle.judgement.specs.Judgement.{LiesInside, AllInside}
-use Rattle.judgement.specs.Verdict.{VerdictPromise, asked_spot, OwnerPromise}
+use Rattle.judgement.specs.Verdict.{VerdictPromise, asked_spot, OwnerPromise, approved_with}
 use Rattle.judgement.specs.Plain.{OneClassACell, HasCopyIn, SmallestIn, VerdictSays}
-use Rattle.judgement.specs.declared.Verdict.{Verdict}
-use Rattle.judgement.specs.declared.Verdict.TheVariants.{Approved}
-use Rattle.judgement.specs.declared.Owner.{Owner}
 use Rattle.judgement.proofs.Run.{lies_inside}
 use Rattle.judgement.proofs.Theorems.{IsApproval, Demand3, demand_3}
 use Rattle.judgement.proofs.Plain.{verdict_exactly}
 use Rattle.judgement.proofs.OwnerDemand.{OwnerDemand3, demand_3_owner}
 
 -- demand 3 of a card whose numbers lie within the limits, by their inequalities
-pub demand_3_within : (card : Card) (before after : List ℕ) (verdict : Verdict) → WithinLimits card → NoIdlePair card.replica
+pub demand_3_within : (card : Card) (before after : List ℕ) (verdict : Result Approved Refusal) → WithinLimits card → NoIdlePair card.replica
     → cells card ≤ length before → VerdictPromise card before after verdict → Demand3 card after verdict
 demand_3_within card before after verdict within = demand_3 card before after verdict ((within_limits_exactly card).1 within)
 
-pub demand_3_owner_within : (card : Card) (coordinates before after : List ℕ) (owner : Owner) (cell : Cell) → WithinLimits card
+pub demand_3_owner_within : (card : Card) (coordinates before after : List ℕ) (owner : Result ℕ Refusal) (cell : Cell) → WithinLimits card
     → NoIdlePair card.replica → cells card ≤ length before → asked_spot card coordinates ≡ Inside cell
     → OwnerPromise card coordinates before after owner → OwnerDemand3 card cell.0 owner
 demand_3_owner_within card coordinates before after owner cell within =
@@ -62,7 +62,7 @@ pub record SmallestPlaced (card : Card) (f c : ℕ) : Type 0 where
   pub has : PlacedIn card f c
   pub smallest : (g : ℕ) → g < elements card → PlacedIn card g c → AreOne card f g × (f ≤ g)
 
-pub record PlainDemand3 (card : Card) (after : List ℕ) (verdict : Verdict) : Type 0 where
+pub record PlainDemand3 (card : Card) (after : List ℕ) (verdict : Result Approved Refusal) : Type 0 where
   -- approved exactly when every coordinate of every copy lies within its length and no two elements that are not one meet
   pub approved : IsApproval verdict ↔ (AllLie card × NoneMeet card)
   -- once approved, each cell's owner is the smallest of the one class placed there
@@ -70,7 +70,7 @@ pub record PlainDemand3 (card : Card) (after : List ℕ) (verdict : Verdict) : T
   -- or nobody exactly when none is
   pub nobody : IsApproval verdict → (c : ℕ) → c < cells card → (get_or after c 0 ≡ 0) ↔ ((f : ℕ) → f < elements card → PlacedIn card f c → ⊥)
   -- and the answer has elements, occupied cells, cells
-  pub counts : IsApproval verdict → verdict ≡ Approved (elements card) (occupied (take (cells card) after)) (cells card)
+  pub counts : IsApproval verdict → verdict ≡ approved_with (elements card) (occupied (take (cells card) after)) (cells card)
 
 -- the same words over where copies go
 module _ (card : Card) (eight : length card.lengths ≡ 8) (within : WithinLimits card) where
@@ -115,7 +115,7 @@ module _ (card : Card) (eight : length card.lengths ≡ 8) (within : WithinLimit
 
 -- Demand 3 in these words: every count, extent, stride, offset, axis, length, product and M, B, S within its limits, no two replica combinations with the same
 -- sums, and a long enough table
-pub demand_3_plain : (card : Card) (before after : List ℕ) (verdict : Verdict) → length card.lengths ≡ 8 → WithinLimits card
+pub demand_3_plain : (card : Card) (before after : List ℕ) (verdict : Result Approved Refusal) → length card.lengths ≡ 8 → WithinLimits card
     → NoIdlePair card.replica → cells card ≤ length before → VerdictSays card before after verdict → PlainDemand3 card after verdict
 demand_3_plain card before after verdict eight within no_pair long says =
     let d = demand_3_within card before after verdict within no_pair long ((verdict_exactly card before after verdict).0 says) in

@@ -16,7 +16,7 @@ const PARTS: u64 = 36028797018963968;
 fn number_of(bytes: &[u8]) -> u64 {
     let page = storing::read_block(bytes);
     let answer = page.answer;
-    let numbers = storing::answer_numbers(answer);
+    let numbers = answers::in_numbers(answer);
     numbers.number
 }
 
@@ -40,13 +40,8 @@ fn list<W: Write>(
     ensures { OnErr result (out.new ≡ out.old) }
 {
     let mut place = output::make_room(to, out, at)?;
-    let mut index = first;
-    let mut from: usize = 0;
-    while from < part.len() {
-        let number = number_of(&part[from..]);
-        place = put(out, place, index, number);
-        index += 1;
-        from += book::BLOCK;
+    for (i, block) in part.chunks(book::BLOCK).enumerate() {
+        place = put(out, place, first + i as u64, number_of(block));
     }
     Ok(place)
 }
@@ -77,6 +72,7 @@ fn list_held<W: Write>(
 // Fills a part, or as much of it as the input still has.
 fn read_part<R: Read>(from: &mut R, part: &mut [u8; 65536]) -> Result<usize> {
     let mut done: usize = 0;
+    // a `while`, since each turn goes on by what its read gave
     while done < part.len() {
         let got = from.read(&mut part[done..])?;
         if got == 0 {

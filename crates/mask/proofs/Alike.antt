@@ -1,4 +1,5 @@
 -- What a mask for M reads of its fields, and no more: two descriptors alike in it have the same columns, so the same answer and the same bytes.
+use Rattle.std.specs.Prelude.{Result, Ok, Err}
 use mathlib.Core.Path.{◌≡◌, refl, ap, ap₂}
 use mathlib.Core.Bool.{Bool, true, false}
 use mathlib.Core.List.{List, ◌++◌}
@@ -7,12 +8,12 @@ use native.Mathlib.Nat.{div-lt_iff_lt-mul}
 use native.Mathlib.Omega.{arith}
 use lib.Dec.{ltb}
 use lib.ListN.{get_or, drop}
+use Rattle.answers.specs.declared.Refusal.{Refusal}
+use Rattle.mask.specs.declared.Mask.{Mask}
 use Rattle.descriptor.specs.Descriptor.{fields_of, reserved}
 use Rattle.mask_pattern.specs.Pattern.{column, mask_bytes}
-use Rattle.mask.specs.Mask.{mask_size, sub_masks, sub_bits, mask_columns, mask_of, mask_answer, mask_memory}
+use Rattle.mask.specs.Mask.{mask_size, sub_masks, sub_bits, mask_columns, mask_of, mask_answer, mask_memory, mask_with}
 use Rattle.descriptor.specs.declared.Fields.{Fields}
-use Rattle.mask.specs.declared.Generated.{Generated}
-use Rattle.mask.specs.declared.Generated.TheVariants.{Mask, Refused}
 use Rattle.mask_pattern.proofs.Numbers.{zeroed_same, first_same}
 use Rattle.mask_pattern.proofs.Bytes.{bytes_same}
 use Rattle.mask.proofs.Sizes.{Sized, sized}
@@ -37,13 +38,13 @@ module _ (limit M N d e : ℕ) (memory : List ℕ) (alike : Alike M (fields_of d
       let s = sized M N h in
       let same : (p : ℕ) → p < N → mask_columns M N d p ≡ mask_columns M N e p = column_alike M N (fields_of d) (fields_of e) s alike in
       let all : (p : ℕ) → p < 0 + N → mask_columns M N d p ≡ mask_columns M N e p = λ p l. same p (omega arith) in (
-        ap₂ Mask (zeroed_same (mask_columns M N d) (mask_columns M N e) 0 N all) (first_same (mask_columns M N d) (mask_columns M N e) 0 N all),
+        ap₂ mask_with (zeroed_same (mask_columns M N d) (mask_columns M N e) 0 N all) (first_same (mask_columns M N d) (mask_columns M N e) 0 N all),
         bytes_same (mask_columns M N d) (mask_columns M N e) (N / 8) (λ p l. same p (omega arith)),
       )
 
-  answered : (r : Generated) → mask_bytes (mask_columns M N d) (N / 8) ≡ mask_bytes (mask_columns M N e) (N / 8) → mask_memory r M N d memory ≡ mask_memory r M N e memory
-  answered (Mask zeroed used) b = ap (λ (l : List ℕ). l ++ drop (N / 8) memory) b
-  answered (Refused refusal) b = refl
+  answered : (r : Result Mask Refusal) → mask_bytes (mask_columns M N d) (N / 8) ≡ mask_bytes (mask_columns M N e) (N / 8) → mask_memory r M N d memory ≡ mask_memory r M N e memory
+  answered (Ok mask) b = ap (λ (l : List ℕ). l ++ drop (N / 8) memory) b
+  answered (Err refusal) b = refl
 
   pub alike_same : (room : ℕ) → reserved d ≡ reserved e → ltb limit (fields_of d).shift ≡ ltb limit (fields_of e).shift
       → (mask_answer limit M N d room ≡ mask_answer limit M N e room)

@@ -1,5 +1,6 @@
 -- What the definitions mean, in plain for-alls: a mask is its pattern's columns, what does not count changes nothing, and the promise settles
 -- the answer.
+use Rattle.std.specs.Prelude.{Result, Err, Ok}
 use mathlib.Core.Path.{◌≡◌, refl, sym, ap, ap₂, fun_ext, ◌∙◌}
 use mathlib.Core.Bool.{true, false, cond, not}
 use mathlib.Core.List.{List, ◌++◌}
@@ -9,15 +10,15 @@ use borrow.Author.Tests.{le-ltb}
 use lib.Dec.{ltb, eqb}
 use lib.ListN.{length, get_or, drop, replicate, get_or-append}
 use lib.Seq.{drop_at}
+use Rattle.answers.specs.declared.Refusal.{Refusal}
+use Rattle.mask.specs.declared.Mask.{Mask}
 use Rattle.answers.specs.Refusals.{answer}
 use Rattle.answers.proofs.OneToOne.{refusal_not_zero, read_back, refused_back, pinned, rung}
 use Rattle.descriptor.specs.Descriptor.{yes, fields_of, reserved}
 use Rattle.mask_pattern.specs.Pattern.{mask_bytes, zeroed, first_used}
-use Rattle.mask.specs.Mask.{mask_size, sub_bits, mask_columns, mask_of, mask_answer, mask_memory, mask_numbers}
+use Rattle.mask.specs.Mask.{mask_size, sub_bits, mask_columns, mask_of, mask_answer, mask_memory, mask_numbers, mask_with}
 use Rattle.mask_pattern.specs.Bits.{b_column, mask_bit}
 use Rattle.descriptor.specs.declared.Fields.{Fields}
-use Rattle.mask.specs.declared.Generated.{Generated}
-use Rattle.mask.specs.declared.Generated.TheVariants.{Mask, Refused}
 use Rattle.mask_pattern.proofs.Numbers.{zeroed_same, first_same}
 use Rattle.mask_pattern.proofs.Bytes.{bytes_length, none_zeroed, all_used_lem, zero_bytes, bytes_bit}
 use Rattle.mask.proofs.Sizes.{sized}
@@ -27,12 +28,12 @@ pub use Rattle.mask_pattern.proofs.Pattern.{Turns, turns, all_clear, repeats}
 pub use Rattle.mask_pattern.proofs.Least.{Least, first_least, least_one}
 
 -- a mask whose non-zero mask field is 0: no column is zeroed, and every byte is 0
-pub clear_mask : (M N d : ℕ) → (fields_of d).non_zero ≡ false → (mask_of (mask_columns M N d) N ≡ Mask 0 0) × (mask_bytes (mask_columns M N d) (N / 8) ≡ replicate (N / 8) 0)
+pub clear_mask : (M N d : ℕ) → (fields_of d).non_zero ≡ false → (mask_of (mask_columns M N d) N ≡ mask_with 0 0) × (mask_bytes (mask_columns M N d) (N / 8) ≡ replicate (N / 8) 0)
 clear_mask M N d e =
-    rw (fun_ext (all_clear (sub_bits M N) (fields_of d) e)) (ap₂ Mask (none_zeroed 0 N) (all_used_lem 0 N), zero_bytes (N / 8))
+    rw (fun_ext (all_clear (sub_bits M N) (fields_of d) e)) (ap₂ mask_with (none_zeroed 0 N) (all_used_lem 0 N), zero_bytes (N / 8))
 
 -- mask bit p of the lent memory is column p
-pub mask_bits : (M N d zeroed used : ℕ) (lent : List ℕ) (p : ℕ) → mask_size M N ≡ true → p < N → mask_bit (mask_memory (Mask zeroed used) M N d lent) p ≡ mask_columns M N d p
+pub mask_bits : (M N d zeroed used : ℕ) (lent : List ℕ) (p : ℕ) → mask_size M N ≡ true → p < N → mask_bit (mask_memory (mask_with zeroed used) M N d lent) p ≡ mask_columns M N d p
 mask_bits M N d zeroed used lent p h l =
     let s = sized M N h in
     let within : p / 8 < length (mask_bytes (mask_columns M N d) (N / 8)) = rw (bytes_length (mask_columns M N d) (N / 8)) (omega arith) in
@@ -40,14 +41,14 @@ mask_bits M N d zeroed used lent p h l =
     ∙ bytes_bit (mask_columns M N d) (N / 8) p (omega arith)
 
 -- so the count and the first used column of the answer are those of the lent memory's first N bits
-pub mask_counted : (M N d zeroed used : ℕ) (lent : List ℕ) → mask_size M N ≡ true → mask_of (mask_bit (mask_memory (Mask zeroed used) M N d lent)) N ≡ mask_of (mask_columns M N d) N
+pub mask_counted : (M N d zeroed used : ℕ) (lent : List ℕ) → mask_size M N ≡ true → mask_of (mask_bit (mask_memory (mask_with zeroed used) M N d lent)) N ≡ mask_of (mask_columns M N d) N
 mask_counted M N d zeroed used lent h =
-    let memory = mask_bit (mask_memory (Mask zeroed used) M N d lent) in
+    let memory = mask_bit (mask_memory (mask_with zeroed used) M N d lent) in
     let same : (p : ℕ) → p < 0 + N → memory p ≡ mask_columns M N d p = λ p l. mask_bits M N d zeroed used lent p h (omega arith) in
-    ap₂ Mask (zeroed_same memory (mask_columns M N d) 0 N same) (first_same memory (mask_columns M N d) 0 N same)
+    ap₂ mask_with (zeroed_same memory (mask_columns M N d) 0 N same) (first_same memory (mask_columns M N d) 0 N same)
 
 -- and bytes past N / 8 are as they were
-pub past_kept : (M N d zeroed used : ℕ) (lent : List ℕ) → drop (N / 8) (mask_memory (Mask zeroed used) M N d lent) ≡ drop (N / 8) lent
+pub past_kept : (M N d zeroed used : ℕ) (lent : List ℕ) → drop (N / 8) (mask_memory (mask_with zeroed used) M N d lent) ≡ drop (N / 8) lent
 past_kept M N d zeroed used lent = drop_at (mask_bytes (mask_columns M N d) (N / 8)) (drop (N / 8) lent) (N / 8) (bytes_length (mask_columns M N d) (N / 8))
 
 -- the same answer and the same lent memory after it
@@ -94,25 +95,25 @@ unused_change_nothing limit M N d e lent r shift alike =
     record { answer = both.0; memory = both.1 }
 
 -- two outcomes that the promise of a mask allows are equal, the lent memory too
-pub mask_settled : (limit M N d : ℕ) (lent : List ℕ) (p q : Generated) (k l : List ℕ)
+pub mask_settled : (limit M N d : ℕ) (lent : List ℕ) (p q : Result Mask Refusal) (k l : List ℕ)
     → (p ≡ mask_answer limit M N d (length lent)) × (k ≡ mask_memory p M N d lent)
     → (q ≡ mask_answer limit M N d (length lent)) × (l ≡ mask_memory q M N d lent)
     → (p ≡ q) × (k ≡ l)
 mask_settled limit M N d lent p q k l a b =
     let same : p ≡ q = a.0 ∙ sym b.0 in
-    (same, a.1 ∙ ap (λ (r : Generated). mask_memory r M N d lent) same ∙ sym b.1)
+    (same, a.1 ∙ ap (λ (r : Result Mask Refusal). mask_memory r M N d lent) same ∙ sym b.1)
 
 -- pinning the numbers pins the answer
-mask_back : (p : Generated) → read_back (λ n. Mask n.a n.b) Refused (mask_numbers p) ≡ p
-mask_back (Mask zeroed used) = refl
-mask_back (Refused r) = refused_back (λ n. Mask n.a n.b) Refused r
+mask_back : (p : Result Mask Refusal) → read_back (λ n. mask_with n.a n.b) Err (mask_numbers p) ≡ p
+mask_back (Ok mask) = refl
+mask_back (Err r) = refused_back (λ n. mask_with n.a n.b) Err r
 
-pub mask_one_to_one : (p q : Generated) → mask_numbers p ≡ mask_numbers q → p ≡ q
-mask_one_to_one = pinned (λ n. Mask n.a n.b) Refused mask_numbers mask_back
+pub mask_one_to_one : (p q : Result Mask Refusal) → mask_numbers p ≡ mask_numbers q → p ≡ q
+mask_one_to_one = pinned (λ n. mask_with n.a n.b) Err mask_numbers mask_back
 
 -- in document 01's numbers: 13, 15, 16 with the limit, 11 with N / 8, or 0 with the zeroed columns and the first used one; and the lent memory,
 -- the mask and the bytes past it at 0, else untouched
-pub mask_in_numbers : (limit M N d : ℕ) (before after : List ℕ) (r : Generated) → r ≡ mask_answer limit M N d (length before)
+pub mask_in_numbers : (limit M N d : ℕ) (before after : List ℕ) (r : Result Mask Refusal) → r ≡ mask_answer limit M N d (length before)
     → after ≡ mask_memory r M N d before
     → (mask_numbers r
     ≡ cond (not (mask_size M N)) (answer 13 0 0 0)
@@ -129,7 +130,7 @@ mask_in_numbers limit M N d before after r e left = (
   left ∙ memory r,
 )
   where
-    memory : (r : Generated)
+    memory : (r : Result Mask Refusal)
         → mask_memory r M N d before ≡ cond (eqb (mask_numbers r).number 0) (mask_bytes (mask_columns M N d) (N / 8) ++ drop (N / 8) before) before
-    memory (Mask zeroed used) = refl
-    memory (Refused refusal) = rw (refusal_not_zero refusal)
+    memory (Ok mask) = refl
+    memory (Err refusal) = rw (refusal_not_zero refusal)

@@ -7,20 +7,6 @@ ghost use Rattle.mask_pattern.specs.Pattern.{endless, column, columns_number, ze
 
 use descriptor::Fields;
 
-// A byte as a number.
-fn wide(byte: u8) -> u64
-    ensures { (result ≡ byte) × (result < 256) }
-{
-    byte as u64
-}
-
-// The smaller of two numbers.
-fn lesser(a: u64, b: u64) -> u64
-    ensures { result ≡ min a b }
-{
-    if a < b { a } else { b }
-}
-
 // A word of as many ones as there are columns from one up to an end, all of its 64 where there are more.
 fn ones_up_to(from: u64, end: u64) -> u64
     ensures { result ≡ 2 ^ min (end - from) 64 - 1 }
@@ -41,6 +27,7 @@ fn pattern_word(skip: u64, used: u64) -> u64
 {
     let mut word = ones_up_to(0, skip + 1);
     let mut filled = skip + 1 + (used + 1);
+    // no plainer as a `for`: what is filled doubles each turn
     while filled < 64 {
         word += word << filled;
         filled += filled;
@@ -91,7 +78,7 @@ fn piece(
 {
     let sub_mask = (p / size) as usize;
     let first = spans[sub_mask];
-    let start = wide(counts[sub_mask]);
+    let start = counts[sub_mask] as u64;
     let at = place(first, skip, used, start + p % size);
     word_from(skip, used, at, pattern) & ones_up_to(0, count)
 }
@@ -112,8 +99,9 @@ fn mask_word(
 {
     let mut word: u64 = 0;
     let mut k: u64 = 0;
+    // no plainer as a `for`: a step goes to the end of its sub-mask
     while k < count {
-        let step = lesser(size - (p + k) % size, count - k);
+        let step = (size - (p + k) % size).min(count - k);
         word += piece(size, skip, used, counts, spans, pattern, p + k, step) << k;
         k += step;
     }
@@ -158,14 +146,12 @@ fn pattern_words(
     let mut at = [0u64; 4];
     let mut zeroed: u64 = 0;
     let mut first: u64 = 0;
-    let mut p: u64 = 0;
-    while p < n {
-        let count = lesser(n - p, 64);
+    for p in (0..n).step_by(64) {
+        let count = (n - p).min(64);
         let word = mask_word(size, skip, used, counts, spans, pattern, p, count);
         at[(p / 64) as usize] = word;
         zeroed += u64::count_ones(word) as u64;
         first = first_used(first, p, word);
-        p += count;
     }
     Words {
         at,

@@ -1,4 +1,5 @@
 -- The numbers of a sound form: products stay small, and what the functions compute is what the form's digits say.
+use Rattle.std.specs.Prelude.{Err, Ok}
 use mathlib.Core.Path.{◌≡◌, refl, sym, ap, ap₂, ◌∙◌}
 use mathlib.Core.Bool.{Bool, true, false, ◌&&◌}
 use mathlib.Core.List.{List, [], ◌∷◌}
@@ -17,7 +18,6 @@ use Rattle.mma_kinds.specs.declared.KindForm.{KindForm}
 use Rattle.mma_kinds.specs.declared.MmaPlace.{MmaPlace}
 use Rattle.mma_kinds.specs.declared.MmaSlot.{MmaSlot}
 use Rattle.mma_kinds.specs.Kinds.{mma_at, kind_of}
-use Rattle.mma_kinds.specs.declared.MmaHeld.TheVariants.{Place as Holds, Refused as HoldsNot}
 use Rattle.mma_kinds.specs.Layouts.{form_iters, cut, mma_card}
 use Rattle.mma_kinds.specs.Mma.{is_mma_slot, is_mma_place, is_kind, mma_answer}
 use Rattle.mma_kinds.specs.Forms.{turned_at, register_sizes, down_sizes, across_sizes, held_in, holder_in}
@@ -126,7 +126,7 @@ module _ (kind : ℕ) where
   no_registers : is_kind kind ≡ false → (kind_of kind).registers ≤ 0
   no_registers e = ltb-false 0 (kind_of kind).registers e
 
-  pub held_no_kind : (warp lane i : ℕ) → is_kind kind ≡ false → mma_answer kind warp lane i ≡ HoldsNot outside
+  pub held_no_kind : (warp lane i : ℕ) → is_kind kind ≡ false → mma_answer kind warp lane i ≡ Err outside
   held_no_kind warp lane i e = rw (and_eq_false (ltb warp (kind_of kind).warps && ltb lane 32) (le-ltb i (kind_of kind).registers (omega (arith, no_registers e))))
     where
       and_eq_false : (a : Bool) {b : Bool} → b ≡ false → (a && b) ≡ false
@@ -144,18 +144,18 @@ module _ (kind : ℕ) where
           absurd (omega (arith, no_registers e, ltb-true (back kind p).register (kind_of kind).registers t.2))
 
   module _ (f : KindForm) (its : f ≡ (kind_of kind).form) where
-    pub held_no_slot : (warp lane i : ℕ) → form_slot f warp lane i ≡ false → mma_answer kind warp lane i ≡ HoldsNot outside
+    pub held_no_slot : (warp lane i : ℕ) → form_slot f warp lane i ≡ false → mma_answer kind warp lane i ≡ Err outside
     held_no_slot warp lane i e = rw (slot_in_lem kind warp lane i ∙ ap (λ (g : KindForm). form_slot g warp lane i) (sym its) ∙ e)
 
-    pub held_there : (warp lane i : ℕ) → form_slot f warp lane i ≡ true → mma_answer kind warp lane i ≡ Holds (held_in f warp lane i)
+    pub held_there : (warp lane i : ℕ) → form_slot f warp lane i ≡ true → mma_answer kind warp lane i ≡ Ok (held_in f warp lane i)
     held_there warp lane i e =
         let there : is_mma_slot kind warp lane i ≡ true = slot_in_lem kind warp lane i ∙ ap (λ (g : KindForm). form_slot g warp lane i) (sym its) ∙ e in
-        rw there (ap Holds (held_by_form kind warp lane i there ∙ ap (λ (g : KindForm). held_in g warp lane i) (sym its)))
+        rw there (ap Ok (held_by_form kind warp lane i there ∙ ap (λ (g : KindForm). held_in g warp lane i) (sym its)))
 
     pub no_such_place : (p : MmaPlace) → place_in f p ≡ false → is_mma_place kind p ≡ false
     no_such_place p e = place_in_lem kind p ∙ ap (λ (g : KindForm). place_in g p) (sym its) ∙ e
 
-    pub holder_there : (p : MmaPlace) (s : MmaSlot) → place_in f p ≡ true → s ≡ holder_in f p → mma_answer kind s.warp s.lane s.register ≡ Holds p
+    pub holder_there : (p : MmaPlace) (s : MmaSlot) → place_in f p ≡ true → s ≡ holder_in f p → mma_answer kind s.warp s.lane s.register ≡ Ok p
     holder_there p s e same =
         let there : is_mma_place kind p ≡ true = place_in_lem kind p ∙ ap (λ (g : KindForm). place_in g p) (sym its) ∙ e in
         ap (λ (t : MmaSlot). mma_answer kind t.warp t.lane t.register) (same ∙ ap (λ (g : KindForm). holder_in g p) its) ∙ back_answers kind p there

@@ -5,14 +5,13 @@ mod rows;
 
 ghost use Rattle.std.specs.Prelude.{◌≡◌, ◌+◌, ◌*◌, ◌/◌, ◌%◌, ◌≤◌, ◌<◌};
 ghost use Rattle.mma_kinds.specs.Kinds.{mma_at};
-ghost use Rattle.mma_kinds.specs.Mma.{mma_answer, MmaHolderAnswer, layout_answer, mma_numbers, mma_holder_numbers};
+ghost use Rattle.mma_kinds.specs.Mma.{mma_answer, MmaHolderAnswer, layout_answer};
 ghost use Rattle.mma_kinds.specs.Forms.{held_in};
 ghost use Rattle.mma_cards.specs.Clauses.{FormSound};
 ghost use Rattle.mma.specs.Clauses.{form_slot, place_in, form_holder};
 
-use answers::Numbers;
-use card::Admission;
-use mma_kinds::{KindForm, MmaHeld, MmaHolder, MmaLayout, MmaPlace, MmaSlot};
+use answers::Refusal;
+use mma_kinds::{KindForm, MmaLayout, MmaPlace, MmaSlot};
 
 // The lanes of a warp.
 const LANES: u64 = 32;
@@ -167,34 +166,34 @@ fn slot_holding(f: KindForm, matrix: u64, down: u64, across: u64) -> MmaSlot
 }
 
 // What a register of a lane of a warp holds, for any numbers.
-pub fn held_by(kind: u64, warp: u64, lane: u64, register: u64) -> MmaHeld
+pub fn held_by(kind: u64, warp: u64, lane: u64, register: u64) -> Result<MmaPlace, Refusal>
     ensures { result ≡ mma_answer kind warp lane register }
 {
     if !rows::is_kind(kind) {
-        return MmaHeld::Refused(fragment::outside());
+        return Err(fragment::outside());
     }
     let f = rows::form(kind);
     if !is_slot(f, warp, lane, register) {
-        return MmaHeld::Refused(fragment::outside());
+        return Err(fragment::outside());
     }
-    MmaHeld::Place(place_held(f, warp, lane, register))
+    Ok(place_held(f, warp, lane, register))
 }
 
 // Which register of which lane of which warp holds a place, for any numbers.
-pub fn holder_of(kind: u64, matrix: u64, row: u64, column: u64) -> MmaHolder
+pub fn holder_of(kind: u64, matrix: u64, row: u64, column: u64) -> Result<MmaSlot, Refusal>
     ensures { MmaHolderAnswer kind (mma_at matrix row column) result }
 {
     if !rows::is_kind(kind) {
-        return MmaHolder::Refused(fragment::outside());
+        return Err(fragment::outside());
     }
     let f = rows::form(kind);
     if !is_place(f, matrix, row, column) {
-        return MmaHolder::Refused(fragment::outside());
+        return Err(fragment::outside());
     }
     if f.turned {
-        return MmaHolder::Slot(slot_holding(f, matrix, column, row));
+        return Ok(slot_holding(f, matrix, column, row));
     }
-    MmaHolder::Slot(slot_holding(f, matrix, row, column))
+    Ok(slot_holding(f, matrix, row, column))
 }
 
 // The layout of any kind, as a card.
@@ -204,34 +203,14 @@ pub fn layout_of(kind: u64) -> MmaLayout
     if !rows::is_kind(kind) {
         let card = mma_cards::zeros();
         return MmaLayout {
-            answer: Admission::Refused(fragment::outside()),
+            answer: Err(fragment::outside()),
             card,
         };
     }
     let f = rows::form(kind);
     let card = mma_cards::card(f, tall(f), wide(f), registers(f));
     MmaLayout {
-        answer: Admission::Admitted,
+        answer: Ok(()),
         card,
-    }
-}
-
-// The plain numbers of what a register holds.
-pub fn held_numbers(held: MmaHeld) -> Numbers
-    ensures { result ≡ mma_numbers held }
-{
-    match held {
-        MmaHeld::Place(place) => answers::answer(0, place.matrix, place.row, place.column),
-        MmaHeld::Refused(refusal) => answers::refusal_numbers(refusal),
-    }
-}
-
-// The plain numbers of which register holds a place.
-pub fn holder_numbers(holder: MmaHolder) -> Numbers
-    ensures { result ≡ mma_holder_numbers holder }
-{
-    match holder {
-        MmaHolder::Slot(slot) => answers::answer(0, slot.warp, slot.lane, slot.register),
-        MmaHolder::Refused(refusal) => answers::refusal_numbers(refusal),
     }
 }

@@ -1,5 +1,6 @@
 -- Each kind's card is placed and judged as PTX's rule says: that it is admitted is computed, kind by kind; that every cell has one owner follows from
 -- the registers' being one-to-one with the places.
+use Rattle.std.specs.Prelude.{Result, ⊤, Err, Ok}
 use mathlib.Core.Path.{◌≡◌, refl, sym, ap, ◌∙◌, subst}
 use mathlib.Core.Bool.{Bool, true, false, ◌&&◌, ◌||◌, not, true≢false, and-eq-true_iff}
 use mathlib.Core.Logic.{◌↔◌}
@@ -11,6 +12,9 @@ use native.Mathlib.Omega.{arith}
 use borrow.Author.Tests.{eqb-true, le-leb, leb-true, lt-ltb, ltb-true}
 use lib.Dec.{eqb, leb, ltb}
 use lib.ListN.{length, get_or, take, drop, replicate, get_or-eq_default}
+use Rattle.answers.specs.Refusals.{no_refusal}
+use Rattle.judgement.specs.declared.Approved.{Approved}
+use Rattle.answers.specs.declared.Refusal.{Refusal}
 use Rattle.laws.proofs.Below.{below, below_at}
 use Rattle.laws.proofs.Rungs.{apart}
 use Rattle.laws.proofs.Tests.{three_of}
@@ -19,8 +23,6 @@ use Rattle.card.specs.Lists.{product}
 use Rattle.card.specs.Card.{elements, cells}
 use Rattle.card.specs.Admission.{admission}
 use Rattle.card.specs.declared.Card.{Card}
-use Rattle.card.specs.declared.Admission.{Admission}
-use Rattle.card.specs.declared.Admission.TheVariants.{Admitted, Refused}
 use Rattle.rules.specs.RowMajor.{row_major, components, inside}
 use Rattle.rules.specs.Rules.{coordinates, spot}
 use Rattle.rules.specs.Copies.{copy_cells, outside_axis, cell_of}
@@ -34,13 +36,9 @@ use Rattle.idle.specs.Admission.{full_admission}
 use Rattle.idle.proofs.Theorems.{admitted_exactly}
 use Rattle.placement_judged.specs.Placement.{shape_admitted, coordinates_fit, placement_answer, placement_memory, Placing}
 use Rattle.placement_judged.proofs.Theorems.{flatten_below}
-use Rattle.placement_judged.specs.declared.Placement.{Placement}
-use Rattle.placement_judged.specs.declared.Placement.TheVariants.{Copies}
 use Rattle.claims.specs.Claims.{occupied}
 use Rattle.judgement.specs.Judgement.{LiesInside, AllInside}
-use Rattle.judgement.specs.Verdict.{VerdictPromise}
-use Rattle.judgement.specs.declared.Verdict.{Verdict}
-use Rattle.judgement.specs.declared.Verdict.TheVariants.{Approved}
+use Rattle.judgement.specs.Verdict.{VerdictPromise, approved_with}
 use Rattle.judgement.proofs.Theorems.{IsApproval, OneElementACell, Demand3Unmarked, demand_3_unmarked}
 use Rattle.canonical_approval.proofs.Onto.{all_taken}
 use Rattle.mma_kinds.specs.declared.MmaPlace.{MmaPlace}
@@ -51,13 +49,13 @@ use Rattle.mma_kinds.specs.Mma.{is_mma_slot, is_mma_place, is_kind, mma_place}
 use Rattle.mma_kinds.proofs.Placed.{slot_coordinates, slot_spot}
 use Rattle.mma_kinds.proofs.Back.{back, slot_back, place_back}
 
-abbrev is_admitted : Admission → Bool
-is_admitted Admitted = true
-is_admitted (Refused refusal) = false
+abbrev is_admitted : Result ⊤ Refusal → Bool
+is_admitted (Ok _) = true
+is_admitted (Err refusal) = false
 
-admitted_is : (a : Admission) → is_admitted a ≡ true → a ≡ Admitted
-admitted_is Admitted e = refl
-admitted_is (Refused refusal) e = absurd (apart (cc))
+admitted_is : (a : Result ⊤ Refusal) → is_admitted a ≡ true → a ≡ no_refusal
+admitted_is (Ok _) e = refl
+admitted_is (Err refusal) e = absurd (apart (cc))
 
 -- the test of a number: where it is a kind, its card is admitted, its shape is one of the card's elements, and there are as many elements as cells
 abbrev kind_fits : ℕ → Bool
@@ -77,7 +75,7 @@ unfolding kind_table kind_of admission pair_of full_admission
 accumulators_fit = refl
 
 pub record KindFits (kind : ℕ) : Type 0 where
-  pub admitted : full_admission (mma_card kind) ≡ Admitted
+  pub admitted : full_admission (mma_card kind) ≡ no_refusal
   pub shaped : shape_admitted (mma_shape kind) (elements (mma_card kind)) ≡ true
   pub as_many : elements (mma_card kind) ≡ cells (mma_card kind)
 
@@ -130,9 +128,9 @@ module _ (kind : ℕ) where
       lt-ltb 0 (kind_of kind).registers (omega (arith, ltb-true i (kind_of kind).registers t.2))
 
   -- placing what a register holds, its matrix, row and column in the kind's shape, gives one copy, in that warp, lane and register
-  pub mma_is_layout : (warp lane i : ℕ) → is_mma_slot kind warp lane i ≡ true → (before after : List ℕ) (p : Placement) → 1 ≤ length before
+  pub mma_is_layout : (warp lane i : ℕ) → is_mma_slot kind warp lane i ≡ true → (before after : List ℕ) (p : Result ℕ Refusal) → 1 ≤ length before
       → Placing (mma_card kind) (mma_shape kind) (mma_coordinates (mma_place kind warp lane i)) before after p
-      → (p ≡ Copies 1) × (after ≡ mma_cell kind warp lane i ∷ drop 1 before)
+      → (p ≡ Ok 1) × (after ≡ mma_cell kind warp lane i ∷ drop 1 before)
   unfolding placement_answer placement_memory copy_cells outside_axis
   mma_is_layout warp lane i e before after p room placing =
       let k = kind_facts kind (slot_of_kind warp lane i e) in
@@ -209,14 +207,14 @@ unmarked kind k h = none_in (mma_card kind).shard.count 8 k
     none_in (suc n) (suc m) zero = refl
     none_in (suc n) (suc m) (suc k) = none_in n m k
 
-pub record MmaOwnersByRule (kind : ℕ) (after : List ℕ) (verdict : Verdict) : Type 0 where
+pub record MmaOwnersByRule (kind : ℕ) (after : List ℕ) (verdict : Result Approved Refusal) : Type 0 where
   -- as many elements as cells, and every cell is occupied
-  pub approved : verdict ≡ Approved (cells (mma_card kind)) (cells (mma_card kind)) (cells (mma_card kind))
+  pub approved : verdict ≡ approved_with (cells (mma_card kind)) (cells (mma_card kind)) (cells (mma_card kind))
   -- the owner of a register's cell is what the register holds
   pub owners : (warp lane i : ℕ) → is_mma_slot kind warp lane i ≡ true → get_or after (mma_cell kind warp lane i) 0 ≡ mma_element kind (mma_place kind warp lane i) + 1
 
 -- whatever the promise of the verdict on a kind's card allows is this approval
-pub mma_approved : (kind : ℕ) → is_kind kind ≡ true → (before after : List ℕ) (verdict : Verdict) → cells (mma_card kind) ≤ length before
+pub mma_approved : (kind : ℕ) → is_kind kind ≡ true → (before after : List ℕ) (verdict : Result Approved Refusal) → cells (mma_card kind) ≤ length before
     → VerdictPromise (mma_card kind) before after verdict → MmaOwnersByRule kind after verdict
 mma_approved kind known before after verdict room promise =
     let card = mma_card kind in
@@ -240,6 +238,6 @@ mma_approved kind known before after verdict room promise =
     let entry : get_or after (mma_cell kind s.0.warp s.0.lane s.0.register) 0 ≡ 0 = ap (λ (n : ℕ). get_or after n 0) s.2 ∙ empty in
     omega (arith, owned, entry)) in
     record {
-      approved = demand.counts approval ∙ (λ j. Approved (k.as_many j) (full j) (cells card));
+      approved = demand.counts approval ∙ (λ j. approved_with (k.as_many j) (full j) (cells card));
       owners = owners;
     }

@@ -1,8 +1,8 @@
 // The further kinds of warp fragments, m16n8, wgmma and ldmatrix: a table of PTX's rules, each kind a layout. There are no functions.
 #![tactic(auto)]
 
-use answers::Refusal;
-use card::{Admission, Card};
+use answers::{Details, Numbers, Refusal};
+use card::Card;
 
 // A kind in six numbers: so many elements of a lane lie next to each other, in one half of the rows or in two, repeated so many times along
 // the columns, in so many matrices, over so many warps; turned, rows and columns are exchanged.
@@ -13,6 +13,7 @@ pub struct KindForm {
     pub repeats: u64,
     pub matrices: u64,
     pub warps: u64,
+    // a part of the form, no flag of the others
     pub turned: bool,
 }
 
@@ -24,6 +25,19 @@ pub struct MmaPlace {
     pub column: u64,
 }
 
+impl Details for MmaPlace {
+    ghost use Rattle.std.specs.Prelude.{refl};
+    ghost use Rattle.mma_kinds.specs.Mma.{mma_place_numbers};
+
+    ghost as_numbers = { mma_place_numbers };
+
+    ghost reads_back = { (λ n. record { matrix = n.a; row = n.b; column = n.c }, λ x. (refl, refl)) };
+
+    fn details(self) -> Numbers {
+        answers::answer(0, self.matrix, self.row, self.column)
+    }
+}
+
 // A register of a lane of a warp: registers are counted as PTX counts them, one an element.
 #[derive(Clone, Copy)]
 pub struct MmaSlot {
@@ -32,23 +46,22 @@ pub struct MmaSlot {
     pub register: u64,
 }
 
-// The answer to what a register holds.
-#[derive(Clone, Copy)]
-pub enum MmaHeld {
-    Place(MmaPlace),
-    Refused(Refusal),
-}
+impl Details for MmaSlot {
+    ghost use Rattle.std.specs.Prelude.{refl};
+    ghost use Rattle.mma_kinds.specs.Mma.{mma_slot_numbers};
 
-// The answer to which register holds a place.
-#[derive(Clone, Copy)]
-pub enum MmaHolder {
-    Slot(MmaSlot),
-    Refused(Refusal),
+    ghost as_numbers = { mma_slot_numbers };
+
+    ghost reads_back = { (λ n. record { warp = n.a; lane = n.b; register = n.c }, λ x. (refl, refl)) };
+
+    fn details(self) -> Numbers {
+        answers::answer(0, self.warp, self.lane, self.register)
+    }
 }
 
 // The answer to a kind's layout, and its card beside it.
 #[derive(Clone, Copy)]
 pub struct MmaLayout {
-    pub answer: Admission,
+    pub answer: Result<(), Refusal>,
     pub card: Card,
 }

@@ -1,4 +1,5 @@
 -- What was written can be read: the text of every card that passes checks 1 to 3 is correct, and says what the card holds.
+use Rattle.std.specs.Prelude.{Err, Ok, Result, ⊤}
 use Prim.Native.Nat.{ℕ, zero, suc, ◌+◌, ◌-◌, ◌≤◌, ◌<◌}
 use mathlib.Core.Path.{◌≡◌, refl, sym, ap, ◌∙◌, subst}
 use mathlib.Core.Bool.{Bool, true, false, cond, not, ◌&&◌, and-eq-true_iff, true≢false}
@@ -9,6 +10,7 @@ use lib.Dec.{leb, ltb, eqb}
 use lib.IntN.{ℤ, pos, negsuc, neg_ℤ, nat_abs}
 use lib.ListN.{length, take, drop, set, replicate, length-map, length-append}
 use lib.Seq.{length-take-le}
+use Rattle.answers.specs.Refusals.{no_refusal}
 use Rattle.laws.proofs.Tests.{four_of}
 use Rattle.laws.proofs.Signed.{between_far}
 use Rattle.card.specs.Lists.{all, within, within_z, padded}
@@ -19,8 +21,6 @@ use Rattle.card.proofs.ReadBack.{OfEight}
 use Rattle.card.specs.declared.Iter.{Iter}
 use Rattle.card.specs.declared.Iters.{Iters}
 use Rattle.card.specs.declared.Card.{Card}
-use Rattle.card.specs.declared.Admission.{Admission}
-use Rattle.card.specs.declared.Admission.TheVariants.{Admitted, Refused}
 use Rattle.answers.specs.declared.Refusal.{Refusal}
 use Rattle.answers.specs.declared.Refusal.TheVariants.{Counts, Limits as OutOfLimits, Axis}
 use Rattle.laws.proofs.Rungs.{apart}
@@ -32,15 +32,12 @@ use Rattle.notation.specs.declared.NamedAxis.{NamedAxis}
 use Rattle.notation.specs.declared.NamedAxis.TheVariants.{Bare, At, Marked}
 use Rattle.notation.specs.declared.Step.{Step}
 use Rattle.notation.specs.declared.Layout.{Layout}
-use Rattle.notation.specs.declared.Read.TheVariants.{Done}
 use Rattle.notation.specs.declared.Reading.{Reading}
-use Rattle.notation.specs.declared.Written.{Written}
-use Rattle.notation.specs.declared.Written.TheVariants.{Length}
 use Rattle.notation.proofs.Lists.{pick}
 use Rattle.notation.proofs.Theorems.{read_spelled}
 
 -- the checks passed
-passed : (b : Bool) (r : Refusal) (rest : Admission) → cond (not b) (Refused r) rest ≡ Admitted → (b ≡ true) × (rest ≡ Admitted)
+passed : (b : Bool) (r : Refusal) (rest : Result ⊤ Refusal) → cond (not b) (Err r) rest ≡ no_refusal → (b ≡ true) × (rest ≡ no_refusal)
 passed true r rest e = (refl, e)
 passed false r rest e = absurd (apart (cc))
 
@@ -183,7 +180,7 @@ lists_limits most P ms iters e few eight fit steps =
 strides_fit : (iters : Iters) → iters_fit iters ≡ true → StridesFit (listed iters)
 strides_fit iters fit = ((and-eq-true_iff (all (within 1 most_extent) (map extent_of (listed iters))) (all (within_z least_stride most_stride) (map stride_of (listed iters)))).0 fit).1
 
-module _ (card : Card) (eight : OfEight card) (ok : field_checks card Admitted ≡ Admitted) where
+module _ (card : Card) (eight : OfEight card) (ok : field_checks card no_refusal ≡ no_refusal) where
   counts : counts_fit card ≡ true
   counts = (passed (counts_fit card) Counts _ ok).0
 
@@ -235,21 +232,21 @@ module _ (card : Card) (eight : OfEight card) (ok : field_checks card Admitted �
       }
 
   -- reading what was written gives the same shard, replica, offset and marks
-  pub read_written : (r : Reading) → Answered (text_of card) r → r ≡ record { answer = Done; layout = kept_of card }
+  pub read_written : (r : Reading) → Answered (text_of card) r → r ≡ record { answer = no_refusal; layout = kept_of card }
   unfolding text_of
-  read_written r a = read_spelled (written_as card) written_within r a ∙ ap (λ (l : Layout). record { answer = Done; layout = l }) written_layout
+  read_written r a = read_spelled (written_as card) written_within r a ∙ ap (λ (l : Layout). record { answer = no_refusal; layout = l }) written_layout
 
 -- two outcomes that the promise of writing allows are equal: the answer, and every lent byte
-pub write_settled : (card : Card) (lent : List ℕ) (p q : Written) (b d : List ℕ) → (p ≡ written_answer card (length lent)) × (b ≡ bytes_after p card lent)
+pub write_settled : (card : Card) (lent : List ℕ) (p q : Result ℕ Refusal) (b d : List ℕ) → (p ≡ written_answer card (length lent)) × (b ≡ bytes_after p card lent)
     → (q ≡ written_answer card (length lent)) × (d ≡ bytes_after q card lent) → (p ≡ q) × (b ≡ d)
 write_settled card lent p q b d e f =
     let same : p ≡ q = e.0 ∙ sym f.0 in
-    (same, e.1 ∙ ap (λ (r : Written). bytes_after r card lent) same ∙ sym f.1)
+    (same, e.1 ∙ ap (λ (r : Result ℕ Refusal). bytes_after r card lent) same ∙ sym f.1)
 
 -- what stands in lent bytes after writing reads back: at number 0 the first bytes are the text, and reading them gives the same
-pub read_lent : (card : Card) → OfEight card → (lent : List ℕ) (n : ℕ) → written_answer card (length lent) ≡ Length n
-    → (r : Reading) → Answered (take n (bytes_after (Length n) card lent)) r → r ≡ record { answer = Done; layout = kept_of card }
-read_lent card eight lent n e r a = by (field_checks card Admitted) refl e
+pub read_lent : (card : Card) → OfEight card → (lent : List ℕ) (n : ℕ) → written_answer card (length lent) ≡ Ok n
+    → (r : Reading) → Answered (take n (bytes_after (Ok n) card lent)) r → r ≡ record { answer = no_refusal; layout = kept_of card }
+read_lent card eight lent n e r a = by (field_checks card no_refusal) refl e
   where
     front : (t m : List ℕ) (n : ℕ) → length t ≡ n → take n (t ++ m) ≡ t
     front [] m zero h = refl
@@ -257,9 +254,9 @@ read_lent card eight lent n e r a = by (field_checks card Admitted) refl e
     front (b ∷ t) m zero h = absurd (omega arith)
     front (b ∷ t) m (suc n) h = ap (λ (l : List ℕ). b ∷ l) (front t m n (omega arith))
 
-    long : (lent needed : ℕ) → answer_for Admitted needed lent ≡ Length n → needed ≡ n
-    long lent needed = pick (λ (w : Written). w ≡ Length n → needed ≡ n) (ltb lent needed) (λ _ z. absurd (apart (cc))) (λ _ z. cc)
+    long : (lent needed : ℕ) → answer_for no_refusal needed lent ≡ Ok n → needed ≡ n
+    long lent needed = pick (λ (w : Result ℕ Refusal). w ≡ Ok n → needed ≡ n) (ltb lent needed) (λ _ z. absurd (apart (cc))) (λ _ z. cc)
 
-    by : (x : Admission) → field_checks card Admitted ≡ x → answer_for x (length (text_of card)) (length lent) ≡ Length n → r ≡ record { answer = Done; layout = kept_of card }
-    by Admitted ok w = read_written card eight ok r (subst (λ (t : List ℕ). Answered t r) (front (text_of card) (drop n lent) n (long (length lent) (length (text_of card)) w)) a)
-    by (Refused q) ok w = absurd (apart (cc))
+    by : (x : Result ⊤ Refusal) → field_checks card no_refusal ≡ x → answer_for x (length (text_of card)) (length lent) ≡ Ok n → r ≡ record { answer = no_refusal; layout = kept_of card }
+    by (Ok _) ok w = read_written card eight ok r (subst (λ (t : List ℕ). Answered t r) (front (text_of card) (drop n lent) n (long (length lent) (length (text_of card)) w)) a)
+    by (Err q) ok w = absurd (apart (cc))

@@ -1,5 +1,6 @@
 -- What the machine reads of a text meets the promise of reading, so a load that is computed over it is a load of the promise, and every text is either
 -- correct or refused.
+use Rattle.std.specs.Prelude.{Result, ⊤, Ok, Err}
 use Prim.Native.Nat.{ℕ, ◌+◌, ◌<◌}
 use mathlib.Core.Path.{◌≡◌, refl, sym, ap, ap₂, ◌∙◌, subst, subst⁻¹}
 use mathlib.Core.Logic.{◌↔◌}
@@ -8,14 +9,13 @@ use mathlib.Core.List.{List, [], ◌∷◌, ◌++◌, append-nil, append_assoc}
 use native.Mathlib.Omega.{arith}
 use lib.ListN.{length, take, length-append}
 use lib.Seq.{take-append_seam, take-append-add}
+use Rattle.answers.specs.Refusals.{no_refusal}
 use Rattle.answers.specs.declared.Refusal.{Refusal}
 use Rattle.notation.specs.Text.{Correct}
 use Rattle.notation.specs.Beginning.{Refused}
 use Rattle.notation.specs.Promise.{ReadSays, Comes, Answered}
 use Rattle.notation.specs.Machine.{State, runs, stepped, start, is_stuck, is_end, refused_at, read_from, read_run}
 use Rattle.notation.specs.declared.Layout.{Layout}
-use Rattle.notation.specs.declared.Read.{Read}
-use Rattle.notation.specs.declared.Read.TheVariants.{Done, Refused as NotRead}
 use Rattle.notation.specs.declared.Reading.{Reading}
 use Rattle.notation.proofs.Exact.{runs_append}
 use Rattle.notation.proofs.Run.{stuck_refused, end_refused, end_accepted}
@@ -68,10 +68,10 @@ read_exactly t r = (
   },
 )
   where
-    by : ReadSays t r → (x : Read) (l : Layout) → Comes x t l → r ≡ record { answer = x; layout = l }
-    by k Done l c = k.correct c.correct ∙ ap (λ (m : Layout). record { answer = Done; layout = m }) (sym c.layout_said)
-    by k (NotRead refusal) l c =
-        k.wrong c.a c.longest ∙ ap₂ (λ (q : Refusal) (m : Layout). record { answer = NotRead q; layout = m }) (sym c.eighteen) (sym c.zeros)
+    by : ReadSays t r → (x : Result ⊤ Refusal) (l : Layout) → Comes x t l → r ≡ record { answer = x; layout = l }
+    by k (Ok _) l c = k.correct c.correct ∙ ap (λ (m : Layout). record { answer = no_refusal; layout = m }) (sym c.layout_said)
+    by k (Err refusal) l c =
+        k.wrong c.a c.longest ∙ ap₂ (λ (q : Refusal) (m : Layout). record { answer = Err q; layout = m }) (sym c.eighteen) (sym c.zeros)
 
 -- two readings that it allows are equal
 pub read_says_settled : (t : List ℕ) (p q : Reading) → ReadSays t p → ReadSays t q → p ≡ q

@@ -1,5 +1,6 @@
 -- How long a text can be: a correct one has at most 352 bytes, one that a card is written as at most 344, and one card has so many. Each part is as long as its
 -- pieces, and of the offsets, whose axes rise, each name comes once.
+use Rattle.std.specs.Prelude.{Ok, Result}
 use Prim.Native.Nat.{ℕ, zero, suc, ◌+◌, ◌-◌, ◌*◌, ◌/◌, ◌%◌, ◌≤◌}
 use mathlib.Core.Path.{◌≡◌, refl, sym, subst}
 use mathlib.Core.Bool.{Bool, true, false, cond, not, ◌||◌, and-eq-true_iff, true≢false}
@@ -10,8 +11,9 @@ use borrow.Author.Tests.{leb-true, ltb-true}
 use lib.Dec.{leb, ltb}
 use lib.IntN.{ℤ, pos, negsuc}
 use lib.ListN.{length, get_or, replicate, length-append}
+use Rattle.answers.specs.declared.Refusal.{Refusal}
 use Rattle.laws.proofs.Tests.{four_of}
-use Rattle.answers.specs.Refusals.{answer}
+use Rattle.answers.specs.Refusals.{answer, no_refusal}
 use Rattle.answers.specs.declared.Numbers.{Numbers}
 use Rattle.card.specs.Lists.{all, within_z}
 use Rattle.card.specs.Limits.{most_extent, least_stride, most_stride}
@@ -20,7 +22,6 @@ use Rattle.card.specs.Admission.{counts_fit, iters_fit, marks_fit, numbers_fit, 
 use Rattle.card.proofs.ReadBack.{OfEight}
 use Rattle.card.specs.declared.Iter.{Iter}
 use Rattle.card.specs.declared.Card.{Card}
-use Rattle.card.specs.declared.Admission.TheVariants.{Admitted}
 use Rattle.notation.specs.Quoted.{quoted_bytes}
 use Rattle.notation.specs.Text.{digits, decimal, name, axis_meant, spell_place, spell_signed, spell_step, tails, joined, enclosed, Lists, spell_lists, spell_shard, spell_replica, spell_offsets, Notation, spell, Each, Sound, is_marked, Plain, Rising, Limits, Within, Correct}
 use Rattle.notation.specs.Beginning.{Begins}
@@ -28,7 +29,6 @@ use Rattle.notation.specs.Writing.{step_for, steps_for, written_as, text_of, wri
 use Rattle.notation.specs.declared.NamedAxis.{NamedAxis}
 use Rattle.notation.specs.declared.NamedAxis.TheVariants.{Bare, At, Marked}
 use Rattle.notation.specs.declared.Step.{Step}
-use Rattle.notation.specs.declared.Written.{Written}
 use Rattle.notation.proofs.Lists.{pick, several, is_none, spell_some}
 use Rattle.notation.proofs.InNumbers.{write_in_numbers}
 use Rattle.notation.proofs.Back.{axis_back, numbers, written_within}
@@ -212,7 +212,7 @@ Not11 n = n.number ≡ 11 → ⊥
 
 module _ (card : Card) (eight : OfEight card) where
   -- what a card is written as
-  pub written_length : field_checks card Admitted ≡ Admitted → length (text_of card) ≤ 344
+  pub written_length : field_checks card no_refusal ≡ no_refusal → length (text_of card) ≤ 344
   unfolding text_of
   written_length ok =
       let w = written_within card eight ok in
@@ -221,7 +221,7 @@ module _ (card : Card) (eight : OfEight card) where
       (omega (arith, lists_length 13 true (written_as card).shard w.shard.same (strides_brief (marks_of card) (listed card.shard) n.1 w.shard.sound), w.shard.few))
 
   -- whoever lends 344 bytes is never answered 11
-  pub never_short : (lent : ℕ) → 344 ≤ lent → (r : Written) → r ≡ written_answer card lent → Not11 (write_numbers r)
+  pub never_short : (lent : ℕ) → 344 ≤ lent → (r : Result ℕ Refusal) → r ≡ written_answer card lent → Not11 (write_numbers r)
   never_short lent room r e =
       rw (write_in_numbers card lent r e)
       (pick Not11 (not (counts_fit card)) (λ _ n. absurd (omega (arith, n)))

@@ -1,4 +1,5 @@
 -- What the definitions mean: a text says one thing, the promise of reading settles the answer, and reading what was spelled gives the same.
+use Rattle.std.specs.Prelude.{Result, ⊤, Ok, Err}
 use Prim.Native.Nat.{ℕ, ◌≤◌, ◌<◌}
 use mathlib.Core.Path.{◌≡◌, refl, sym, ap, ◌∙◌, subst, subst⁻¹}
 use mathlib.Core.Logic.{◌⊎◌, inl, inr, ⊎_elim}
@@ -6,6 +7,7 @@ use mathlib.Core.List.{List}
 use native.Mathlib.Omega.{arith}
 use native.Mathlib.Nat.{le_antisymm}
 use lib.ListN.{length}
+use Rattle.answers.specs.Refusals.{no_refusal}
 use Rattle.answers.specs.declared.Refusal.{Refusal}
 use Rattle.answers.specs.declared.Refusal.TheVariants.{Notation as NotCorrect}
 use Rattle.answers.proofs.OneToOne.{refusal_one_to_one}
@@ -15,8 +17,6 @@ use Rattle.notation.specs.Beginning.{Begins, Refused}
 use Rattle.notation.specs.Meaning.{layout_of}
 use Rattle.notation.specs.Promise.{no_layout, Accepted, NotAccepted, Comes, Answered}
 use Rattle.notation.specs.declared.Layout.{Layout}
-use Rattle.notation.specs.declared.Read.{Read}
-use Rattle.notation.specs.declared.Read.TheVariants.{Done, Refused as NotRead}
 use Rattle.notation.specs.declared.Reading.{Reading}
 use Rattle.notation.proofs.Run.{says_once}
 
@@ -36,17 +36,17 @@ longest_once text a b p q =
 pub read_settled : (text : List ℕ) (p q : Reading) → Answered text p → Answered text q → p ≡ q
 read_settled text p q = by p.answer q.answer p.layout q.layout
   where
-    by : (x y : Read) (l m : Layout) → Comes x text l → Comes y text m → ◌≡◌ {A = Reading} (record { answer = x; layout = l }) (record { answer = y; layout = m })
-    by Done Done l m c d =
-        ap (λ (k : Layout). record { answer = Done; layout = k }) (c.layout_said ∙ ap layout_of (text_says_one text c.correct d.correct) ∙ sym d.layout_said)
-    by Done (NotRead s) l m c d = absurd (d.longest.incorrect c.correct)
-    by (NotRead r) Done l m c d = absurd (c.longest.incorrect d.correct)
-    by (NotRead r) (NotRead s) l m c d =
+    by : (x y : Result ⊤ Refusal) (l m : Layout) → Comes x text l → Comes y text m → ◌≡◌ {A = Reading} (record { answer = x; layout = l }) (record { answer = y; layout = m })
+    by (Ok _) (Ok _) l m c d =
+        ap (λ (k : Layout). record { answer = no_refusal; layout = k }) (c.layout_said ∙ ap layout_of (text_says_one text c.correct d.correct) ∙ sym d.layout_said)
+    by (Ok _) (Err s) l m c d = absurd (d.longest.incorrect c.correct)
+    by (Err r) (Ok _) l m c d = absurd (c.longest.incorrect d.correct)
+    by (Err r) (Err s) l m c d =
         let one : r ≡ s = c.eighteen ∙ ap NotCorrect (longest_once text c.a d.a c.longest d.longest) ∙ sym d.eighteen in
         let zeros : l ≡ m = c.zeros ∙ sym d.zeros in
-        λ j. record { answer = NotRead (one j); layout = zeros j }
+        λ j. record { answer = Err (one j); layout = zeros j }
 
 -- reading what was spelled gives what was spelled
-pub read_spelled : (n : Notation) → Within n → (r : Reading) → Answered (spell n) r → r ≡ record { answer = Done; layout = layout_of n }
+pub read_spelled : (n : Notation) → Within n → (r : Reading) → Answered (spell n) r → r ≡ record { answer = no_refusal; layout = layout_of n }
 read_spelled n w r a =
-    read_settled (spell n) r (record { answer = Done; layout = layout_of n }) a (record { correct = record { says = n; within = w; spelled = refl }; layout_said = refl })
+    read_settled (spell n) r (record { answer = no_refusal; layout = layout_of n }) a (record { correct = record { says = n; within = w; spelled = refl }; layout_said = refl })

@@ -1,6 +1,7 @@
 -- The reader as a machine: where it stands and a byte give a move. Nothing here has to be believed: it is what the functions of the reader promise each
 -- other, and what the proofs run over a text.
-use Rattle.std.specs.Prelude.{ℕ, ◌+◌, ◌-◌, ◌*◌, ◌%◌, Bool, true, false, cond, ◌&&◌, List, [], ◌∷◌, ◌++◌, leb, ltb, eqb, length, get_or, set, replicate, ℤ, pos}
+use Rattle.std.specs.Prelude.{ℕ, ◌+◌, ◌-◌, ◌*◌, ◌%◌, Bool, true, false, cond, ◌&&◌, List, [], ◌∷◌, ◌++◌, leb, ltb, eqb, length, get_or, set, replicate, ℤ, pos, Err, Ok}
+use Rattle.answers.specs.Refusals.{no_refusal}
 use Rattle.card.specs.Card.{none}
 use Rattle.card.specs.declared.Iters.{Iters}
 use Rattle.notation.specs.Text.{axis_meant, Lists, Notation, is_marked}
@@ -8,7 +9,6 @@ use Rattle.notation.specs.Meaning.{value_of, layout_of}
 use Rattle.notation.specs.Promise.{no_layout}
 use Rattle.answers.specs.declared.Refusal.TheVariants.{Notation as NotCorrect}
 use Rattle.notation.specs.declared.Layout.{Layout}
-use Rattle.notation.specs.declared.Read.TheVariants.{Done, Refused as NotRead}
 use Rattle.notation.specs.declared.Reading.{Reading}
 use Rattle.notation.specs.declared.Phase.{Phase}
 use Rattle.notation.specs.declared.Phase.TheVariants.{First, Extent, Begun, Minus, Size, At, Tee, Named, Starred, Closed, Plus, Opened, Ended, Stuck}
@@ -295,11 +295,11 @@ adds (APart part) = false
 
 -- the answer where no correct text goes on, and at the end of a text
 abbrev pub refused_at : ℕ → Reading
-refused_at a = record { answer = NotRead (NotCorrect a); layout = no_layout }
+refused_at a = record { answer = Err (NotCorrect a); layout = no_layout }
 
 abbrev pub concluded : Reader → Layout → ℕ → Reading
 concluded r l length =
-    cond (ends_well r) (record { answer = Done; layout = recorded (last_event r.phase r.piece) r.piece r.spot l }) (refused_at length)
+    cond (ends_well r) (record { answer = no_refusal; layout = recorded (last_event r.phase r.piece) r.piece r.spot l }) (refused_at length)
 
 -- what has been read: the part, the least axis that may follow, its extents, its strides or offsets, and the lists before it
 pub record Seen : Type 0 where
@@ -386,7 +386,7 @@ ending r = said (seeing (last_event r.phase r.piece) r.piece r.seen)
 
 -- what the machine reads from a place on
 abbrev pub read_from : State → ℕ → List ℕ → Reading
-read_from r i [] = cond (is_end r) (record { answer = Done; layout = layout_of (ending r) }) (refused_at i)
+read_from r i [] = cond (is_end r) (record { answer = no_refusal; layout = layout_of (ending r) }) (refused_at i)
 read_from r i (b ∷ t) = cond (is_stuck (stepped r b).phase) (refused_at i) (read_from (stepped r b) (i + 1) t)
 
 abbrev pub read_run : List ℕ → Reading

@@ -1,6 +1,6 @@
 -- What reading and writing a text promise.
-use Rattle.std.specs.Prelude.{ℕ, ◌≡◌, false, List, pos, replicate}
-use Rattle.answers.specs.Refusals.{answer, refusal_numbers}
+use Rattle.std.specs.Prelude.{ℕ, ◌≡◌, false, List, pos, replicate, Ok, Err, Result, ⊤}
+use Rattle.answers.specs.Refusals.{answer, refusal_numbers, numbers_of, just_zero, no_refusal}
 use Rattle.answers.specs.declared.Numbers.{Numbers}
 use Rattle.answers.specs.declared.Refusal.{Refusal}
 use Rattle.answers.specs.declared.Refusal.TheVariants.{Notation as NotCorrect}
@@ -10,8 +10,6 @@ use Rattle.notation.specs.Text.{Correct}
 use Rattle.notation.specs.Beginning.{Refused}
 use Rattle.notation.specs.Meaning.{layout_of}
 use Rattle.notation.specs.declared.Layout.{Layout}
-use Rattle.notation.specs.declared.Read.{Read}
-use Rattle.notation.specs.declared.Read.TheVariants.{Done, Refused as NotRead}
 use Rattle.notation.specs.declared.Reading.{Reading}
 
 -- a record of zeros
@@ -24,13 +22,12 @@ no_layout = record { shard = no_iters; marks = replicate 8 false; replica = no_i
 -- what reading promises: the layout that a correct text says; else refusal 18, where a is the length of the longest beginning that some correct text also
 -- has, and a record of zeros
 pub record ReadSays (text : List ℕ) (r : Reading) : Type 0 where
-  pub correct : (c : Correct text) → r ≡ record { answer = Done; layout = layout_of c.says }
-  pub wrong : (a : ℕ) → Refused Correct text a → r ≡ record { answer = NotRead (NotCorrect a); layout = no_layout }
+  pub correct : (c : Correct text) → r ≡ record { answer = no_refusal; layout = layout_of c.says }
+  pub wrong : (a : ℕ) → Refused Correct text a → r ≡ record { answer = Err (NotCorrect a); layout = no_layout }
 
 -- at number 0 the details of a reading are zero: its layout stands beside it
-abbrev pub read_numbers : Read → Numbers
-read_numbers Done = answer 0 0 0 0
-read_numbers (NotRead refusal) = refusal_numbers refusal
+abbrev pub read_numbers : Result ⊤ Refusal → Numbers
+read_numbers = numbers_of just_zero
 
 -- The same by cases of the answer, for the crates above; nothing from here on has to be believed.
 -- accepted exactly when the text is correct, with the layout that it says
@@ -45,9 +42,9 @@ pub record NotAccepted (text : List ℕ) (refusal : Refusal) (layout : Layout) :
   pub longest : Refused Correct text a
   pub zeros : layout ≡ no_layout
 
-abbrev pub Comes : Read → List ℕ → Layout → Type 0
-Comes Done text layout = Accepted text layout
-Comes (NotRead refusal) text layout = NotAccepted text refusal layout
+abbrev pub Comes : Result ⊤ Refusal → List ℕ → Layout → Type 0
+Comes (Ok _) text layout = Accepted text layout
+Comes (Err refusal) text layout = NotAccepted text refusal layout
 
 abbrev pub Answered : List ℕ → Reading → Type 0
 Answered text r = Comes r.answer text r.layout

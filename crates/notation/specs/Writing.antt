@@ -1,6 +1,7 @@
 -- How a card is written: the axis always named, zero offsets and an empty replica left out; checks 1 to 3, then 11.
-use Rattle.std.specs.Prelude.{ℕ, ◌+◌, Bool, true, false, cond, List, [], ◌∷◌, ◌++◌, map, eqb, ltb, ℤ, pos, negsuc, nat_abs, length, drop, replicate}
-use Rattle.answers.specs.Refusals.{answer, refusal_numbers}
+use Rattle.std.specs.Prelude.{ℕ, ◌+◌, Bool, true, false, cond, List, [], ◌∷◌, ◌++◌, map, eqb, ltb, ℤ, pos, negsuc, nat_abs, length, drop, replicate, Result, ⊤, Ok, Err}
+use Rattle.answers.specs.declared.Refusal.{Refusal}
+use Rattle.answers.specs.Refusals.{answer, refusal_numbers, numbers_of, one_detail, no_refusal}
 use Rattle.answers.specs.declared.Numbers.{Numbers}
 use Rattle.answers.specs.declared.Refusal.TheVariants.{TooShort}
 use Rattle.card.specs.Card.{listed, marks_of, extent_of, kept}
@@ -8,15 +9,11 @@ use Rattle.card.specs.Admission.{field_checks}
 use Rattle.card.specs.declared.Iter.{Iter}
 use Rattle.card.specs.declared.Iters.{Iters}
 use Rattle.card.specs.declared.Card.{Card}
-use Rattle.card.specs.declared.Admission.{Admission}
-use Rattle.card.specs.declared.Admission.TheVariants.{Admitted, Refused}
 use Rattle.notation.specs.Text.{Lists, Notation, spell}
 use Rattle.notation.specs.declared.NamedAxis.{NamedAxis}
 use Rattle.notation.specs.declared.NamedAxis.TheVariants.{At, Marked}
 use Rattle.notation.specs.declared.Step.{Step}
 use Rattle.notation.specs.declared.Layout.{Layout}
-use Rattle.notation.specs.declared.Written.{Written}
-use Rattle.notation.specs.declared.Written.TheVariants.{Length, Refused as NotWritten}
 
 abbrev pub is_below : ℤ → Bool
 is_below (pos n) = false
@@ -50,21 +47,20 @@ unfoldable pub text_of : Card → List ℕ
 text_of card = spell (written_as card)
 
 -- writing refuses by checks 1 to 3, then 11 with the length needed; at 0 it gives the length
-abbrev pub answer_for : Admission → ℕ → ℕ → Written
-answer_for Admitted needed lent = cond (ltb lent needed) (NotWritten (TooShort needed)) (Length needed)
-answer_for (Refused refusal) needed lent = NotWritten refusal
+abbrev pub answer_for : Result ⊤ Refusal → ℕ → ℕ → Result ℕ Refusal
+answer_for (Ok _) needed lent = cond (ltb lent needed) (Err (TooShort needed)) (Ok needed)
+answer_for (Err refusal) needed lent = Err refusal
 
-abbrev pub written_answer : Card → ℕ → Written
-written_answer card lent = answer_for (field_checks card Admitted) (length (text_of card)) lent
+abbrev pub written_answer : Card → ℕ → Result ℕ Refusal
+written_answer card lent = answer_for (field_checks card no_refusal) (length (text_of card)) lent
 
 -- the lent bytes: refused they are untouched, and at 0 those past the text stay
-abbrev pub bytes_after : Written → Card → List ℕ → List ℕ
-bytes_after (Length n) card bytes = text_of card ++ drop n bytes
-bytes_after (NotWritten refusal) card bytes = bytes
+abbrev pub bytes_after : Result ℕ Refusal → Card → List ℕ → List ℕ
+bytes_after (Ok n) card bytes = text_of card ++ drop n bytes
+bytes_after (Err refusal) card bytes = bytes
 
-abbrev pub write_numbers : Written → Numbers
-write_numbers (Length n) = answer 0 n 0 0
-write_numbers (NotWritten refusal) = refusal_numbers refusal
+abbrev pub write_numbers : Result ℕ Refusal → Numbers
+write_numbers = numbers_of one_detail
 
 -- what of a card is written: all but the lengths and the swizzle of what is kept of it
 abbrev pub kept_of : Card → Layout

@@ -16,6 +16,7 @@ pub enum NamedAxis {
 // A stride or an offset as it is written.
 #[derive(Clone, Copy)]
 pub struct Step {
+    // the sign, and no flag of the size
     pub negative: bool,
     pub size: u64,
     pub place: NamedAxis,
@@ -30,25 +31,11 @@ pub struct Layout {
     pub offset: [i64; 8],
 }
 
-// The answer to the reading of a text.
-#[derive(Clone, Copy)]
-pub enum Read {
-    Done,
-    Refused(Refusal),
-}
-
 // What reading a text gives: the answer, and the layout beside it.
 #[derive(Clone, Copy)]
 pub struct Reading {
-    pub answer: Read,
+    pub answer: Result<(), Refusal>,
     pub layout: Layout,
-}
-
-// The answer to the writing of a layout: its length.
-#[derive(Clone, Copy)]
-pub enum Written {
-    Length(u64),
-    Refused(Refusal),
 }
 
 // Where in the text the reader stands.
@@ -83,6 +70,7 @@ pub enum Part {
 #[derive(Clone, Copy)]
 pub struct Piece {
     pub value: u64,
+    // the sign, and no flag of the size
     pub negative: bool,
     pub axis: u64,
 }

@@ -1,18 +1,17 @@
 -- What lies outside the space, as the verdict needs it, and how it is found. Nothing here has to be believed: a finding is what judgement says.
-use Rattle.std.specs.Prelude.{ℕ, ◌+◌, ◌*◌, ◌/◌, ◌%◌, ◌≤◌, ◌<◌, true, false, List, ℤ}
+use Rattle.std.specs.Prelude.{ℕ, ◌+◌, ◌*◌, ◌/◌, ◌%◌, ◌≤◌, ◌<◌, true, false, List, ℤ, Option, Some, None}
+use Rattle.outside.specs.declared.Outside.{Outside}
 use Rattle.card.specs.Card.{elements}
 use Rattle.card.specs.Packed.{card_of, Admits}
 use Rattle.card.specs.declared.Card.{Card}
 use Rattle.rules_linear.specs.Leaving.{Leaves}
 use Rattle.judgement.specs.Judgement.{AllInside, FirstOutside}
 use Rattle.outside_ends.specs.Clauses.{EndSums}
-use Rattle.outside.specs.declared.Search.{Search}
-use Rattle.outside.specs.declared.Search.TheVariants.{Outside, NoneOutside}
 
 -- what a search for the first element outside finds
-abbrev pub FindsOutside : Card → Search → Type 0
-FindsOutside card (Outside flat axis) = FirstOutside card flat.0 axis
-FindsOutside card NoneOutside = AllInside card
+abbrev pub FindsOutside : Card → Option Outside → Type 0
+FindsOutside card (Some found) = FirstOutside card found.flat.0 found.axis
+FindsOutside card None = AllInside card
 
 -- an element and one of eight axes as one number, the smallest of those that leave on the first so many axes: the first element, and then its smallest
 -- axis; where none leaves, past all elements

@@ -13,9 +13,9 @@ use answers::Flat;
 
 // What a search for the first element outside finds.
 #[derive(Clone, Copy)]
-pub enum Search {
-    Outside { flat: Flat, axis: u64 },
-    NoneOutside,
+pub struct Outside {
+    pub flat: Flat,
+    pub axis: u64,
 }
 
 // The axis m, the last.
@@ -47,11 +47,9 @@ fn first_on_axes(
     ensures { FirstWord (card_of numbers.now strides.now) 7 result }
 {
     let mut word = copies::AXES * numbers[card::ELEMENTS];
-    let mut axis = first;
-    while axis < M {
+    for axis in first..M {
         let flat = first_on_axis(numbers, strides, axis, low[axis], high[axis]);
-        word = outside_axis::smaller(word, copies::AXES * flat.0 + axis as u64);
-        axis += 1;
+        word = word.min(copies::AXES * flat.0 + axis as u64);
     }
     word
 }
@@ -79,15 +77,15 @@ fn first_of_all(
         high[M],
     );
     if whole == numbers[card::LENGTHS + M] {
-        return outside_axis::smaller(word, copies::AXES * from.0 + card::LAST_AXIS);
+        return word.min(copies::AXES * from.0 + card::LAST_AXIS);
     }
     let flat = outside_swizzled::first_leaving(numbers, strides, from, Flat(word / copies::AXES));
-    outside_axis::smaller(word, copies::AXES * flat.0 + card::LAST_AXIS)
+    word.min(copies::AXES * flat.0 + card::LAST_AXIS)
 }
 
 // What lies outside the space: nothing where the card's far ends lie inside, and else the first element
 // that leaves. Public, with a requires, for the crate above.
-pub fn find_outside(numbers: &[u64; 56], strides: &[i64; 24]) -> Search
+pub fn find_outside(numbers: &[u64; 56], strides: &[i64; 24]) -> Option<Outside>
     requires { Admits numbers.now strides.now }
     ensures { FindsOutside (card_of numbers.now strides.now) result }
 {
@@ -96,14 +94,14 @@ pub fn find_outside(numbers: &[u64; 56], strides: &[i64; 24]) -> Search
     outside_ends::ends(numbers, strides, &mut low, &mut high);
     let first = outside_ends::first_axis(&low, &high, numbers);
     if (first == M) & outside_ends::m_between(low[M], high[M], numbers) {
-        return Search::NoneOutside;
+        return None;
     }
     let word = first_of_all(numbers, strides, first, &low, &high);
     if copies::AXES * numbers[card::ELEMENTS] <= word {
-        return Search::NoneOutside;
+        return None;
     }
-    Search::Outside {
+    Some(Outside {
         flat: Flat(word / copies::AXES),
         axis: word % copies::AXES,
-    }
+    })
 }

@@ -1,5 +1,6 @@
 -- The first element that strays from a bound: its copy furthest up, or down, is the one at the replica's far end, so it strays exactly where it is near
 -- enough to the shard's far end.
+use Rattle.std.specs.Prelude.{Ok}
 use mathlib.Core.Path.{◌≡◌, refl}
 use mathlib.Core.Bool.{Bool, true, false}
 use mathlib.Core.List.{map}
@@ -10,11 +11,11 @@ use native.Mathlib.Omega.{arith}
 use lib.IntN.{ℤ, pos, negsuc, neg_ℤ, ◌+ℤ◌}
 use lib.ListN.{get_or}
 use lib.Signed.{◌≤ℤ◌, ◌<ℤ◌, le_z, lt_z}
+use Rattle.answers.specs.Refusals.{no_refusal}
 use Rattle.laws.proofs.Parts.{whole, parts_sum, parts_neg, le_z_true, le_z_false, lt_z_true, lt_z_false}
 use Rattle.card.specs.Card.{listed, extent_of, elements, copies}
 use Rattle.card.specs.Admission.{admission}
 use Rattle.card.specs.declared.Card.{Card}
-use Rattle.card.specs.declared.Admission.TheVariants.{Admitted}
 use Rattle.card.proofs.Admitted.{checked, Numbered, numbered, Fitting, fitting, Sized, sized}
 use Rattle.rules.specs.Rules.{part, sum}
 use Rattle.rules.specs.RowMajor.{components}
@@ -27,7 +28,7 @@ use Rattle.rules_linear.specs.Leaving.{Sought}
 use Rattle.outside_axis.specs.Straying.{Strays, Reaches, beyond_end}
 use Rattle.outside_axis.proofs.Ends.{Apart, part_apart}
 
-module _ (card : Card) (admitted : admission card ≡ Admitted) (axis bound : ℕ) where
+module _ (card : Card) (admitted : admission card ≡ no_refusal) (axis bound : ℕ) where
   fits : Numbered card
   fits = numbered card (checked card admitted).numbers
 

@@ -5,7 +5,7 @@
 // An element and its axis are one number, 8 * flat + axis: the smallest is the first element, and of it the smallest axis.
 #![tactic(auto)]
 
-ghost use Rattle.std.specs.Prelude.{◌≤◌, min, ◌≡◌, nat_abs};
+ghost use Rattle.std.specs.Prelude.{◌≤◌, ◌≡◌, nat_abs};
 ghost use Rattle.card.specs.Card.{elements};
 ghost use Rattle.card.specs.Packed.{farthest, iters_of, card_of};
 ghost use Rattle.rules_linear.specs.Reaching.{ahead, steps_back, first_index};
@@ -39,14 +39,7 @@ fn steps_back(extent: u64, weight: u64, spare: u64) -> u64
     if weight == 0 {
         return extent - 1;
     }
-    smaller(extent - 1, spare / weight)
-}
-
-// The smaller of two numbers. Public for the crates above.
-pub fn smaller(a: u64, b: u64) -> u64
-    ensures { result ≡ min a b }
-{
-    if a < b { a } else { b }
+    (extent - 1).min(spare / weight)
 }
 
 // The smallest index that leaves an axis near enough to its far end: from the slowest iter on, the smallest
@@ -65,8 +58,7 @@ fn first_within(
     let count = numbers[card::COUNTS + list] as usize;
     let mut left = spare;
     let mut index: u64 = 0;
-    let mut k: usize = 0;
-    while k < count {
+    for k in 0..count {
         let extent = numbers[16 * list + k];
         let weight = step_ahead(
             numbers[16 * list + 8 + k],
@@ -77,7 +69,6 @@ fn first_within(
         let back = steps_back(extent, weight, left);
         index = index * extent + (extent - 1 - back);
         left = left - back * weight;
-        k += 1;
     }
     index
 }
@@ -116,5 +107,5 @@ pub fn first_astray(
 {
     let above = first_over(numbers, strides, axis, bound, true, high - bound as i64);
     let below = first_over(numbers, strides, axis, bound, false, -1 - low);
-    Flat(smaller(above.0, below.0))
+    Flat(above.0.min(below.0))
 }

@@ -40,9 +40,8 @@ fn spread(
     ensures moves { Moves false (iters_of numbers.now strides.now list) low.old low.new }
     ensures moves_2 { Moves true (iters_of numbers.now strides.now list) high.old high.new }
 {
-    let mut k = numbers[card::COUNTS + list] as usize;
-    while 0 < k {
-        k -= 1;
+    let count = numbers[card::COUNTS + list] as usize;
+    for k in (0..count).rev() {
         let extent = numbers[16 * list + k];
         let stride = strides[8 * list + k];
         let axis = numbers[16 * list + 8 + k] as usize;
@@ -88,13 +87,11 @@ pub fn first_axis(low: &[i64; 8], high: &[i64; 8], numbers: &[u64; 56]) -> usize
     requires { (length low.now ≡ 8) × (length high.now ≡ 8) × Spaced numbers.now }
     ensures { (result ≤ 7) × BetweenTo result low.now high.now numbers.now }
 {
-    let mut axis: usize = 0;
-    while axis < M {
+    for axis in 0..M {
         let length = numbers[card::LENGTHS + axis] as i64;
         if (low[axis] < 0) | (length <= high[axis]) {
             return axis;
         }
-        axis += 1;
     }
     M
 }

@@ -1,4 +1,5 @@
 -- A card whose far ends lie inside lies inside: every coordinate is from 0 to below its length, and on m the swizzle keeps the block of each address.
+use Rattle.std.specs.Prelude.{Ok}
 use mathlib.Core.Path.{◌≡◌, refl, sym, ◌∙◌}
 use mathlib.Core.Bool.{Bool, true, false}
 use Prim.Native.Nat.{ℕ, ◌+◌, ◌*◌, ◌/◌, ◌^◌, ◌≤◌, ◌<◌}
@@ -9,13 +10,13 @@ use native.Mathlib.Omega.{arith}
 use lib.IntN.{ℤ, pos, negsuc, ◌+ℤ◌}
 use lib.ListN.{length, get_or, get_or-map}
 use lib.Signed.{◌≤ℤ◌, ◌<ℤ◌}
+use Rattle.answers.specs.Refusals.{no_refusal}
 use Rattle.swizzle.specs.Swizzle.{swizzled}
 use Rattle.swizzle.proofs.Laws.{swizzled_block}
 use Rattle.card.specs.Limits.{last_axis}
 use Rattle.card.specs.Card.{elements, copies}
 use Rattle.card.specs.Admission.{admission}
 use Rattle.card.specs.declared.Card.{Card}
-use Rattle.card.specs.declared.Admission.TheVariants.{Admitted}
 use Rattle.card.proofs.Admitted.{checked, Numbered, numbered, fitting}
 use Rattle.rules.specs.RowMajor.{inside, first_past, position}
 use Rattle.rules.specs.Rules.{sum, swizzled_z, finished, on_axis, coordinates, spot}
@@ -31,7 +32,7 @@ use Rattle.outside_reach.proofs.Reach.{part_most, part_least}
 sum_le : (a b c d offset : ℤ) → a ≤ℤ c → b ≤ℤ d → (a +ℤ offset +ℤ b) ≤ℤ (c +ℤ offset +ℤ d)
 sum_le a b c d offset s t = omega (whole, parts_sum a offset, parts_sum (a +ℤ offset) b, parts_sum c offset, parts_sum (c +ℤ offset) d)
 
-module _ (card : Card) (admitted : admission card ≡ Admitted) (f r : ℕ) (hf : f < elements card) (hr : r < copies card) (axis : ℕ) where
+module _ (card : Card) (admitted : admission card ≡ no_refusal) (f r : ℕ) (hf : f < elements card) (hr : r < copies card) (axis : ℕ) where
   fits : Numbered card
   fits = numbered card (checked card admitted).numbers
 
@@ -77,7 +78,7 @@ swizzled_below : (M B S : ℕ) (z : ℤ) (length : ℕ) → pos 0 ≤ℤ z → z
 swizzled_below M B S (pos m) length l h = blocks_kept M B S m length (omega whole)
 swizzled_below M B S (negsuc m) length l h = absurd (omega whole)
 
-module _ (card : Card) (admitted : admission card ≡ Admitted) (eight : length card.lengths ≡ 8) (stays : Stays card) (f r : ℕ) (hf : f < elements card)
+module _ (card : Card) (admitted : admission card ≡ no_refusal) (eight : length card.lengths ≡ 8) (stays : Stays card) (f r : ℕ) (hf : f < elements card)
     (hr : r < copies card) where
   axis_below : (axis : ℕ) → axis < 8 → get_or (coordinates card f r) axis 0 < get_or card.lengths axis 0
   unfolding coordinates
@@ -111,5 +112,5 @@ module _ (card : Card) (admitted : admission card ≡ Admitted) (eight : length 
           let past = first_past_lem card.lengths (coordinates card f r) (all_eight ∙ sym eight) e in
           absurd (omega (arith, past.past, axis_below k (omega (arith, past.a_place))))
 
-pub stays_inside : (card : Card) → admission card ≡ Admitted → length card.lengths ≡ 8 → Stays card → AllInside card
+pub stays_inside : (card : Card) → admission card ≡ no_refusal → length card.lengths ≡ 8 → Stays card → AllInside card
 stays_inside card admitted eight stays f r hf hr = lies_inside card admitted eight stays f r hf hr

@@ -6,7 +6,7 @@
 
 ghost use Rattle.std.specs.Prelude.{◌+◌, ◌≤◌, ◌<◌, ◌≡◌, true, pos, ◌+ℤ◌, ◌*ℤ◌, length};
 ghost use Rattle.card.specs.Limits.{last_axis};
-ghost use Rattle.card.specs.Card.{listed, copies, elements};
+ghost use Rattle.card.specs.Card.{copies, elements};
 ghost use Rattle.card.specs.Packed.{iters_of, card_of, Admits};
 ghost use Rattle.rules.specs.Rules.{part};
 ghost use Rattle.copies_sums.specs.Walks.{Walkable};
@@ -39,11 +39,9 @@ fn put_adds(numbers: &[u64; 56], strides: &[i64; 24], adds: &mut [i64])
     ensures { CopiesAdd (card_of numbers.now strides.now) adds.new }
 {
     let offset = strides[card::OFFSET + M];
-    let mut r: usize = 0;
-    while r < adds.len() {
+    for (r, entry) in adds.iter_mut().enumerate() {
         let sum = m_sum(numbers, strides, card::REPLICA, r as u64);
-        adds[r] = offset + sum;
-        r += 1;
+        *entry = offset + sum;
     }
 }
 
@@ -69,12 +67,10 @@ fn m_leaves(numbers: &[u64; 56], adds: &[i64], m: i64) -> bool
     requires { Looks numbers.now adds.now m }
     ensures { Says (MLeaves numbers.now adds.now m) result }
 {
-    let mut r: usize = 0;
-    while r < adds.len() {
-        if !m_lies(numbers, m + adds[r]) {
+    for add in adds {
+        if !m_lies(numbers, m + *add) {
             return true;
         }
-        r += 1;
     }
     false
 }
@@ -85,16 +81,15 @@ fn first_of_run(numbers: &[u64; 56], adds: &[i64], base: i64, step: i64, count: 
     ensures { Sought (λ c. MLeaves numbers.now adds.now (base +ℤ pos c *ℤ step)) count result }
 {
     let mut m = base;
-    let mut c: u64 = 0;
-    while c < count {
+    for c in 0..count {
         if m_leaves(numbers, adds, m) {
             return c;
         }
         m = m + step;
-        c += 1;
     }
     count
 }
+
 // The first element from a place on that leaves on m, or the limit: run by run, by what the copies add.
 fn first_m(numbers: &[u64; 56], strides: &[i64; 24], adds: &[i64], from: Flat, limit: Flat) -> Flat
     requires { Doubted numbers.now strides.now adds.now × NoneLeaving numbers.now strides.now from.0 limit.0 × (from.0 ≤ limit.0) }
@@ -104,8 +99,9 @@ fn first_m(numbers: &[u64; 56], strides: &[i64; 24], adds: &[i64], from: Flat, l
     let step = m_sum(numbers, strides, card::SHARD, 1);
     let end = limit.0;
     let mut flat = from.0;
+    // A while: a turn goes on by a run, not by one.
     while flat < end {
-        let count = outside_axis::smaller(run - flat % run, end - flat);
+        let count = (run - flat % run).min(end - flat);
         let base = m_sum(numbers, strides, card::SHARD, flat);
         let found = first_of_run(numbers, adds, base, step, count);
         flat = flat + found;

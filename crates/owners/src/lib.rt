@@ -16,11 +16,7 @@ use answers::{Cell, Flat, Refusal};
 pub fn clear(table: &mut [u32])
     ensures { table.new ≡ replicate (length table.old) 0 }
 {
-    let mut cell = 0;
-    while cell < table.len() {
-        table[cell] = 0;
-        cell += 1;
-    }
+    table.fill(0);
 }
 
 // The smaller of two numbers, where 0 stands for none.
@@ -40,11 +36,8 @@ fn entry_met(table: &[u32], row: &[u32]) -> u64
     ensures { result ≡ entry_met table.now row.now }
 {
     let mut best: u64 = 0;
-    let mut copy = 0;
-    while copy < row.len() {
-        let cell = row[copy] as usize;
-        best = min_some(best, table[cell] as u64);
-        copy += 1;
+    for cell in row {
+        best = min_some(best, table[*cell as usize] as u64);
     }
     best
 }
@@ -63,14 +56,9 @@ fn cell_met(table: &[u32], row: &[u32], entry: u64) -> u64
     ensures { result ≡ cell_met table.now entry row.now }
 {
     let mut best: u64 = 0;
-    let mut copy = 0;
-    while copy < row.len() {
-        let cell = row[copy] as usize;
-        best = min_some(
-            best,
-            cell_with(table[cell] as u64, entry, Cell(cell as u64)),
-        );
-        copy += 1;
+    for cell in row {
+        let found = table[*cell as usize] as u64;
+        best = min_some(best, cell_with(found, entry, Cell(*cell as u64)));
     }
     best
 }
@@ -91,12 +79,10 @@ fn write_row(table: &mut [u32], row: &[u32], flat: Flat) -> u64
 {
     let entry = flat.0 as u32 + 1;
     let mut newly: u64 = 0;
-    let mut copy = 0;
-    while copy < row.len() {
-        let cell = row[copy] as usize;
+    for cell in row {
+        let cell = *cell as usize;
         newly += free(table[cell]);
         table[cell] = entry;
-        copy += 1;
     }
     newly
 }

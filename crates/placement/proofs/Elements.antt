@@ -1,4 +1,5 @@
 -- The element that coordinates name, by where they are among the dimensions.
+use Rattle.std.specs.Prelude.{None, Some, Option}
 use mathlib.Core.Path.{◌≡◌, refl, sym, ap, ◌∙◌}
 use mathlib.Core.Bool.{Bool, true, false, cond, and-eq-true_iff}
 use Prim.Native.Nat.{ℕ, ◌≤◌}
@@ -16,39 +17,38 @@ use Rattle.placement_judged.specs.Placement.{entries, most_dimensions, shape_adm
 use Rattle.placement.specs.Clauses.{Shaped, element}
 use Rattle.placement_judged.specs.declared.Tuple.{Tuple}
 use Rattle.rules.specs.declared.Position.TheVariants.{At, Past}
-use Rattle.placement.specs.declared.Found.TheVariants.{Element, Nowhere}
 use Rattle.rules.proofs.Spots.{position_at, position_past}
 
 module _ (shape coordinates : Tuple) where
-  pub element_uncounted : (coordinates.count ≡ shape.count → ⊥) → Nowhere ≡ element shape coordinates
+  pub element_uncounted : (coordinates.count ≡ shape.count → ⊥) → None ≡ element shape coordinates
   element_uncounted h = rw (ne_eqb coordinates.count shape.count h)
 
   module _ (same : coordinates.count ≡ shape.count) where
     asked : position (entries shape) (take shape.count coordinates.at) ≡ position (entries shape) (entries coordinates)
     asked = ap (λ (n : ℕ). position (entries shape) (take n coordinates.at)) (sym same)
 
-    pub element_found : (n : ℕ) → position (entries shape) (take shape.count coordinates.at) ≡ At n → Element (record { 0 = n }) ≡ element shape coordinates
+    pub element_found : (n : ℕ) → position (entries shape) (take shape.count coordinates.at) ≡ At n → Some (record { 0 = n }) ≡ element shape coordinates
     element_found n e =
         let p = position_at (entries shape) (entries coordinates) n (sym asked ∙ e) in
         rw (eq-eqb coordinates.count shape.count same, p.within, p.number)
 
-    pub element_past : (k : ℕ) → position (entries shape) (take shape.count coordinates.at) ≡ Past k → Nowhere ≡ element shape coordinates
+    pub element_past : (k : ℕ) → position (entries shape) (take shape.count coordinates.at) ≡ Past k → None ≡ element shape coordinates
     element_past k e =
         rw (eq-eqb coordinates.count shape.count same, (position_past (entries shape) (entries coordinates) k (sym asked ∙ e)).0)
 
   -- and back: the coordinates fit exactly where they name an element, and it is the one they flatten to
-  pub named : (flat : Flat) → element shape coordinates ≡ Element flat → (coordinates_fit shape coordinates ≡ true) × (flatten shape coordinates ≡ flat.0)
+  pub named : (flat : Flat) → element shape coordinates ≡ Some flat → (coordinates_fit shape coordinates ≡ true) × (flatten shape coordinates ≡ flat.0)
   named flat = split (coordinates_fit shape coordinates) refl
     where
-      split : (b : Bool) → coordinates_fit shape coordinates ≡ b → cond b (Element (record { 0 = flatten shape coordinates })) Nowhere ≡ Element flat
+      split : (b : Bool) → coordinates_fit shape coordinates ≡ b → cond {A = Option Flat} b (Some (record { 0 = flatten shape coordinates })) None ≡ Some flat
           → (coordinates_fit shape coordinates ≡ true) × (flatten shape coordinates ≡ flat.0)
       split true t e = let same : record { 0 = flatten shape coordinates } ≡ flat = cc in (t, ap (λ (f : Flat). f.0) same)
       split false t e = absurd (apart (cc))
 
-  pub unnamed : element shape coordinates ≡ Nowhere → coordinates_fit shape coordinates ≡ false
+  pub unnamed : element shape coordinates ≡ None → coordinates_fit shape coordinates ≡ false
   unnamed = split (coordinates_fit shape coordinates) refl
     where
-      split : (b : Bool) → coordinates_fit shape coordinates ≡ b → cond b (Element (record { 0 = flatten shape coordinates })) Nowhere ≡ Nowhere
+      split : (b : Bool) → coordinates_fit shape coordinates ≡ b → cond {A = Option Flat} b (Some (record { 0 = flatten shape coordinates })) None ≡ None
           → coordinates_fit shape coordinates ≡ false
       split true t e = absurd (apart (cc))
       split false t e = t

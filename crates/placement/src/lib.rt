@@ -4,23 +4,16 @@
 ghost use Rattle.std.specs.Prelude.{◌≡◌, ◌≤◌, ◌<◌, length, take};
 ghost use Rattle.card.specs.Packed.{beyond, card_of, Whole, Admits};
 ghost use Rattle.card.specs.Card.{copies};
-ghost use Rattle.placement_judged.specs.Placement.{shape_admitted, PlacementSays, Placing, placement_numbers};
+ghost use Rattle.placement_judged.specs.Placement.{shape_admitted, PlacementSays, Placing};
 ghost use Rattle.placement.specs.Clauses.{Shaped, element, Placed};
 
-use answers::{Flat, Numbers, Refusal};
-use card::{Admission, Card};
-use placement_judged::{Placement, Tuple};
+use answers::{Flat, Refusal};
+use card::Card;
+use placement_judged::Tuple;
 use rules::Position;
 
 // The most dimensions of a shape.
 const MOST_DIMENSIONS: u64 = 8;
-
-// What coordinates in a shape name.
-#[derive(Clone, Copy)]
-enum Found {
-    Element(Flat),
-    Nowhere,
-}
 
 // Check 9: whether a shape is admitted by this many elements. Its product is judged whole.
 fn is_admitted(shape: Tuple, elements: u64) -> bool
@@ -37,18 +30,18 @@ fn is_admitted(shape: Tuple, elements: u64) -> bool
 }
 
 // Check 10 and rule 1: the element that coordinates name in an admitted shape.
-fn flatten(shape: Tuple, coordinates: Tuple) -> Found
+fn flatten(shape: Tuple, coordinates: Tuple) -> Option<Flat>
     requires { Shaped shape }
     ensures { result ≡ element shape coordinates }
 {
     let sizes = shape.at;
     let numbers = coordinates.at;
     if coordinates.count != shape.count {
-        return Found::Nowhere;
+        return None;
     }
     match copies::locate(&sizes, &numbers, shape.count) {
-        Position::At(number) => Found::Element(Flat(number)),
-        Position::Past(_) => Found::Nowhere,
+        Position::At(number) => Some(Flat(number)),
+        Position::Past(_) => None,
     }
 }
 
@@ -57,11 +50,7 @@ fn write(row: &[u32; 64], memory: &mut [u32])
     requires { (length row.now ≡ 64) × (length memory.old ≤ 64) }
     ensures { memory.new ≡ take (length memory.old) row.now }
 {
-    let mut k: usize = 0;
-    while k < memory.len() {
-        memory[k] = row[k];
-        k += 1;
-    }
+    memory.copy_from_slice(&row[..memory.len()]);
 }
 
 // Check 7 for one element, and its cells where it is passed: the smallest axis on which a copy lies
@@ -113,50 +102,42 @@ pub fn place_packed(
     shape: Tuple,
     coordinates: Tuple,
     memory: &mut [u32],
-) -> Placement
+) -> Result<u64, Refusal>
     requires { Whole numbers.now strides.now }
     ensures { Placing (card_of numbers.now strides.now) shape coordinates memory.old memory.new result }
 {
-    let admission = idle_search::admit_packed(numbers, strides);
-    if let Admission::Refused(refusal) = admission {
-        return Placement::Refused(refusal);
-    }
+    idle_search::admit_packed(numbers, strides)?;
     let elements = numbers[card::ELEMENTS];
     if !is_admitted(shape, elements) {
-        return Placement::Refused(Refusal::Shape);
+        return Err(Refusal::Shape);
     }
     let found = flatten(shape, coordinates);
-    let Found::Element(flat) = found else {
-        return Placement::Refused(Refusal::Coordinate);
+    let Some(flat) = found else {
+        return Err(Refusal::Coordinate);
     };
     let copies = numbers[card::COPIES];
     if (memory.len() as u64) < copies {
-        return Placement::Refused(Refusal::TooShort { needed: copies });
+        return Err(Refusal::TooShort { needed: copies });
     }
     let end = copies as usize;
     let axis = place_cells(numbers, strides, flat, &mut memory[..end]);
     if axis < copies::AXES {
-        return Placement::Refused(Refusal::CopyOutside { flat, axis });
+        return Err(Refusal::CopyOutside { flat, axis });
     }
-    Placement::Copies(copies)
+    Ok(copies)
 }
 
 // The placement of one element of any card: one cell number per replica combination.
-pub fn place(card: Card, shape: Tuple, coordinates: Tuple, memory: &mut [u32]) -> Placement
+pub fn place(
+    card: Card,
+    shape: Tuple,
+    coordinates: Tuple,
+    memory: &mut [u32],
+) -> Result<u64, Refusal>
     ensures { PlacementSays card shape coordinates memory.old memory.new result }
 {
     let packed = card_packed::pack(card);
     let numbers = packed.numbers;
     let strides = packed.strides;
     place_packed(&numbers, &strides, shape, coordinates, memory)
-}
-
-// The plain numbers of a placement.
-pub fn placement_numbers(placement: Placement) -> Numbers
-    ensures { result ≡ placement_numbers placement }
-{
-    match placement {
-        Placement::Copies(copies) => answers::answer(0, copies, 0, 0),
-        Placement::Refused(refusal) => answers::refusal_numbers(refusal),
-    }
 }

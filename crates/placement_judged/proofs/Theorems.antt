@@ -1,4 +1,5 @@
 -- What the placement of one element means, in plain for-alls.
+use Rattle.std.specs.Prelude.{Result, Err, Ok, ⊤}
 use mathlib.Core.Path.{◌≡◌, refl, sym, ap, ◌∙◌}
 use mathlib.Core.Bool.{Bool, true, false, cond, not, and-eq-true_iff, true≢false}
 use mathlib.Core.Logic.{◌↔◌}
@@ -10,7 +11,7 @@ use lib.Dec.{leb, eqb, ltb}
 use lib.ListN.{length, get_or, drop, get_or-append}
 use lib.Seq.{drop_at}
 use Rattle.laws.proofs.Rungs.{apart}
-use Rattle.answers.specs.Refusals.{answer}
+use Rattle.answers.specs.Refusals.{answer, no_refusal}
 use Rattle.answers.specs.declared.Numbers.{Numbers}
 use Rattle.answers.specs.declared.Refusal.{Refusal}
 use Rattle.answers.specs.declared.Refusal.TheVariants.{Shape, Coordinate, TooShort, Idle}
@@ -19,8 +20,6 @@ use Rattle.card.specs.Lists.{within, product}
 use Rattle.card.specs.Card.{elements, copies}
 use Rattle.card.specs.Admission.{admission}
 use Rattle.card.specs.declared.Card.{Card}
-use Rattle.card.specs.declared.Admission.{Admission}
-use Rattle.card.specs.declared.Admission.TheVariants.{Admitted, Refused as NoCard}
 use Rattle.card.proofs.Theorems.{AlikeCards}
 use Rattle.rules.specs.RowMajor.{inside}
 use Rattle.rules.specs.Rules.{axes, spot}
@@ -34,8 +33,6 @@ use Rattle.idle.specs.Admission.{full_admission}
 use Rattle.idle.proofs.Theorems.{checks_from_run, run_from_checks, idle_exactly, AfterAdmission, after_admission_lem, past_the_count_idle}
 use Rattle.placement_judged.specs.Placement.{entries, most_dimensions, shape_admitted, coordinates_fit, flatten, element_answer, after_admission, placement_answer, written, placement_memory, placement_numbers, PlacementSays, Placing}
 use Rattle.placement_judged.specs.declared.Tuple.{Tuple}
-use Rattle.placement_judged.specs.declared.Placement.{Placement}
-use Rattle.placement_judged.specs.declared.Placement.TheVariants.{Copies, Refused}
 
 -- rule 1: flattening names each flat index below the product of a shape by one coordinate tuple inside it
 pub flatten_one_to_one : (shape : Tuple) → OneToOne (entries shape)
@@ -50,7 +47,7 @@ flatten_below shape coordinates n admitted fits =
     omega (arith, all, (flatten_one_to_one shape).below (entries coordinates) within)
 
 -- what is promised by the pair is what is promised by the run
-pub placement_exactly : (card : Card) (shape coordinates : Tuple) (before after : List ℕ) (p : Placement)
+pub placement_exactly : (card : Card) (shape coordinates : Tuple) (before after : List ℕ) (p : Result ℕ Refusal)
     → PlacementSays card shape coordinates before after p ↔ Placing card shape coordinates before after p
 unfolding placement_answer placement_memory
 placement_exactly card shape coordinates before after p = (
@@ -60,14 +57,14 @@ placement_exactly card shape coordinates before after p = (
       (λ e. (placing.answer_is ∙ rw e refl, placing.memory_is ∙ rw (sym placing.answer_is) refl)),
 )
   where
-    by_run : ((refusal : Refusal) → full_admission card ≡ NoCard refusal → (p ≡ Refused refusal) × (after ≡ before))
-        × (full_admission card ≡ Admitted → (p ≡ element_answer card shape coordinates (length before)) × (after ≡ written p (copy_cells card (flatten shape coordinates)) before))
-        → (a : Admission) → full_admission card ≡ a → Placing card shape coordinates before after p
-    by_run k Admitted e = let so = k.1 e in record { answer_is = so.0 ∙ rw e refl; memory_is = so.1 ∙ rw (so.0, e) refl }
-    by_run k (NoCard refusal) e = let so = k.0 refusal e in record { answer_is = so.0 ∙ rw e refl; memory_is = so.1 ∙ rw e refl }
+    by_run : ((refusal : Refusal) → full_admission card ≡ Err refusal → (p ≡ Err refusal) × (after ≡ before))
+        × (full_admission card ≡ no_refusal → (p ≡ element_answer card shape coordinates (length before)) × (after ≡ written p (copy_cells card (flatten shape coordinates)) before))
+        → (a : Result ⊤ Refusal) → full_admission card ≡ a → Placing card shape coordinates before after p
+    by_run k (Ok _) e = let so = k.1 e in record { answer_is = so.0 ∙ rw e refl; memory_is = so.1 ∙ rw (so.0, e) refl }
+    by_run k (Err refusal) e = let so = k.0 refusal e in record { answer_is = so.0 ∙ rw e refl; memory_is = so.1 ∙ rw e refl }
 
 -- two outcomes that the promise of a placement allows are equal, in the answer and in every entry of the lent memory
-pub placement_settled : (card : Card) (shape coordinates : Tuple) (before m n : List ℕ) (p q : Placement)
+pub placement_settled : (card : Card) (shape coordinates : Tuple) (before m n : List ℕ) (p q : Result ℕ Refusal)
     → PlacementSays card shape coordinates before m p → PlacementSays card shape coordinates before n q → (p ≡ q) × (m ≡ n)
 placement_settled card shape coordinates before m n p q h k =
     let a = (placement_exactly card shape coordinates before m p).0 h in
@@ -75,28 +72,28 @@ placement_settled card shape coordinates before m n p q h k =
     (a.answer_is ∙ sym b.answer_is, a.memory_is ∙ sym b.memory_is)
 
 -- pinning the numbers pins the answer
-placement_back : (p : Placement) → read_back (λ n. Copies n.a) Refused (placement_numbers p) ≡ p
-placement_back (Copies n) = refl
-placement_back (Refused r) = refused_back (λ n. Copies n.a) Refused r
+placement_back : (p : Result ℕ Refusal) → read_back (λ n. Ok n.a) Err (placement_numbers p) ≡ p
+placement_back (Ok n) = refl
+placement_back (Err r) = refused_back (λ n. Ok n.a) Err r
 
-pub placement_one_to_one : (p q : Placement) → placement_numbers p ≡ placement_numbers q → p ≡ q
-placement_one_to_one = pinned (λ n. Copies n.a) Refused placement_numbers placement_back
+pub placement_one_to_one : (p q : Result ℕ Refusal) → placement_numbers p ≡ placement_numbers q → p ≡ q
+placement_one_to_one = pinned (λ n. Ok n.a) Err placement_numbers placement_back
 
 -- a rung of the ladder that gave no refusal was passed
-past_admission : (a : Admission) (p : Placement) (n : ℕ) → Copies n ≡ after_admission a p → Copies n ≡ p
-past_admission Admitted p n e = e
-past_admission (NoCard r) p n e = absurd (apart (cc))
+past_admission : (a : Result ⊤ Refusal) (p : Result ℕ Refusal) (n : ℕ) → Ok n ≡ after_admission a p → Ok n ≡ p
+past_admission (Ok _) p n e = e
+past_admission (Err r) p n e = absurd (apart (cc))
 
-past_rung : (b : Bool) (r : Refusal) (p : Placement) (n : ℕ) → Copies n ≡ cond (not b) (Refused r) p → (b ≡ true) × (Copies n ≡ p)
+past_rung : (b : Bool) (r : Refusal) (p : Result ℕ Refusal) (n : ℕ) → Ok n ≡ cond (not b) (Err r) p → (b ≡ true) × (Ok n ≡ p)
 past_rung true r p n e = (refl, e)
 past_rung false r p n e = absurd (apart (cc))
 
-past_last : (b : Bool) (r : Refusal) (k n : ℕ) → Copies n ≡ cond b (Refused r) (Copies k) → (b ≡ false) × (n ≡ k)
+past_last : (b : Bool) (r : Refusal) (k n : ℕ) → Ok n ≡ cond b (Err r) (Ok k) → (b ≡ false) × (n ≡ k)
 past_last true r k n e = absurd (apart (cc))
 past_last false r k n e = (refl, cc)
 
 -- the answer has copies only of an element, and only where all of them lie inside
-all_inside : (card : Card) (shape coordinates : Tuple) (room n : ℕ) → Copies n ≡ placement_answer card shape coordinates room
+all_inside : (card : Card) (shape coordinates : Tuple) (room n : ℕ) → Ok n ≡ placement_answer card shape coordinates room
     → (length axes ≤ outside_axis card (flatten shape coordinates)) × (n ≡ copies card) × (flatten shape coordinates < elements card)
 unfolding placement_answer
 all_inside card shape coordinates room n e =
@@ -118,7 +115,7 @@ pub record Copied (card : Card) (flat : ℕ) (before after : List ℕ) (n : ℕ)
 
 -- every copy of a placement is what rules 1 to 5 say
 pub placement_copies : (card : Card) (shape coordinates : Tuple) (before after : List ℕ) (n : ℕ) → length card.lengths ≡ 8
-    → Placing card shape coordinates before after (Copies n) → Copied card (flatten shape coordinates) before after n
+    → Placing card shape coordinates before after (Ok n) → Copied card (flatten shape coordinates) before after n
 unfolding placement_memory copy_cells outside_axis
 placement_copies card shape coordinates before after n eight p =
     let flat = flatten shape coordinates in
@@ -126,7 +123,7 @@ placement_copies card shape coordinates before after n eight p =
     let all = all_inside card shape coordinates (length before) n p.answer_is in
     let long : length cells ≡ n = cells_length (spot card flat) (copies card) ∙ sym all.1 in
     let filled : after ≡ cells ++ drop n before =
-    p.memory_is ∙ ap (λ (q : Placement). written q cells before) (sym p.answer_is) in
+    p.memory_is ∙ ap (λ (q : Result ℕ Refusal). written q cells before) (sym p.answer_is) in
     record {
       element = all.2;
       one_each = all.1;
@@ -159,28 +156,28 @@ element_numbers_lem card shape coordinates room =
 
 -- a placement in document 01's numbers: 1 to 6, 17 with the pair, and then these; and the lent memory, the cells of the copies and what
 -- stood past them at 0, else untouched
-pub placement_in_numbers : (card : Card) (shape coordinates : Tuple) (before after : List ℕ) (p : Placement)
+pub placement_in_numbers : (card : Card) (shape coordinates : Tuple) (before after : List ℕ) (p : Result ℕ Refusal)
     → Placing card shape coordinates before after p
     → AfterAdmission card (placement_numbers p) (element_numbers card shape coordinates (length before))
     × (after
     ≡ cond (eqb (placement_numbers p).number 0) (copy_cells card (flatten shape coordinates) ++ drop (placement_numbers p).a before) before)
 unfolding placement_answer placement_memory
 placement_in_numbers card shape coordinates before after p placing = (
-  after_admission_lem card (placement_numbers p) _ (λ r e. by (NoCard r) e)
-      (λ e. by Admitted e ∙ element_numbers_lem card shape coordinates (length before)),
+  after_admission_lem card (placement_numbers p) _ (λ r e. by (Err r) e)
+      (λ e. by no_refusal e ∙ element_numbers_lem card shape coordinates (length before)),
   placing.memory_is ∙ rw (sym placing.answer_is) (memory p),
 )
   where
-    by : (a : Admission) → full_admission card ≡ a → placement_numbers p ≡ placement_numbers (after_admission a (element_answer card shape coordinates (length before)))
+    by : (a : Result ⊤ Refusal) → full_admission card ≡ a → placement_numbers p ≡ placement_numbers (after_admission a (element_answer card shape coordinates (length before)))
     by a e = rw (placing.answer_is, e)
 
     cells : List ℕ
     cells = copy_cells card (flatten shape coordinates)
 
-    memory : (p : Placement)
+    memory : (p : Result ℕ Refusal)
         → written p cells before ≡ cond (eqb (placement_numbers p).number 0) (cells ++ drop (placement_numbers p).a before) before
-    memory (Copies n) = refl
-    memory (Refused r) = rw (refusal_not_zero r)
+    memory (Ok n) = refl
+    memory (Err r) = rw (refusal_not_zero r)
 
 -- none of them is 17
 element_not_idle : (card : Card) (shape coordinates : Tuple) (room : ℕ) → eqb (element_numbers card shape coordinates room).number 17 ≡ false
@@ -192,9 +189,9 @@ element_not_idle card shape coordinates room =
     (either other (ltb (outside_axis card (flatten shape coordinates)) (length axes)) refl refl)))
 
 -- 17 is given exactly when checks 1 to 6 are passed and this is the pair, and touches nothing
-pub placement_idle : (card : Card) (shape coordinates : Tuple) (before after : List ℕ) (p : Placement) → Placing card shape coordinates before after p
+pub placement_idle : (card : Card) (shape coordinates : Tuple) (before after : List ℕ) (p : Result ℕ Refusal) → Placing card shape coordinates before after p
     → (a b : ℕ)
-    → ((p ≡ Refused (Idle a b)) ↔ ((admission card ≡ Admitted) × IdlePair card.replica a b)) × (p ≡ Refused (Idle a b) → after ≡ before)
+    → ((p ≡ Err (Idle a b)) ↔ ((admission card ≡ no_refusal) × IdlePair card.replica a b)) × (p ≡ Err (Idle a b) → after ≡ before)
 unfolding placement_answer placement_memory
 placement_idle card shape coordinates before after p placing a b = (
   (
@@ -204,9 +201,9 @@ placement_idle card shape coordinates before after p placing a b = (
   λ e. placing.memory_is ∙ rw (sym placing.answer_is, e),
 )
   where
-    given : (x : Admission) → Refused (Idle a b) ≡ after_admission x (element_answer card shape coordinates (length before)) → x ≡ NoCard (Idle a b)
-    given Admitted e = absurd (true≢false (rw (sym (element_numbers_lem card shape coordinates (length before)), sym e) at (element_not_idle card shape coordinates (length before))))
-    given (NoCard r) e = let same : Idle a b ≡ r = cc in ap NoCard (sym same)
+    given : (x : Result ⊤ Refusal) → Err (Idle a b) ≡ after_admission x (element_answer card shape coordinates (length before)) → x ≡ Err (Idle a b)
+    given (Ok _) e = absurd (true≢false (rw (sym (element_numbers_lem card shape coordinates (length before)), sym e) at (element_not_idle card shape coordinates (length before))))
+    given (Err r) e = let same : Idle a b ≡ r = cc in ap Err (sym same)
 
 -- iters past a count play no part in the placement of an element
 module _ (a b : Card) (k : AlikeCards a b) (shape xs : Tuple) where
@@ -218,7 +215,7 @@ module _ (a b : Card) (k : AlikeCards a b) (shape xs : Tuple) where
   unfolding placement_memory copy_cells
   same_memory before = rw (same_answer (length before), k.replica.iters, same_spot a b k)
 
-  pub past_the_count_placement : (before after : List ℕ) (placement : Placement) → Placing a shape xs before after placement
+  pub past_the_count_placement : (before after : List ℕ) (placement : Result ℕ Refusal) → Placing a shape xs before after placement
       → Placing b shape xs before after placement
   past_the_count_placement before after placement p =
       record { answer_is = p.answer_is ∙ same_answer (length before); memory_is = p.memory_is ∙ same_memory before }

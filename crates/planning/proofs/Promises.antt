@@ -1,11 +1,14 @@
 -- From tables of exactly the cells to the caller's tables: once two cards are opened, a question that ends in their cells, or that is refused with
 -- them, keeps the promise of a question on two cards.
+use Rattle.std.specs.Prelude.{Result, Err}
 use mathlib.Core.Path.{◌≡◌, refl, sym, ap, ap₂, ◌∙◌}
 use mathlib.Core.List.{List, ◌++◌}
 use Prim.Native.Nat.{ℕ, ◌≤◌}
 use native.Mathlib.Omega.{arith}
 use lib.ListN.{length, take, drop, length-append}
 use lib.Seq.{take_at, drop_at}
+use Rattle.plans_second.specs.Clauses.{matching_with}
+use Rattle.plans_second.specs.declared.Matching.{Matching}
 use Rattle.laws.proofs.Rungs.{apart}
 use Rattle.answers.specs.declared.Refusal.{Refusal}
 use Rattle.card.specs.Card.{cells}
@@ -14,17 +17,14 @@ use Rattle.claims.specs.Claims.{occupied}
 use Rattle.plans.specs.Plans.{Matched}
 use Rattle.plans_judged.specs.Pair.{Opening, Untouched, Emptied, Ready, opening}
 use Rattle.plans_judged.specs.Endings.{CellsHeld, Ending, Left, answer_of, first_after, second_after, ending_of, PairPromise, plan_written, memory_in, memory_after, PlanPromise}
-use Rattle.plans_judged.specs.declared.Planning.{Planning}
-use Rattle.plans_judged.specs.declared.Planning.TheVariants.{Refused as NoPlan}
 use Rattle.plans_judged.proofs.Theorems.{first_long, second_long, matched}
 use Rattle.plans_pair.specs.Clauses.{both_ready, OpenPromise}
-use Rattle.plans_second.specs.declared.Pairing.{Pairing}
-use Rattle.plans_second.specs.declared.Pairing.TheVariants.{Matching, Refused}
+use Rattle.plans_pair.proofs.Openings.{cells_told, occupied_told}
 use Rattle.plans_cells.specs.Clauses.{Ends}
 
 -- what two cards come to, as the pairing that is handed on
-abbrev handed_on : ℕ → Opening → Ending Pairing
-handed_on cells o = ending_of cells Refused (both_ready cells) o
+abbrev handed_on : ℕ → Opening → Ending (Result Matching Refusal)
+handed_on cells o = ending_of cells Err (both_ready cells) o
 
 -- where they match, both are ready
 record Readied (cells : ℕ) (o : Opening) (n count : ℕ) : Type 0 where
@@ -34,18 +34,18 @@ record Readied (cells : ℕ) (o : Opening) (n count : ℕ) : Type 0 where
   pub whole : n ≡ cells
   pub counted : count ≡ occupied others
 
-readied : (cells : ℕ) (o : Opening) (n count : ℕ) → Matching n count ≡ answer_of (handed_on cells o) → Readied cells o n count
+readied : (cells : ℕ) (o : Opening) (n count : ℕ) → matching_with n count ≡ answer_of (handed_on cells o) → Readied cells o n count
 readied cells (Untouched refusal) n count e = absurd (apart cc)
 readied cells (Emptied refusal) n count e = absurd (apart cc)
-readied cells (Ready first second) n count e = record { owners = first; others = second; is = refl; whole = cc; counted = cc }
+readied cells (Ready first second) n count e = record { owners = first; others = second; is = refl; whole = ap cells_told e; counted = ap occupied_told e }
 
 -- where they are refused, a question on them is refused alike, and leaves the same
-record LeaveAlike {A : Type 0} (cells : ℕ) (one : Ending Pairing) (two : Ending A) : Type 0 where
+record LeaveAlike {A : Type 0} (cells : ℕ) (one : Ending (Result Matching Refusal)) (two : Ending A) : Type 0 where
   pub first : (table : List ℕ) → first_after cells one table ≡ first_after cells two table
   pub second : (table : List ℕ) → second_after cells one table ≡ second_after cells two table
 
 module _ {A : Type 0} (refused : Refusal → A) (ready : List ℕ → List ℕ → CellsHeld A) where
-  turned_down : (cells : ℕ) (o : Opening) (r : Refusal) → Refused r ≡ answer_of (handed_on cells o)
+  turned_down : (cells : ℕ) (o : Opening) (r : Refusal) → Err r ≡ answer_of (handed_on cells o)
       → (refused r ≡ answer_of (ending_of cells refused ready o)) × LeaveAlike cells (handed_on cells o) (ending_of cells refused ready o)
   turned_down cells (Untouched refusal) r e =
       let is : r ≡ refusal = cc in
@@ -56,13 +56,13 @@ module _ {A : Type 0} (refused : Refusal → A) (ready : List ℕ → List ℕ �
   turned_down cells (Ready l m) r e = absurd (apart cc)
 
 -- and no plan is written
-no_plan : (cells room : ℕ) (memory : List ℕ) (o : Opening) (r : Refusal) → Refused r ≡ answer_of (handed_on cells o)
-    → memory ≡ memory_after (ending_of cells NoPlan (plan_written cells room) o) memory
+no_plan : (cells room : ℕ) (memory : List ℕ) (o : Opening) (r : Refusal) → Err r ≡ answer_of (handed_on cells o)
+    → memory ≡ memory_after (ending_of cells Err (plan_written cells room) o) memory
 no_plan cells room memory (Untouched refusal) r e = refl
 no_plan cells room memory (Emptied refusal) r e = refl
 no_plan cells room memory (Ready l m) r e = absurd (apart cc)
 
-module _ {one two : Card} {first second f s : List ℕ} {p : Pairing} (q : OpenPromise one two first second f s p) where
+module _ {one two : Card} {first second f s : List ℕ} {p : Result Matching Refusal} (q : OpenPromise one two first second f s p) where
   abbrev start : Opening
   start = opening one two (length first) (length second) q.judgement q.other
 
@@ -82,7 +82,7 @@ module _ {one two : Card} {first second f s : List ℕ} {p : Pairing} (q : OpenP
     pub holds : f ≡ owners ++ drop (cells one) first
     pub holds_other : s ≡ others ++ drop (cells one) second
 
-  pub begun : {n count : ℕ} → p ≡ Matching n count → Begun n count
+  pub begun : {n count : ℕ} → p ≡ matching_with n count → Begun n count
   begun {n} {count} e =
       let r = readied (cells one) start n count (sym e ∙ answered) in
       let ends : q.ending ≡ Left (both_ready (cells one) r.owners r.others) = q.follows ∙ ap (handed_on (cells one)) r.is in
@@ -95,8 +95,8 @@ module _ {one two : Card} {first second f s : List ℕ} {p : Pairing} (q : OpenP
         owners_long = first_long one two (length first) (length second) q.judgement q.other r.owners r.others q.comes q.comes_other r.is;
         others_long = second_long one two (length first) (length second) q.judgement q.other r.owners r.others q.comes q.comes_other r.is;
         match = matched one two (length first) (length second) q.judgement q.other r.owners r.others q.comes q.comes_other r.is;
-        holds = q.leaves ∙ ap (λ (o : Ending Pairing). first_after (cells one) o first) ends;
-        holds_other = q.leaves_other ∙ ap (λ (o : Ending Pairing). second_after (cells one) o second) ends;
+        holds = q.leaves ∙ ap (λ (o : Ending (Result Matching Refusal)). first_after (cells one) o first) ends;
+        holds_other = q.leaves_other ∙ ap (λ (o : Ending (Result Matching Refusal)). second_after (cells one) o second) ends;
       }
 
   module _ {n count : ℕ} (b : Begun n count) where
@@ -140,7 +140,7 @@ module _ {one two : Card} {first second f s : List ℕ} {p : Pairing} (q : OpenP
         }
 
     -- the same of a plan that is written, with its memory
-    pub written_out : (memory : List ℕ) {a : Planning} {m f' s' : List ℕ}
+    pub written_out : (memory : List ℕ) {a : Result ℕ Refusal} {m f' s' : List ℕ}
         → Ends (plan_written (length (take n f)) (length memory) (take n f) (take n s)) a f' s'
         → m ≡ memory_in (plan_written (length (take n f)) (length memory) (take n f) (take n s)) memory
         → PlanPromise one two memory first second m (f' ++ drop n f) (s' ++ drop n s) a
@@ -150,12 +150,12 @@ module _ {one two : Card} {first second f s : List ℕ} {p : Pairing} (q : OpenP
         ap₂ (λ (l r : List ℕ). plan_written (length l) (length memory) l r) take_first take_second
         ∙ ap (λ (k : ℕ). plan_written k (length memory) b.owners b.others) b.owners_long in
         record {
-          pair = out NoPlan (plan_written (cells one) (length memory)) (λ (k : ℕ) (l r : List ℕ). plan_written k (length memory) l r) (λ l r. refl) ended;
-          writes = em ∙ ap (λ (h : CellsHeld Planning). memory_in h memory) same;
+          pair = out Err (plan_written (cells one) (length memory)) (λ (k : ℕ) (l r : List ℕ). plan_written k (length memory) l r) (λ l r. refl) ended;
+          writes = em ∙ ap (λ (h : CellsHeld (Result ℕ Refusal)). memory_in h memory) same;
         }
 
   -- refused before
-  pub refused_before : {A : Type 0} (refused : Refusal → A) (ready : List ℕ → List ℕ → CellsHeld A) {r : Refusal} → p ≡ Refused r
+  pub refused_before : {A : Type 0} (refused : Refusal → A) (ready : List ℕ → List ℕ → CellsHeld A) {r : Refusal} → p ≡ Err r
       → PairPromise one two refused ready first second f s (refused r)
   refused_before {A} refused ready {r} e =
       let d = turned_down refused ready (cells one) start r (sym e ∙ answered) in
@@ -167,14 +167,14 @@ module _ {one two : Card} {first second f s : List ℕ} {p : Pairing} (q : OpenP
         ending = ending_of (cells one) refused ready start;
         follows = refl;
         answers = d.0;
-        leaves = q.leaves ∙ ap (λ (o : Ending Pairing). first_after (cells one) o first) q.follows ∙ d.1.first first;
-        leaves_other = q.leaves_other ∙ ap (λ (o : Ending Pairing). second_after (cells one) o second) q.follows ∙ d.1.second second;
+        leaves = q.leaves ∙ ap (λ (o : Ending (Result Matching Refusal)). first_after (cells one) o first) q.follows ∙ d.1.first first;
+        leaves_other = q.leaves_other ∙ ap (λ (o : Ending (Result Matching Refusal)). second_after (cells one) o second) q.follows ∙ d.1.second second;
       }
 
-  pub not_planned : (memory : List ℕ) {r : Refusal} → p ≡ Refused r → PlanPromise one two memory first second memory f s (NoPlan r)
+  pub not_planned : (memory : List ℕ) {r : Refusal} → p ≡ Err r → PlanPromise one two memory first second memory f s (Err r)
   unfolding refused_before
   not_planned memory {r} e =
       record {
-        pair = refused_before NoPlan (plan_written (cells one) (length memory)) e;
+        pair = refused_before Err (plan_written (cells one) (length memory)) e;
         writes = no_plan (cells one) (length memory) memory start r (sym e ∙ answered);
       }

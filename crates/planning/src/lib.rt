@@ -3,9 +3,8 @@
 
 ghost use Rattle.plans_judged.specs.Endings.{CheckSays, PlanSays};
 
+use answers::Refusal;
 use card::Card;
-use plans_judged::{Checked, Planning};
-use plans_second::Pairing;
 
 // Checks a carrier's plan: its copies turn the first card's cells into the second's.
 pub fn check_plan(
@@ -14,17 +13,12 @@ pub fn check_plan(
     plan: &[u64],
     first: &mut [u32],
     second: &mut [u32],
-) -> Checked
+) -> Result<(), Refusal>
     ensures { CheckSays one two plan.now first.old second.old first.new second.new result }
 {
-    let opened = plans_pair::open_pair(one, two, first, second);
-    match opened {
-        Pairing::Matching { cells, occupied: _ } => {
-            let end = cells as usize;
-            plans_cells::check_cells(plan, &mut first[..end], &mut second[..end])
-        }
-        Pairing::Refused(refusal) => Checked::Refused(refusal),
-    }
+    let opened = plans_pair::open_pair(one, two, first, second)?;
+    let end = opened.cells as usize;
+    plans_cells::check_cells(plan, &mut first[..end], &mut second[..end])
 }
 
 // Writes a plain plan: for each occupied cell of the second card, rising, a copy from the smallest cell of the
@@ -35,15 +29,10 @@ pub fn write_plan(
     plan: &mut [u64],
     first: &mut [u32],
     second: &mut [u32],
-) -> Planning
+) -> Result<u64, Refusal>
     ensures { PlanSays one two plan.old first.old second.old plan.new first.new second.new result }
 {
-    let opened = plans_pair::open_pair(one, two, first, second);
-    match opened {
-        Pairing::Matching { cells, occupied } => {
-            let end = cells as usize;
-            plans_cells::write_cells(occupied, plan, &mut first[..end], &mut second[..end])
-        }
-        Pairing::Refused(refusal) => Planning::Refused(refusal),
-    }
+    let opened = plans_pair::open_pair(one, two, first, second)?;
+    let end = opened.cells as usize;
+    plans_cells::write_cells(opened.occupied, plan, &mut first[..end], &mut second[..end])
 }

@@ -4,18 +4,18 @@ use mathlib.Core.Bool.{Bool, true, false, cond}
 use mathlib.Core.Logic.{◌⊎◌, inl, inr, ⊎_elim}
 use mathlib.Core.List.{List, [], ◌∷◌}
 use Prim.Native.Nat.{ℕ, zero, suc, ◌+◌, ◌*◌, ◌-◌, ◌/◌, ◌%◌, ◌≤◌, ◌<◌}
-use native.Mathlib.Nat.{not-suc-le-zero, eq-or-lt_of_le}
+use native.Mathlib.Nat.{not-suc-le-zero}
 use native.Mathlib.Omega.{arith}
 use native.Mathlib.Numerals.{add-one}
 use lib.Dec.{eqb}
-use lib.ListN.{length, get_or, take, drop, set, length-set, drop_of_length-le}
+use lib.ListN.{length, get_or, take, drop, set, length-set}
 use lib.Seq.{drop-cons, get_or-set_same, get_or-set_other, ext_get_or}
 use borrow.Author.Tests.{eqb-true, eqb-false}
 use Rattle.claims.specs.Claims.{taken, occupied}
-use Rattle.plans.specs.Plans.{first_from, cell_holding, plan_from, planned, Complete}
+use Rattle.plans.specs.Plans.{first_from, cell_holding, planned, Complete}
 use Rattle.plans.specs.Passes.{entered, entered_from, sourced, sourced_from, aimed, aimed_from, Fits}
 use Rattle.plans.proofs.Plans.{plan_length, plan_at}
-use Rattle.plans.proofs.Theorems.{Holding, holding, elements_counted}
+use Rattle.plans.proofs.Theorems.{holding, elements_counted}
 
 -- the lengths stay
 pub entered_length : (entry c : ℕ) (plan : List ℕ) → length (entered entry c plan) ≡ length plan
@@ -44,38 +44,10 @@ aimed_all_length [] copy c plan = refl
 aimed_all_length (entry ∷ second) copy c plan =
     aimed_all_length second (copy + taken entry) (c + 1) (aimed entry copy c plan) ∙ aimed_length entry copy c plan
 
--- the steps of the loops
+-- what the cells from c on enter is what those behind it enter, and then c
 pub entered_step : (first : List ℕ) (c : ℕ) (plan : List ℕ) → c < length first
     → entered (get_or first c 0) c (entered_from (drop (c + 1) first) (c + 1) plan) ≡ entered_from (drop c first) c plan
 entered_step first c plan h = rw (drop-cons first c 0 h, add-one c) refl
-
-pub entered_down : (first : List ℕ) (c : ℕ) (plan : List ℕ) → 0 < c → c ≤ length first
-    → entered (get_or first (c - 1) 0) (c - 1) (entered_from (drop c first) c plan) ≡ entered_from (drop (c - 1) first) (c - 1) plan
-entered_down first c plan h l =
-    let back : c - 1 + 1 ≡ c = omega arith in
-    subst (λ (d : ℕ). entered (get_or first (c - 1) 0) (c - 1) (entered_from (drop d first) d plan) ≡ entered_from (drop (c - 1) first) (c - 1) plan) back
-    (entered_step first (c - 1) plan (omega arith))
-
-pub sourced_step : (second : List ℕ) (c copy : ℕ) (plan : List ℕ) → c < length second
-    → sourced_from (drop (c + 1) second) (copy + taken (get_or second c 0)) (sourced (get_or second c 0) copy plan) ≡ sourced_from (drop c second) copy plan
-sourced_step second c copy plan h = rw (drop-cons second c 0 h, sym (add-one c)) refl
-
-pub aimed_step : (second : List ℕ) (c copy : ℕ) (plan : List ℕ) → c < length second
-    → aimed_from (drop (c + 1) second) (copy + taken (get_or second c 0)) (c + 1) (aimed (get_or second c 0) copy c plan)
-    ≡ aimed_from (drop c second) copy c plan
-aimed_step second c copy plan h = rw (drop-cons second c 0 h, sym (add-one c)) refl
-
-pub occupied_step : (second : List ℕ) (c : ℕ) → c < length second → occupied (drop c second) ≡ taken (get_or second c 0) + occupied (drop (c + 1) second)
-occupied_step second c h = rw (drop-cons second c 0 h, add-one c) refl
-
-pub entered_end : (first : List ℕ) (c : ℕ) (plan : List ℕ) → length first ≤ c → entered_from (drop c first) c plan ≡ plan
-entered_end first c plan h = rw (drop_of_length-le first {i = c} h) refl
-
-pub sourced_end : (second : List ℕ) (c copy : ℕ) (plan : List ℕ) → length second ≤ c → sourced_from (drop c second) copy plan ≡ plan
-sourced_end second c copy plan h = rw (drop_of_length-le second {i = c} h) refl
-
-pub aimed_end : (second : List ℕ) (c copy : ℕ) (plan : List ℕ) → length second ≤ c → aimed_from (drop c second) copy c plan ≡ plan
-aimed_end second c copy plan h = rw (drop_of_length-le second {i = c} h) refl
 
 -- an entry that is somebody's
 pub entered_some : (entry c : ℕ) (plan : List ℕ) → 0 < entry → set plan (2 * entry - 1) c ≡ entered entry c plan

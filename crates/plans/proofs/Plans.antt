@@ -1,19 +1,18 @@
 -- What the copies of a plan leave, and the planner's plan number by number.
-use mathlib.Core.Path.{◌≡◌, refl, sym, ap, ◌∙◌, subst}
+use mathlib.Core.Path.{◌≡◌, refl, sym, ap, ◌∙◌}
 use mathlib.Core.Bool.{Bool, true, false, cond, ◌&&◌}
-use mathlib.Core.Logic.{◌⊎◌, ⊎_elim}
 use mathlib.Core.List.{List, [], ◌∷◌}
 use Prim.Native.Nat.{ℕ, zero, suc, ◌+◌, ◌*◌, ◌-◌, ◌≤◌, ◌<◌}
-use native.Mathlib.Nat.{not-suc-le-zero, le_of_suc-le-suc}
+use native.Mathlib.Nat.{not-suc-le-zero}
 use native.Mathlib.Omega.{arith}
 use native.Mathlib.Numerals.{add-one}
 use lib.Dec.{ltb}
-use lib.ListN.{length, get_or, take, drop, set, length-set, length-drop, drop_of_length-le}
+use lib.ListN.{length, get_or, take, drop, length-set, length-drop}
 use lib.Seq.{drop-cons, get_or-set_same, get_or-set_other}
 use borrow.Author.Tests.{lt-ltb, ltb-true}
 use Rattle.laws.proofs.Rungs.{apart}
 use Rattle.claims.specs.Claims.{taken, occupied}
-use Rattle.plans.specs.Plans.{copied, carried, outside_from, cell_holding, plan_from, planned}
+use Rattle.plans.specs.Plans.{copied, carried, outside_from, cell_holding, plan_from}
 
 -- two numbers more of a plan
 twice_next : (k : ℕ) → 2 * (k + 1) ≡ suc (suc (2 * k))
@@ -49,12 +48,6 @@ pub outside_step : (cells : ℕ) (plan : List ℕ) (k : ℕ) → 2 * k + 1 < len
 outside_step cells plan k h from to =
     rw (two_more plan k h, lt-ltb (get_or plan (2 * k) 0) cells from, lt-ltb (get_or plan (2 * k + 1) 0) cells to) refl
 
--- copy k is the first outside
-pub outside_here : (cells : ℕ) (plan : List ℕ) (k : ℕ) → 2 * k + 1 < length plan
-    → (ltb (get_or plan (2 * k) 0) cells && ltb (get_or plan (2 * k + 1) 0) cells) ≡ false
-    → outside_from cells k (drop (2 * k) plan) ≡ k + 1
-outside_here cells plan k h past = rw (two_more plan k h, past) refl
-
 -- a copy that names two cells
 pub both_inside : (from to cells : ℕ) → (ltb from cells && ltb to cells) ≡ true → (from < cells) × (to < cells)
 both_inside from to cells e = split (ltb from cells) (ltb to cells) refl refl e
@@ -72,10 +65,6 @@ left_over cells k (from ∷ to ∷ rest) h = absurd (omega arith)
 
 pub outside_odd : (cells : ℕ) (plan : List ℕ) (k : ℕ) → length plan ≡ 2 * k + 1 → outside_from cells k (drop (2 * k) plan) ≡ k + 1
 outside_odd cells plan k h = left_over cells k (drop (2 * k) plan) (omega (arith, length-drop (2 * k) plan))
-
--- none is left over
-pub outside_end : (cells : ℕ) (plan : List ℕ) (k : ℕ) → length plan ≡ 2 * k → outside_from cells k (drop (2 * k) plan) ≡ 0
-outside_end cells plan k h = rw (drop_of_length-le plan {i = 2 * k} (omega arith)) refl
 
 -- where none is outside, there are two numbers for each copy, and each names a cell
 pub record NamesCells (cells : ℕ) (plan : List ℕ) : Type 0 where

@@ -1,7 +1,7 @@
--- The first of so many cells for which a test says yes: what it is, and the steps of a loop that looks for it.
-use mathlib.Core.Path.{◌≡◌, refl, sym, ap, ◌∙◌, subst}
+-- The first of so many cells for which a test says yes: what it is, and a step of a loop that looks for it.
+use mathlib.Core.Path.{◌≡◌, refl, subst}
 use mathlib.Core.Bool.{Bool, true, false, cond}
-use mathlib.Core.Logic.{◌⊎◌, ⊎_elim}
+use mathlib.Core.Logic.{⊎_elim}
 use Prim.Native.Nat.{ℕ, zero, suc, ◌+◌, ◌-◌, ◌≤◌, ◌<◌}
 use native.Mathlib.Nat.{eq-or-lt_of_le}
 use native.Mathlib.Omega.{arith}
@@ -53,23 +53,8 @@ module _ (test : ℕ → Bool) where
   none_first (suc left) c none =
       rw (none c (omega arith) (omega arith)) (none_first left (c + 1) (λ d h l. none d (omega arith) (omega arith)))
 
-  -- the steps of a loop over n cells
-  pub step_start : (n : ℕ) → first_from test (n - 0) 0 ≡ first_from test n 0
-  step_start n =
-      let all : n - 0 ≡ n = omega arith in
-      rw all refl
-
+  -- a step of a loop over n cells
   pub step_no : (n c : ℕ) → c < n → test c ≡ false → first_from test (n - (c + 1)) (c + 1) ≡ first_from test (n - c) c
   step_no n c h t =
       let more : n - c ≡ suc (n - (c + 1)) = omega arith in
       rw more (rw t refl)
-
-  pub step_yes : (n c : ℕ) → c < n → test c ≡ true → first_from test (n - c) c ≡ c + 1
-  step_yes n c h t =
-      let more : n - c ≡ suc (n - (c + 1)) = omega arith in
-      rw more (rw t refl)
-
-  pub step_end : (n c : ℕ) → n ≤ c → first_from test (n - c) c ≡ 0
-  step_end n c h =
-      let none : n - c ≡ 0 = omega arith in
-      rw none refl

@@ -9,11 +9,10 @@ ghost use Rattle.plans_judged.specs.Endings.{plan_checked, plan_written, memory_
 ghost use Rattle.plans_cells.specs.Clauses.{Ends};
 
 use answers::{Cell, Refusal};
-use plans_judged::{Checked, Planning};
 
 // A plan checked between two tables of owners, each of exactly the cells. Public, with a requires, for the
 // crate above, which opens both cards.
-pub fn check_cells(plan: &[u64], first: &mut [u32], second: &mut [u32]) -> Checked
+pub fn check_cells(plan: &[u64], first: &mut [u32], second: &mut [u32]) -> Result<(), Refusal>
     requires { length first.old ≡ length second.old }
     ensures { Ends (plan_checked (length first.old) plan.now first.old second.old) result first.new second.new }
 {
@@ -21,7 +20,7 @@ pub fn check_cells(plan: &[u64], first: &mut [u32], second: &mut [u32]) -> Check
     if copy != 0 {
         owners::clear(first);
         owners::clear(second);
-        return Checked::Refused(Refusal::Plan {
+        return Err(Refusal::Plan {
             copy,
             cell: Cell(0),
         });
@@ -29,12 +28,12 @@ pub fn check_cells(plan: &[u64], first: &mut [u32], second: &mut [u32]) -> Check
     plans_copies::run_copies(plan, first);
     let wrong = plans_copies::first_wrong(first, second);
     if wrong != 0 {
-        return Checked::Refused(Refusal::Plan {
+        return Err(Refusal::Plan {
             copy: 0,
             cell: Cell(wrong - 1),
         });
     }
-    Checked::Accepted
+    Ok(())
 }
 
 // A plain plan written between two tables of owners, each of exactly the cells, of which the second occupies so many. Public,
@@ -44,7 +43,7 @@ pub fn write_cells(
     plan: &mut [u64],
     first: &mut [u32],
     second: &mut [u32],
-) -> Planning
+) -> Result<u64, Refusal>
     requires cases { Matched first.old second.old }
     requires first_len { (length first.old ≡ length second.old) × (targets ≡ occupied second.old) }
     ensures ends { Ends (plan_written (length first.old) (length plan.old) first.old second.old) result first.new second.new }
@@ -54,7 +53,7 @@ pub fn write_cells(
     if shared != 0 {
         owners::clear(first);
         owners::clear(second);
-        return Planning::Refused(Refusal::Overlap {
+        return Err(Refusal::Overlap {
             cell: Cell(shared - 1),
         });
     }
@@ -62,9 +61,9 @@ pub fn write_cells(
     if (plan.len() as u64) < numbers {
         owners::clear(first);
         owners::clear(second);
-        return Planning::Refused(Refusal::TooShort { needed: numbers });
+        return Err(Refusal::TooShort { needed: numbers });
     }
     let end = numbers as usize;
     plans_passes::put_plan(first, second, &mut plan[..end]);
-    Planning::Written { numbers }
+    Ok(numbers)
 }

@@ -20,12 +20,10 @@ pub fn first_outside(plan: &[u64], cells: u64) -> u64
     ensures { result ≡ first_outside cells plan.now }
 {
     let copies = plan.len() / 2;
-    let mut copy = 0;
-    while copy < copies {
+    for copy in 0..copies {
         if !names_cells(plan[2 * copy], plan[2 * copy + 1], cells) {
             return copy as u64 + 1;
         }
-        copy += 1;
     }
     if plan.len() % 2 == 1 {
         return copies as u64 + 1;
@@ -39,12 +37,10 @@ pub fn run_copies(plan: &[u64], table: &mut [u32])
     ensures { table.new ≡ carried plan.now table.old }
 {
     let copies = plan.len() / 2;
-    let mut copy = 0;
-    while copy < copies {
+    for copy in 0..copies {
         let from = plan[2 * copy] as usize;
         let to = plan[2 * copy + 1] as usize;
         table[to] = table[from];
-        copy += 1;
     }
 }
 
@@ -65,12 +61,10 @@ fn first_sought(sharing: bool, held: &[u32], second: &[u32]) -> u64
     requires { length held.now ≡ length second.now }
     ensures { result ≡ first_sought sharing held.now second.now }
 {
-    let mut cell = 0;
-    while cell < second.len() {
-        if is_sought(sharing, held[cell], second[cell]) {
+    for (cell, owner) in second.iter().enumerate() {
+        if is_sought(sharing, held[cell], *owner) {
             return cell as u64 + 1;
         }
-        cell += 1;
     }
     0
 }

@@ -1,5 +1,6 @@
 -- Both questions in document 02's numbers: which numbers each can answer, and what each number leaves in the two tables and in the plan's memory,
 -- from how the two cards open.
+use Rattle.std.specs.Prelude.{Result, ⊤, Ok, Err}
 use mathlib.Core.Path.{◌≡◌, refl, sym, ap, ◌∙◌}
 use mathlib.Core.Bool.{Bool, true, false, cond, not, ◌||◌, true≢false, and-eq-true_iff}
 use mathlib.Core.Logic.{◌⊎◌, inl, inr, ⊎_elim}
@@ -10,6 +11,7 @@ use lib.Dec.{eqb, ltb}
 use lib.ListN.{length, get_or, take, drop, replicate, length-replicate, get_or-replicate, get_or-append}
 use lib.Seq.{take_at}
 use borrow.Author.Tests.{ltb-true, ltb-false}
+use Rattle.judgement.specs.declared.Approved.{Approved}
 use Rattle.answers.specs.Refusals.{answer, refusal_numbers}
 use Rattle.answers.specs.declared.Numbers.{Numbers}
 use Rattle.answers.specs.declared.Refusal.{Refusal}
@@ -19,25 +21,17 @@ use Rattle.card.specs.Card.{elements, cells}
 use Rattle.card.specs.Lists.{same, product}
 use Rattle.card.specs.Admission.{counts_fit, numbers_fit, axes_fit, space_fits, few_enough, swizzle_fits, admission, admission_numbers}
 use Rattle.card.specs.declared.Card.{Card}
-use Rattle.card.specs.declared.Admission.{Admission}
-use Rattle.card.specs.declared.Admission.TheVariants.{Admitted, Refused as NotAdmitting}
 use Rattle.card.proofs.Lists.{same_true}
 use Rattle.idle.specs.Admission.{full_admission}
 use Rattle.idle.proofs.Theorems.{six_or_idle}
 use Rattle.claims.specs.Claims.{occupied}
 use Rattle.judgement.specs.Judgement.{Judgement, NotAdmitted, NoRoom, OutsideAt, Clashing, Passed, ComesTo}
 use Rattle.judgement.specs.Verdict.{verdict_of, verdict_numbers}
-use Rattle.judgement.specs.declared.Verdict.{Verdict}
-use Rattle.judgement.specs.declared.Verdict.TheVariants.{Approved, Refused as NotApproved}
 use Rattle.judgement.proofs.Leaves.{front_long, front_past}
 use Rattle.plans.specs.Plans.{carried, first_outside, first_wrong, first_shared, planned}
 use Rattle.plans.proofs.Plans.{carried_length}
 use Rattle.plans_judged.specs.Pair.{one_space, marked, Opening, Untouched, Emptied, Ready, after_verdict, after_both, opening}
 use Rattle.plans_judged.specs.Endings.{CellsHeld, emptying, Ending, Kept, Left, answer_of, first_after, second_after, ending_of, PairPromise, checked_by, plan_checked, CheckPromise, written_by, plan_written, with_plan, memory_after, PlanPromise, checked_numbers, planning_numbers}
-use Rattle.plans_judged.specs.declared.Checked.{Checked}
-use Rattle.plans_judged.specs.declared.Checked.TheVariants.{Accepted, Refused}
-use Rattle.plans_judged.specs.declared.Planning.{Planning}
-use Rattle.plans_judged.specs.declared.Planning.TheVariants.{Written, Refused as NoPlan}
 use Rattle.plans_judged.proofs.Theorems.{neither, doubly, wrote, parts, comes_one, comes_two, first_long, second_long}
 
 -- a number is among some
@@ -61,7 +55,7 @@ not_among : (n m : ℕ) (ms : List ℕ) → among n ms ≡ true → among m ms �
 not_among n m ms e f same = true≢false (sym e ∙ ap (λ (k : ℕ). among k ms) same ∙ f)
 
 -- an admission of a card whose space fits has no 4
-abbrev Early : Admission → Type 0
+abbrev Early : Result ⊤ Refusal → Type 0
 Early a = among (admission_numbers a).number (0 ∷ of_verdict) ≡ true
 
 six_early : (card : Card) → space_fits card.lengths ≡ true → Early (admission card)
@@ -95,9 +89,9 @@ module _ (one two : Card) (room other : ℕ) where
   Opens (Emptied r) = Roomy × (among (refusal_numbers r).number of_pair ≡ true)
   Opens (Ready first second) = Roomy
 
-  after_verdict_lem : (v : Verdict) (then : Opening) → Roomy → among (verdict_numbers v).number (0 ∷ of_verdict) ≡ true → Opens then → Opens (after_verdict v then)
-  after_verdict_lem (Approved e o c) then long early rest = rest
-  after_verdict_lem (NotApproved r) then long early rest =
+  after_verdict_lem : (v : Result Approved Refusal) (then : Opening) → Roomy → among (verdict_numbers v).number (0 ∷ of_verdict) ≡ true → Opens then → Opens (after_verdict v then)
+  after_verdict_lem (Ok approval) then long early rest = rest
+  after_verdict_lem (Err r) then long early rest =
       let refused : among (refusal_numbers r).number of_verdict ≡ true = rw (refusal_not_zero r) at early in
       (long, among_more (eqb (refusal_numbers r).number 9) (among (refusal_numbers r).number of_verdict) refused)
 
@@ -259,8 +253,8 @@ module _ (one two : Card) (first second : List ℕ) (j k : Judgement) (h : Comes
 
   -- a plan that is checked
   module _ (plan : List ℕ) where
-    abbrev OwnCheck : CellsHeld Checked → Type 0
-    OwnCheck held = Own one two first second Refused (plan_checked (cells one) plan) checked_numbers (λ r. refl) EndsWrong 21 held
+    abbrev OwnCheck : CellsHeld (Result ⊤ Refusal) → Type 0
+    OwnCheck held = Own one two first second Err (plan_checked (cells one) plan) checked_numbers (λ r. refl) EndsWrong 21 held
 
     own_check : (f s : List ℕ) → start ≡ Ready f s → OwnCheck (plan_checked (cells one) plan f s)
     own_check f s e = split (first_outside (cells one) plan) (first_wrong (carried plan f) s)
@@ -293,13 +287,13 @@ module _ (one two : Card) (first second : List ℕ) (j k : Judgement) (h : Comes
 
   -- a plan that is written
   module _ (memory : List ℕ) where
-    abbrev OwnPlan : CellsHeld Planning → Type 0
-    OwnPlan held = Own one two first second NoPlan (plan_written (cells one) (length memory)) planning_numbers (λ r. refl) (λ n. ⊥) 23 held
+    abbrev OwnPlan : CellsHeld (Result ℕ Refusal) → Type 0
+    OwnPlan held = Own one two first second Err (plan_written (cells one) (length memory)) planning_numbers (λ r. refl) (λ n. ⊥) 23 held
 
     own_plan : (f s : List ℕ) → start ≡ Ready f s → OwnPlan (plan_written (cells one) (length memory) f s)
     own_plan f s e = split (first_shared f s)
       where
-        none : OwnPlan (emptying (cells one) (NoPlan (TooShort (2 * occupied s))))
+        none : OwnPlan (emptying (cells one) (Err (TooShort (2 * occupied s))))
         none = record {
           size = length-replicate {A = ℕ} (cells one) 0;
           size_other = length-replicate {A = ℕ} (cells one) 0;
@@ -308,7 +302,7 @@ module _ (one two : Card) (first second : List ℕ) (j k : Judgement) (h : Comes
           empties = λ h stand. (refl, refl);
         }
 
-        all : OwnPlan (record { answer = Written (2 * occupied s); first = f; second = s })
+        all : OwnPlan (record { answer = Ok (2 * occupied s); first = f; second = s })
         all = record {
           size = long_one f s e;
           size_other = long_two f s e;
@@ -329,8 +323,8 @@ module _ (one two : Card) (first second : List ℕ) (j k : Judgement) (h : Comes
 
 -- a plan that is checked, by how the two cards open
 module _ (one two : Card) (first second plan : List ℕ) where
-  abbrev checks : Opening → Ending Checked
-  checks o = ending_of (cells one) Refused (plan_checked (cells one) plan) o
+  abbrev checks : Opening → Ending (Result ⊤ Refusal)
+  checks o = ending_of (cells one) Err (plan_checked (cells one) plan) o
 
   -- where the copies were run, both cards were ready
   ran : (o : Opening) → Opens one two (length first) (length second) o
@@ -350,7 +344,7 @@ module _ (one two : Card) (first second plan : List ℕ) where
   ran (Ready l r) room h = split (first_outside (cells one) plan) (first_wrong (carried plan l) r) h
     where
       split : (n w : ℕ) →
-          let e : Ending Checked = Left (checked_by (cells one) (carried plan l) r n w) in
+          let e : Ending (Result ⊤ Refusal) = Left (checked_by (cells one) (carried plan l) r n w) in
           ((checked_numbers (answer_of e)).number ≡ 0) ⊎ EndsWrong (checked_numbers (answer_of e))
           → (x : List ℕ)
           × (y : List ℕ)
@@ -377,12 +371,12 @@ module _ (one two : Card) (first second plan : List ℕ) where
       split zero (suc w) h = absurd (omega arith)
       split zero zero h = absurd (omega arith)
 
-module _ (one two : Card) (plan first second f s : List ℕ) (a : Checked) (p : CheckPromise one two plan first second f s a) where
+module _ (one two : Card) (plan first second f s : List ℕ) (a : Result ⊤ Refusal) (p : CheckPromise one two plan first second f s a) where
   -- checking a plan answers 0, 1 to 9, 11, 17 or 21
   pub check_answers : among (checked_numbers a).number (0 ∷ 4 ∷ 11 ∷ 21 ∷ of_pair) ≡ true
   check_answers =
       rw (p.answers, p.follows)
-      (answers_with one two first second Refused (plan_checked (cells one) plan) checked_numbers (λ r. refl) EndsWrong 21 _
+      (answers_with one two first second Err (plan_checked (cells one) plan) checked_numbers (λ r. refl) EndsWrong 21 _
       (begins one two first second p.judgement p.other p.comes p.comes_other)
       (own_check one two first second p.judgement p.other p.comes p.comes_other plan))
 
@@ -391,13 +385,13 @@ module _ (one two : Card) (plan first second f s : List ℕ) (a : Checked) (p : 
   check_short h =
       too_short one two first second plan (opening one two (length first) (length second) p.judgement p.other)
       (begins one two first second p.judgement p.other p.comes p.comes_other)
-      (sym (ap (λ (b : Checked). (checked_numbers b).number) (p.answers ∙ ap answer_of p.follows)) ∙ h)
+      (sym (ap (λ (b : Result ⊤ Refusal). (checked_numbers b).number) (p.answers ∙ ap answer_of p.follows)) ∙ h)
 
   -- and it leaves this in the two tables
   pub check_leaves : TablesAfter one first second f s (checked_numbers a).number (EndsWrong (checked_numbers a))
   check_leaves =
       rw (p.answers, p.leaves, p.leaves_other, p.follows)
-      (after one two first second Refused (plan_checked (cells one) plan) checked_numbers (λ r. refl) EndsWrong 21 _
+      (after one two first second Err (plan_checked (cells one) plan) checked_numbers (λ r. refl) EndsWrong 21 _
       (begins one two first second p.judgement p.other p.comes p.comes_other)
       (own_check one two first second p.judgement p.other p.comes p.comes_other plan))
 
@@ -412,10 +406,10 @@ module _ (one two : Card) (plan first second f s : List ℕ) (a : Checked) (p : 
       let j = p.judgement in
       let k = p.other in
       let o : Opening = opening one two (length first) (length second) j k in
-      let told : a ≡ answer_of (ending_of (cells one) Refused (plan_checked (cells one) plan) o) = p.answers ∙ ap answer_of p.follows in
+      let told : a ≡ answer_of (ending_of (cells one) Err (plan_checked (cells one) plan) o) = p.answers ∙ ap answer_of p.follows in
       let r = ran one two first second plan o (begins one two first second j k p.comes p.comes_other) (rw told at h) in
-      let is_f : f ≡ carried plan r.0 ++ drop (cells one) first = p.leaves ∙ ap (λ (e : Ending Checked). first_after (cells one) e first) p.follows ∙ r.3 in
-      let is-s : s ≡ r.1 ++ drop (cells one) second = p.leaves_other ∙ ap (λ (e : Ending Checked). second_after (cells one) e second) p.follows ∙ r.4 in (
+      let is_f : f ≡ carried plan r.0 ++ drop (cells one) first = p.leaves ∙ ap (λ (e : Ending (Result ⊤ Refusal)). first_after (cells one) e first) p.follows ∙ r.3 in
+      let is-s : s ≡ r.1 ++ drop (cells one) second = p.leaves_other ∙ ap (λ (e : Ending (Result ⊤ Refusal)). second_after (cells one) e second) p.follows ∙ r.4 in (
         r.0,
         r.1,
         owned one two first second j k p.comes p.comes_other r.0 r.1 r.2,
@@ -426,13 +420,13 @@ module _ (one two : Card) (plan first second f s : List ℕ) (a : Checked) (p : 
             ∙ take_at r.1 (drop (cells one) second) (cells one) (long_two one two first second j k p.comes p.comes_other r.0 r.1 r.2),
       )
 
-module _ (one two : Card) (memory first second m f s : List ℕ) (a : Planning) (p : PlanPromise one two memory first second m f s a) where
+module _ (one two : Card) (memory first second m f s : List ℕ) (a : Result ℕ Refusal) (p : PlanPromise one two memory first second m f s a) where
   -- writing a plan answers 0, 1 to 9, 11, 17 or 23
   pub plan_answers : among (planning_numbers a).number (0 ∷ 4 ∷ 11 ∷ 23 ∷ of_pair) ≡ true
   plan_answers =
       let q = p.pair in
       rw (q.answers, q.follows)
-      (answers_with one two first second NoPlan (plan_written (cells one) (length memory)) planning_numbers (λ r. refl) (λ n. ⊥) 23 _
+      (answers_with one two first second Err (plan_written (cells one) (length memory)) planning_numbers (λ r. refl) (λ n. ⊥) 23 _
       (begins one two first second q.judgement q.other q.comes q.comes_other)
       (own_plan one two first second q.judgement q.other q.comes q.comes_other memory))
 
@@ -441,7 +435,7 @@ module _ (one two : Card) (memory first second m f s : List ℕ) (a : Planning) 
   plan_leaves =
       let q = p.pair in
       rw (q.answers, q.leaves, q.leaves_other, q.follows)
-      (after one two first second NoPlan (plan_written (cells one) (length memory)) planning_numbers (λ r. refl) (λ n. ⊥) 23 _
+      (after one two first second Err (plan_written (cells one) (length memory)) planning_numbers (λ r. refl) (λ n. ⊥) 23 _
       (begins one two first second q.judgement q.other q.comes q.comes_other)
       (own_plan one two first second q.judgement q.other q.comes q.comes_other memory))
 
@@ -449,16 +443,16 @@ module _ (one two : Card) (memory first second m f s : List ℕ) (a : Planning) 
   pub plan_untouched : 0 < (planning_numbers a).number → m ≡ memory
   plan_untouched h = p.writes ∙ split p.pair.ending (rw p.pair.answers at h)
     where
-      kept : (b : Planning) (plan : List ℕ) → 0 < (planning_numbers b).number → with_plan b plan memory ≡ memory
-      kept (Written n) plan h = absurd (omega arith)
-      kept (NoPlan r) plan h = refl
+      kept : (b : Result ℕ Refusal) (plan : List ℕ) → 0 < (planning_numbers b).number → with_plan b plan memory ≡ memory
+      kept (Ok n) plan h = absurd (omega arith)
+      kept (Err r) plan h = refl
 
-      split : (e : Ending Planning) → 0 < (planning_numbers (answer_of e)).number → memory_after e memory ≡ memory
+      split : (e : Ending (Result ℕ Refusal)) → 0 < (planning_numbers (answer_of e)).number → memory_after e memory ≡ memory
       split (Kept b) h = refl
       split (Left held) h = kept held.answer (planned held.first held.second) h
 
   -- at 0 the tables hold the owners of the two cards, and the memory begins with the planner's plan, of so many numbers; later ones stay
-  pub plan_holds : (n : ℕ) → a ≡ Written n
+  pub plan_holds : (n : ℕ) → a ≡ Ok n
       → (owners : List ℕ)
       × (others : List ℕ)
       × BothOwned one two first second owners others
@@ -478,10 +472,10 @@ module _ (one two : Card) (memory first second m f s : List ℕ) (a : Planning) 
         l,
         r,
         owned one two first second j k q.comes q.comes_other l r w.ready,
-        ap (take (cells one)) (q.leaves ∙ ap (λ (e : Ending Planning). first_after (cells one) e first) ends)
+        ap (take (cells one)) (q.leaves ∙ ap (λ (e : Ending (Result ℕ Refusal)). first_after (cells one) e first) ends)
             ∙ take_at l (drop (cells one) first) (cells one) (long_one one two first second j k q.comes q.comes_other l r w.ready),
-        ap (take (cells one)) (q.leaves_other ∙ ap (λ (e : Ending Planning). second_after (cells one) e second) ends)
+        ap (take (cells one)) (q.leaves_other ∙ ap (λ (e : Ending (Result ℕ Refusal)). second_after (cells one) e second) ends)
             ∙ take_at r (drop (cells one) second) (cells one) (long_two one two first second j k q.comes q.comes_other l r w.ready),
         w.numbers,
-        p.writes ∙ ap (λ (e : Ending Planning). memory_after e memory) q.follows ∙ w.memory_is,
+        p.writes ∙ ap (λ (e : Ending (Result ℕ Refusal)). memory_after e memory) q.follows ∙ w.memory_is,
       )

@@ -1,4 +1,5 @@
 -- The promises on two cards by their verdicts allow what those by their judgements allow: only an approved card's owners are looked at.
+use Rattle.std.specs.Prelude.{Result, ⊤, Err}
 use mathlib.Core.Path.{◌≡◌, refl, sym, ap, ◌∙◌}
 use mathlib.Core.Bool.{cond, not, ◌||◌}
 use mathlib.Core.Logic.{◌↔◌}
@@ -7,20 +8,16 @@ use Prim.Native.Nat.{ℕ}
 use lib.Dec.{eqb}
 use lib.ListN.{length, take, drop}
 use lib.Seq.{take_at}
+use Rattle.judgement.specs.declared.Approved.{Approved}
 use Rattle.answers.specs.declared.Refusal.{Refusal}
 use Rattle.answers.specs.declared.Refusal.TheVariants.{Limits, Shape}
 use Rattle.card.specs.Card.{elements, cells}
 use Rattle.card.specs.declared.Card.{Card}
 use Rattle.judgement.specs.Judgement.{Judgement, NotAdmitted, NoRoom, OutsideAt, Clashing, Passed, ComesTo}
 use Rattle.judgement.specs.Verdict.{verdict_of, table_after}
-use Rattle.judgement.specs.declared.Verdict.{Verdict}
 use Rattle.judgement.proofs.Plain.{verdict_exactly}
 use Rattle.plans_judged.specs.Pair.{marked, Opening, Emptied, Ready, owners_of, after_verdict, after_verdicts, opening_of, opening}
 use Rattle.plans_judged.specs.Endings.{CellsHeld, Ending, ending_of, PairSays, PairPromise, plan_checked, CheckSays, CheckPromise, plan_written, PlanSays, PlanPromise}
-use Rattle.plans_judged.specs.declared.Checked.{Checked}
-use Rattle.plans_judged.specs.declared.Checked.TheVariants.{Refused}
-use Rattle.plans_judged.specs.declared.Planning.{Planning}
-use Rattle.plans_judged.specs.declared.Planning.TheVariants.{Refused as NoPlan}
 use Rattle.plans_judged.proofs.Theorems.{check_settled, plan_settled}
 
 -- the owners of an approved card are the first entries of the table that its verdict leaves
@@ -38,7 +35,7 @@ module _ {A : Type 0} (one two : Card) (refused : Refusal → A) (ready : List �
   matched a b = cond (marked one || marked two) (Emptied Limits) (cond (not (eqb (elements one) (elements two))) (Emptied Shape) (Ready a b))
 
   -- how the question ends, by the verdicts and the tables that they leave
-  abbrev end : Verdict → Verdict → List ℕ → List ℕ → Ending A
+  abbrev end : Result Approved Refusal → Result Approved Refusal → List ℕ → List ℕ → Ending A
   end v w t u =
       ending_of (cells one) refused ready
       (opening_of one two (length first) (length second) (after_verdicts one two v w (take (cells one) t) (take (cells two) u)))
@@ -48,8 +45,8 @@ module _ {A : Type 0} (one two : Card) (refused : Refusal → A) (ready : List �
       → ending_of (cells one) refused ready (opening one two (length first) (length second) j k)
       ≡ end (verdict_of one j) (verdict_of two k) (table_after one j first) (table_after two k second)
   same_end j k h g =
-      let v : Verdict = verdict_of one j in
-      let w : Verdict = verdict_of two k in
+      let v : (Result Approved Refusal) = verdict_of one j in
+      let w : (Result Approved Refusal) = verdict_of two k in
       ap (λ (x : Opening). ending_of (cells one) refused ready (opening_of one two (length first) (length second) x))
       (owners_left one (length first) j first (λ (l : List ℕ). after_verdict w (matched l (owners_of k))) h
       ∙ ap (after_verdict v) (owners_left two (length second) k second (matched (take (cells one) (table_after one j first))) g))
@@ -92,25 +89,25 @@ module _ {A : Type 0} (one two : Card) (refused : Refusal → A) (ready : List �
 
 module _ (one two : Card) (first second : List ℕ) where
   -- checking a plan
-  pub check_exactly : (plan f s : List ℕ) (a : Checked) → CheckSays one two plan first second f s a ↔ CheckPromise one two plan first second f s a
+  pub check_exactly : (plan f s : List ℕ) (a : Result ⊤ Refusal) → CheckSays one two plan first second f s a ↔ CheckPromise one two plan first second f s a
   check_exactly plan f s a =
-      let ready = plan_checked (cells one) plan in (by_judgements one two Refused ready first second f s a, by_verdicts one two Refused ready first second f s a)
+      let ready = plan_checked (cells one) plan in (by_judgements one two Err ready first second f s a, by_verdicts one two Err ready first second f s a)
 
   -- and writing one
-  pub plan_exactly : (memory m f s : List ℕ) (a : Planning) → PlanSays one two memory first second m f s a ↔ PlanPromise one two memory first second m f s a
+  pub plan_exactly : (memory m f s : List ℕ) (a : Result ℕ Refusal) → PlanSays one two memory first second m f s a ↔ PlanPromise one two memory first second m f s a
   plan_exactly memory m f s a =
       let ready = plan_written (cells one) (length memory) in (
-        λ p. record { pair = by_judgements one two NoPlan ready first second f s a p.pair; writes = p.writes },
-        λ p. record { pair = by_verdicts one two NoPlan ready first second f s a p.pair; writes = p.writes },
+        λ p. record { pair = by_judgements one two Err ready first second f s a p.pair; writes = p.writes },
+        λ p. record { pair = by_verdicts one two Err ready first second f s a p.pair; writes = p.writes },
       )
 
   -- two outcomes that these promises allow are equal
-  pub check_says_settled : (plan f s f' s' : List ℕ) (a a' : Checked) → CheckSays one two plan first second f s a
+  pub check_says_settled : (plan f s f' s' : List ℕ) (a a' : Result ⊤ Refusal) → CheckSays one two plan first second f s a
       → CheckSays one two plan first second f' s' a' → (a ≡ a') × (f ≡ f') × (s ≡ s')
   check_says_settled plan f s f' s' a a' h k =
       check_settled one two first second plan f s f' s' a a' ((check_exactly plan f s a).0 h) ((check_exactly plan f' s' a').0 k)
 
-  pub plan_says_settled : (memory m f s m' f' s' : List ℕ) (a a' : Planning) → PlanSays one two memory first second m f s a
+  pub plan_says_settled : (memory m f s m' f' s' : List ℕ) (a a' : Result ℕ Refusal) → PlanSays one two memory first second m f s a
       → PlanSays one two memory first second m' f' s' a' → (a ≡ a') × (m ≡ m') × (f ≡ f') × (s ≡ s')
   plan_says_settled memory m f s m' f' s' a a' h k =
       plan_settled one two first second memory m f s m' f' s' a a' ((plan_exactly memory m f s a).0 h) ((plan_exactly memory m' f' s' a').0 k)

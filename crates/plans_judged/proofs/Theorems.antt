@@ -1,4 +1,5 @@
 -- What is promised is settled: two outcomes of the same question are equal. And the planner's plans are accepted.
+use Rattle.std.specs.Prelude.{Result, ⊤, Err, Ok}
 use mathlib.Core.Path.{◌≡◌, refl, sym, ap, ap₂, ◌∙◌, subst}
 use mathlib.Core.Bool.{Bool, true, false, cond, not, ◌&&◌, ◌||◌, and-eq-true_iff}
 use mathlib.Core.Logic.{◌↔◌, ◌⊎◌, ⊎_elim}
@@ -10,6 +11,7 @@ use lib.Dec.{eqb, ltb, leb}
 use lib.ListN.{length, get_or, take, drop, length-take}
 use lib.Seq.{take_at}
 use borrow.Author.Tests.{eq-eqb, ne_eqb, eqb-true, ltb-false, le-ltb}
+use Rattle.answers.specs.Refusals.{no_refusal}
 use Rattle.answers.specs.declared.Refusal.{Refusal}
 use Rattle.answers.proofs.OneToOne.{read_back, refused_back, pinned}
 use Rattle.answers.specs.declared.Refusal.TheVariants.{Limits, Shape, TooShort, Overlap}
@@ -18,7 +20,6 @@ use Rattle.card.specs.Card.{elements, copies, cells, marks_of}
 use Rattle.card.specs.Lists.{product, same}
 use Rattle.card.specs.Admission.{space_fits}
 use Rattle.card.specs.declared.Card.{Card}
-use Rattle.card.specs.declared.Admission.TheVariants.{Admitted}
 use Rattle.card.proofs.Lists.{same_true}
 use Rattle.card.proofs.Admitted.{sized}
 use Rattle.rules.specs.Reuse.{leader, Unmarked}
@@ -26,18 +27,13 @@ use Rattle.rules.proofs.Reuse.{leads_itself}
 use Rattle.idle.proofs.Theorems.{checks_passed}
 use Rattle.claims.specs.Claims.{Owners, occupied, OwnedTable as Owned}
 use Rattle.judgement.specs.Judgement.{placed, Judgement, NotAdmitted, NoRoom, OutsideAt, Clashing, Passed, ComesTo}
-use Rattle.judgement.specs.Verdict.{verdict_of}
-use Rattle.judgement.specs.declared.Verdict.TheVariants.{Approved, Refused as NotApproved}
+use Rattle.judgement.specs.Verdict.{verdict_of, approved_with}
 use Rattle.judgement.proofs.Unique.{judgement_unique}
 use Rattle.plans.specs.Plans.{Carries, carried, first_outside, first_wrong, first_shared, planned, Complete, Matched}
 use Rattle.plans.proofs.Plans.{plan_length, NamesCells}
 use Rattle.plans.proofs.Theorems.{owners_complete, plan_accepted, apart_exactly, right_exactly, inside_exactly}
 use Rattle.plans_judged.specs.Pair.{one_space, any_mark, marked, Opening, Untouched, Emptied, Ready, after_both, opening}
 use Rattle.plans_judged.specs.Endings.{CellsHeld, emptying, Ending, Kept, Left, answer_of, first_after, second_after, ending_of, PairPromise, checked_by, plan_checked, CheckPromise, written_by, plan_written, memory_after, PlanPromise, checked_numbers, planning_numbers}
-use Rattle.plans_judged.specs.declared.Checked.{Checked}
-use Rattle.plans_judged.specs.declared.Checked.TheVariants.{Accepted, Refused}
-use Rattle.plans_judged.specs.declared.Planning.{Planning}
-use Rattle.plans_judged.specs.declared.Planning.TheVariants.{Written, Refused as NoPlan}
 
 module _ (one two : Card) (first second : List ℕ) where
   -- the opening is unique
@@ -65,18 +61,18 @@ module _ (one two : Card) (first second : List ℕ) where
         )
 
   -- of a plan that is checked: the answer and both tables
-  pub check_settled : (plan f s f' s' : List ℕ) (a a' : Checked) → CheckPromise one two plan first second f s a
+  pub check_settled : (plan f s f' s' : List ℕ) (a a' : Result ⊤ Refusal) → CheckPromise one two plan first second f s a
       → CheckPromise one two plan first second f' s' a' → (a ≡ a') × (f ≡ f') × (s ≡ s')
-  check_settled plan = pair_settled Refused (plan_checked (cells one) plan)
+  check_settled plan = pair_settled Err (plan_checked (cells one) plan)
 
   -- and of one that is written: the answer, the plan's memory, and both tables
-  pub plan_settled : (memory m f s m' f' s' : List ℕ) (a a' : Planning) → PlanPromise one two memory first second m f s a
+  pub plan_settled : (memory m f s m' f' s' : List ℕ) (a a' : Result ℕ Refusal) → PlanPromise one two memory first second m f s a
       → PlanPromise one two memory first second m' f' s' a' → (a ≡ a') × (m ≡ m') × (f ≡ f') × (s ≡ s')
   plan_settled memory m f s m' f' s' a a' p q =
       let ready = plan_written (cells one) (length memory) in
-      let rest = pair_settled NoPlan ready f s f' s' a a' p.pair q.pair in
-      let same = ending_settled NoPlan ready f s f' s' a a' p.pair q.pair in
-      (rest.0, p.writes ∙ ap (λ (e : Ending Planning). memory_after e memory) same ∙ sym q.writes, rest.1, rest.2)
+      let rest = pair_settled Err ready f s f' s' a a' p.pair q.pair in
+      let same = ending_settled Err ready f s f' s' a a' p.pair q.pair in
+      (rest.0, p.writes ∙ ap (λ (e : Ending (Result ℕ Refusal)). memory_after e memory) same ∙ sym q.writes, rest.1, rest.2)
 
 -- where no mark is found, there is none
 no_mark : (marks : List Bool) → any_mark marks ≡ false → (k : ℕ) → k < length marks → get_or marks k false ≡ false
@@ -163,14 +159,14 @@ module _ (one two : Card) (room other : ℕ) (space : one_space one.lengths two.
   past_room : (j k : Judgement) → opening one two room other j k ≡ after_both one two j k
   past_room j k = rw (space, le-ltb room (cells one) long, le-ltb other (cells one) long_other) refl
 
-  pub first_judged_first : (j k : Judgement) (r : Refusal) → verdict_of one j ≡ NotApproved r → opening one two room other j k ≡ Emptied r
+  pub first_judged_first : (j k : Judgement) (r : Refusal) → verdict_of one j ≡ Err r → opening one two room other j k ≡ Emptied r
   first_judged_first j k r e = past_room j k ∙ rw e refl
 
-  module _ (j k : Judgement) {e o c : ℕ} (approved : verdict_of one j ≡ Approved e o c) where
-    pub then_the_second : (r : Refusal) → verdict_of two k ≡ NotApproved r → opening one two room other j k ≡ Emptied r
+  module _ (j k : Judgement) {e o c : ℕ} (approved : verdict_of one j ≡ approved_with e o c) where
+    pub then_the_second : (r : Refusal) → verdict_of two k ≡ Err r → opening one two room other j k ≡ Emptied r
     then_the_second r e = past_room j k ∙ rw (approved, e) refl
 
-    module _ {e' o' c' : ℕ} (approved-other : verdict_of two k ≡ Approved e' o' c') where
+    module _ {e' o' c' : ℕ} (approved-other : verdict_of two k ≡ approved_with e' o' c') where
       pub then_marks : (marked one ≡ true) ⊎ (marked two ≡ true) → opening one two room other j k ≡ Emptied Limits
       then_marks h = past_room j k ∙ rw (approved, approved-other, some h) refl
         where
@@ -182,7 +178,7 @@ module _ (one two : Card) (room other : ℕ) (space : one_space one.lengths two.
 
 -- 23 comes before 11: a plan between tables that share a cell is refused with it, whatever the memory
 pub overlap_before_room : (c room : ℕ) (first second : List ℕ) (k : ℕ) → first_shared first second ≡ k + 1
-    → (plan_written c room first second).answer ≡ NoPlan (Overlap (record { 0 = k }))
+    → (plan_written c room first second).answer ≡ Err (Overlap (record { 0 = k }))
 overlap_before_room c room first second k e = rw (e ∙ add-one k) refl
 
 -- an approved card comes to the same in any table with room
@@ -191,25 +187,25 @@ passed_anew : (card : Card) (room other : ℕ) (owners : List ℕ) (count : ℕ)
 passed_anew card room other owners count h long = (record { admitted = h.0.admitted; enough = long }, h.1, h.2)
 
 -- where a plan is written, both cards are ready, no cell is shared, and the memory begins with the planner's plan
-pub record Wrote (memory : List ℕ) (o : Opening) (e : Ending Planning) (n : ℕ) : Type 0 where
+pub record Wrote (memory : List ℕ) (o : Opening) (e : Ending (Result ℕ Refusal)) (n : ℕ) : Type 0 where
   pub first : List ℕ
   pub second : List ℕ
   pub ready : o ≡ Ready first second
   pub apart_cells : first_shared first second ≡ 0
   pub numbers : n ≡ 2 * occupied second
-  pub ends : e ≡ Left (record { answer = Written (2 * occupied second); first = first; second = second })
+  pub ends : e ≡ Left (record { answer = Ok (2 * occupied second); first = first; second = second })
   pub memory_is : memory_after e memory ≡ planned first second ++ drop n memory
 
-abbrev in_room : ℕ → List ℕ → List ℕ → Bool → CellsHeld Planning
+abbrev in_room : ℕ → List ℕ → List ℕ → Bool → CellsHeld (Result ℕ Refusal)
 in_room c f s short =
-    cond short (emptying c (NoPlan (TooShort (2 * occupied s)))) (record { answer = Written (2 * occupied s); first = f; second = s })
+    cond short (emptying c (Err (TooShort (2 * occupied s)))) (record { answer = Ok (2 * occupied s); first = f; second = s })
 
-wrote_after : (c room n : ℕ) (memory f s : List ℕ) (m : ℕ) → first_shared f s ≡ m → Written n ≡ (written_by c room f s m).answer
+wrote_after : (c room n : ℕ) (memory f s : List ℕ) (m : ℕ) → first_shared f s ≡ m → Ok n ≡ (written_by c room f s m).answer
     → Wrote memory (Ready f s) (Left (written_by c room f s m)) n
 wrote_after c room n memory f s (suc cell) shared e = absurd (apart cc)
 wrote_after c room n memory f s zero shared e = split (ltb room (2 * occupied s)) e
   where
-    split : (b : Bool) → Written n ≡ (in_room c f s b).answer → Wrote memory (Ready f s) (Left (in_room c f s b)) n
+    split : (b : Bool) → Ok n ≡ (in_room c f s b).answer → Wrote memory (Ready f s) (Left (in_room c f s b)) n
     split true e = absurd (apart cc)
     split false e =
         let same : n ≡ 2 * occupied s = cc in
@@ -223,8 +219,8 @@ wrote_after c room n memory f s zero shared e = split (ltb room (2 * occupied s)
           memory_is = ap (λ (k : ℕ). planned f s ++ drop k memory) (sym same);
         }
 
-pub wrote : (c room n : ℕ) (memory : List ℕ) (o : Opening) → Written n ≡ answer_of (ending_of c NoPlan (plan_written c room) o)
-    → Wrote memory o (ending_of c NoPlan (plan_written c room) o) n
+pub wrote : (c room n : ℕ) (memory : List ℕ) (o : Opening) → Ok n ≡ answer_of (ending_of c Err (plan_written c room) o)
+    → Wrote memory o (ending_of c Err (plan_written c room) o) n
 wrote c room n memory (Untouched refusal) e = absurd (apart cc)
 wrote c room n memory (Emptied refusal) e = absurd (apart cc)
 wrote c room n memory (Ready f s) e = wrote_after c room n memory f s (first_shared f s) refl e
@@ -288,9 +284,9 @@ module _ (one two : Card) (room other : ℕ) (j k : Judgement) (first second : L
       refl
 
 -- the planner's plans are accepted: what is written for two cards, in any memory, is accepted between the same two cards, in any two tables with room
-pub plans_are_accepted : (one two : Card) (memory first second m f s : List ℕ) (n : ℕ) → PlanPromise one two memory first second m f s (Written n)
-    → (first' second' f' s' : List ℕ) (a : Checked) → cells one ≤ length first' → cells one ≤ length second'
-    → CheckPromise one two (take n m) first' second' f' s' a → a ≡ Accepted
+pub plans_are_accepted : (one two : Card) (memory first second m f s : List ℕ) (n : ℕ) → PlanPromise one two memory first second m f s (Ok n)
+    → (first' second' f' s' : List ℕ) (a : Result ⊤ Refusal) → cells one ≤ length first' → cells one ≤ length second'
+    → CheckPromise one two (take n m) first' second' f' s' a → a ≡ no_refusal
 plans_are_accepted one two memory first second m f s n written first' second' f' s' a long long_other q =
     let p = written.pair in
     let o : Opening = opening one two (length first) (length second) p.judgement p.other in
@@ -302,7 +298,7 @@ plans_are_accepted one two memory first second m f s n written first' second' f'
     (length second') q.judgement q.other q.comes q.comes_other long long_other in
     let as_long : length (planned owners others) ≡ n = plan_length owners others 0 ∙ sym w.numbers in
     let plan-is : take n m ≡ planned owners others =
-    ap (take n) (written.writes ∙ ap (λ (e : Ending Planning). memory_after e memory) p.follows ∙ w.memory_is)
+    ap (take n) (written.writes ∙ ap (λ (e : Ending (Result ℕ Refusal)). memory_after e memory) p.follows ∙ w.memory_is)
     ∙ take_at (planned owners others) (drop n memory) n as_long in
     let one_table = owner_one one two (length first) (length second) p.judgement p.other owners others p.comes p.comes_other w.ready in
     let two-table = owner_two one two (length first) (length second) p.judgement p.other owners others p.comes p.comes_other w.ready in
@@ -313,7 +309,7 @@ plans_are_accepted one two memory first second m f s n written first' second' f'
     let inside : first_outside (cells one) (planned owners others) ≡ 0 = rw is-long-other at good.inside in
     q.answers
     ∙ ap answer_of q.follows
-    ∙ ap₂ (λ (plan : List ℕ) (o : Opening). answer_of (ending_of (cells one) Refused (plan_checked (cells one) plan) o)) plan-is again
+    ∙ ap₂ (λ (plan : List ℕ) (o : Opening). answer_of (ending_of (cells one) Err (plan_checked (cells one) plan) o)) plan-is again
     ∙ rw (inside, good.right) refl
 
 -- what accepting means: both cards are ready, every number of the plan is a cell, two a copy, and after the copies every occupied cell of the second
@@ -326,15 +322,15 @@ pub record Good (cells : ℕ) (plan : List ℕ) (o : Opening) : Type 0 where
   pub right : (c : ℕ) → 0 < get_or second c 0 → get_or (carried plan first) c 0 ≡ get_or second c 0
 
 -- what checking a plan answers, once the two cards are opened
-abbrev check_answer : ℕ → List ℕ → Opening → Checked
-check_answer c plan o = answer_of (ending_of c Refused (plan_checked c plan) o)
+abbrev check_answer : ℕ → List ℕ → Opening → Result ⊤ Refusal
+check_answer c plan o = answer_of (ending_of c Err (plan_checked c plan) o)
 
-accepted_good : (c : ℕ) (plan : List ℕ) (o : Opening) → Accepted ≡ check_answer c plan o → Good c plan o
+accepted_good : (c : ℕ) (plan : List ℕ) (o : Opening) → no_refusal ≡ check_answer c plan o → Good c plan o
 accepted_good c plan (Untouched refusal) e = absurd (apart cc)
 accepted_good c plan (Emptied refusal) e = absurd (apart cc)
 accepted_good c plan (Ready f s) e = split (first_outside c plan) (first_wrong (carried plan f) s) refl refl e
   where
-    split : (n w : ℕ) → first_outside c plan ≡ n → first_wrong (carried plan f) s ≡ w → Accepted ≡ (checked_by c (carried plan f) s n w).answer
+    split : (n w : ℕ) → first_outside c plan ≡ n → first_wrong (carried plan f) s ≡ w → no_refusal ≡ (checked_by c (carried plan f) s n w).answer
         → Good c plan (Ready f s)
     split (suc n) w en ew e = absurd (apart cc)
     split zero (suc w) en ew e = absurd (apart cc)
@@ -346,29 +342,29 @@ accepted_good c plan (Ready f s) e = split (first_outside c plan) (first_wrong (
       right = (right_exactly (carried plan f) s).0 ew;
     }
 
-good_accepted : (c : ℕ) (plan : List ℕ) (o : Opening) → Good c plan o → check_answer c plan o ≡ Accepted
+good_accepted : (c : ℕ) (plan : List ℕ) (o : Opening) → Good c plan o → check_answer c plan o ≡ no_refusal
 good_accepted c plan o g =
     rw (g.ready, (inside_exactly c plan).1 g.inside, (right_exactly (carried plan g.first) g.second).1 g.right) refl
 
 -- a plan is accepted exactly then
-pub accepted_exactly : (one two : Card) (plan first second f s : List ℕ) (a : Checked) (p : CheckPromise one two plan first second f s a)
-    → (a ≡ Accepted) ↔ Good (cells one) plan (opening one two (length first) (length second) p.judgement p.other)
+pub accepted_exactly : (one two : Card) (plan first second f s : List ℕ) (a : Result ⊤ Refusal) (p : CheckPromise one two plan first second f s a)
+    → (a ≡ no_refusal) ↔ Good (cells one) plan (opening one two (length first) (length second) p.judgement p.other)
 accepted_exactly one two plan first second f s a p =
     let o : Opening = opening one two (length first) (length second) p.judgement p.other in
     let answers : a ≡ check_answer (cells one) plan o = p.answers ∙ ap answer_of p.follows in
     (λ e. accepted_good (cells one) plan o (sym e ∙ answers), λ g. answers ∙ good_accepted (cells one) plan o g)
 
 -- pinning the numbers pins the answer
-checked_back : (p : Checked) → read_back (λ n. Accepted) Refused (checked_numbers p) ≡ p
-checked_back Accepted = refl
-checked_back (Refused r) = refused_back (λ n. Accepted) Refused r
+checked_back : (p : Result ⊤ Refusal) → read_back (λ n. no_refusal) Err (checked_numbers p) ≡ p
+checked_back (Ok _) = refl
+checked_back (Err r) = refused_back (λ n. no_refusal) Err r
 
-pub checked_one_to_one : (p q : Checked) → checked_numbers p ≡ checked_numbers q → p ≡ q
-checked_one_to_one = pinned (λ n. Accepted) Refused checked_numbers checked_back
+pub checked_one_to_one : (p q : Result ⊤ Refusal) → checked_numbers p ≡ checked_numbers q → p ≡ q
+checked_one_to_one = pinned (λ n. no_refusal) Err checked_numbers checked_back
 
-planning_back : (p : Planning) → read_back (λ n. Written n.a) NoPlan (planning_numbers p) ≡ p
-planning_back (Written n) = refl
-planning_back (NoPlan r) = refused_back (λ n. Written n.a) NoPlan r
+planning_back : (p : Result ℕ Refusal) → read_back (λ n. Ok n.a) Err (planning_numbers p) ≡ p
+planning_back (Ok n) = refl
+planning_back (Err r) = refused_back (λ n. Ok n.a) Err r
 
-pub planning_one_to_one : (p q : Planning) → planning_numbers p ≡ planning_numbers q → p ≡ q
-planning_one_to_one = pinned (λ n. Written n.a) NoPlan planning_numbers planning_back
+pub planning_one_to_one : (p q : Result ℕ Refusal) → planning_numbers p ≡ planning_numbers q → p ≡ q
+planning_one_to_one = pinned (λ n. Ok n.a) Err planning_numbers planning_back

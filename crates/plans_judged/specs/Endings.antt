@@ -1,6 +1,7 @@
 -- A carrier's plan checked, and a plain plan written: how each question ends, its answer and what it leaves in the two tables and in the plan's memory.
-use Rattle.std.specs.Prelude.{◌≡◌, cond, List, ◌++◌, ℕ, zero, suc, ◌*◌, ltb, length, take, drop, replicate}
-use Rattle.answers.specs.Refusals.{answer, refusal_numbers}
+use Rattle.std.specs.Prelude.{◌≡◌, cond, List, ◌++◌, ℕ, zero, suc, ◌*◌, ltb, length, take, drop, replicate, Result, ⊤, Err, Ok}
+use Rattle.judgement.specs.declared.Approved.{Approved}
+use Rattle.answers.specs.Refusals.{answer, refusal_numbers, numbers_of, just_zero, one_detail, no_refusal}
 use Rattle.answers.specs.declared.Numbers.{Numbers}
 use Rattle.answers.specs.declared.Refusal.{Refusal}
 use Rattle.answers.specs.declared.Refusal.TheVariants.{TooShort, Plan, Overlap}
@@ -9,13 +10,8 @@ use Rattle.card.specs.declared.Card.{Card}
 use Rattle.claims.specs.Claims.{occupied}
 use Rattle.judgement.specs.Judgement.{Judgement, ComesTo}
 use Rattle.judgement.specs.Plain.{VerdictSays}
-use Rattle.judgement.specs.declared.Verdict.{Verdict}
 use Rattle.plans.specs.Plans.{carried, first_outside, first_wrong, first_shared, planned}
 use Rattle.plans_judged.specs.Pair.{Opening, Untouched, Emptied, Ready, after_verdicts, opening_of, opening}
-use Rattle.plans_judged.specs.declared.Checked.{Checked}
-use Rattle.plans_judged.specs.declared.Checked.TheVariants.{Accepted, Refused}
-use Rattle.plans_judged.specs.declared.Planning.{Planning}
-use Rattle.plans_judged.specs.declared.Planning.TheVariants.{Written, Refused as NoPlan}
 
 -- an answer, and what the cells of the two tables then hold
 pub record CellsHeld (A : Type 0) : Type 0 where
@@ -55,10 +51,10 @@ ending_of size refused ready (Ready first second) = Left (ready first second)
 -- tables that follow from it
 pub record PairSays {A : Type 0} (one two : Card) (refused : Refusal → A) (ready : List ℕ → List ℕ → CellsHeld A)
     (first second first-after second-after : List ℕ) (answer : A) : Type 0 where
-  pub verdict : Verdict
+  pub verdict : Result Approved Refusal
   pub table : List ℕ
   pub says : VerdictSays one first table verdict
-  pub verdict_other : Verdict
+  pub verdict_other : Result Approved Refusal
   pub table_other : List ℕ
   pub says_other : VerdictSays two second table_other verdict_other
   pub ending : Ending A
@@ -81,59 +77,57 @@ pub record PairPromise {A : Type 0} (one two : Card) (refused : Refusal → A) (
   pub leaves_other : second-after ≡ second_after (cells one) ending second
 
 -- a plan between two tables of owners: all its copies are judged for being outside before any is run; then the first wrong cell is looked for
-abbrev pub checked_by : ℕ → List ℕ → List ℕ → ℕ → ℕ → CellsHeld Checked
-checked_by size held second (suc copy) wrong = emptying size (Refused (Plan (suc copy) (record { 0 = 0 })))
+abbrev pub checked_by : ℕ → List ℕ → List ℕ → ℕ → ℕ → CellsHeld (Result ⊤ Refusal)
+checked_by size held second (suc copy) wrong = emptying size (Err (Plan (suc copy) (record { 0 = 0 })))
 checked_by size held second zero (suc cell) =
-    record { answer = Refused (Plan 0 (record { 0 = cell })); first = held; second = second }
-checked_by size held second zero zero = record { answer = Accepted; first = held; second = second }
+    record { answer = Err (Plan 0 (record { 0 = cell })); first = held; second = second }
+checked_by size held second zero zero = record { answer = no_refusal; first = held; second = second }
 
-abbrev pub plan_checked : ℕ → List ℕ → List ℕ → List ℕ → CellsHeld Checked
+abbrev pub plan_checked : ℕ → List ℕ → List ℕ → List ℕ → CellsHeld (Result ⊤ Refusal)
 plan_checked size plan first second =
     checked_by size (carried plan first) second (first_outside size plan) (first_wrong (carried plan first) second)
 
 -- the promise of checking a plan
-abbrev pub CheckSays : Card → Card → (plan first second first-after second-after : List ℕ) → Checked → Type 0
-CheckSays one two plan = PairSays one two Refused (plan_checked (cells one) plan)
+abbrev pub CheckSays : Card → Card → (plan first second first-after second-after : List ℕ) → Result ⊤ Refusal → Type 0
+CheckSays one two plan = PairSays one two Err (plan_checked (cells one) plan)
 
-abbrev pub CheckPromise : Card → Card → (plan first second first-after second-after : List ℕ) → Checked → Type 0
-CheckPromise one two plan = PairPromise one two Refused (plan_checked (cells one) plan)
+abbrev pub CheckPromise : Card → Card → (plan first second first-after second-after : List ℕ) → Result ⊤ Refusal → Type 0
+CheckPromise one two plan = PairPromise one two Err (plan_checked (cells one) plan)
 
 -- a plan written between two tables of owners, in memory of so many numbers: 23, then 11
-abbrev pub written_by : ℕ → ℕ → List ℕ → List ℕ → ℕ → CellsHeld Planning
-written_by size room first second (suc cell) = emptying size (NoPlan (Overlap (record { 0 = cell })))
+abbrev pub written_by : ℕ → ℕ → List ℕ → List ℕ → ℕ → CellsHeld (Result ℕ Refusal)
+written_by size room first second (suc cell) = emptying size (Err (Overlap (record { 0 = cell })))
 written_by size room first second zero =
-    cond (ltb room (2 * occupied second)) (emptying size (NoPlan (TooShort (2 * occupied second))))
-    (record { answer = Written (2 * occupied second); first = first; second = second })
+    cond (ltb room (2 * occupied second)) (emptying size (Err (TooShort (2 * occupied second))))
+    (record { answer = Ok (2 * occupied second); first = first; second = second })
 
-abbrev pub plan_written : ℕ → ℕ → List ℕ → List ℕ → CellsHeld Planning
+abbrev pub plan_written : ℕ → ℕ → List ℕ → List ℕ → CellsHeld (Result ℕ Refusal)
 plan_written size room first second = written_by size room first second (first_shared first second)
 
 -- the plan's memory: it begins with what is written, and later numbers stay; every refusal leaves it untouched
-abbrev pub with_plan : Planning → List ℕ → List ℕ → List ℕ
-with_plan (Written numbers) plan memory = plan ++ drop numbers memory
-with_plan (NoPlan refusal) plan memory = memory
+abbrev pub with_plan : Result ℕ Refusal → List ℕ → List ℕ → List ℕ
+with_plan (Ok numbers) plan memory = plan ++ drop numbers memory
+with_plan (Err refusal) plan memory = memory
 
-abbrev pub memory_in : CellsHeld Planning → List ℕ → List ℕ
+abbrev pub memory_in : CellsHeld (Result ℕ Refusal) → List ℕ → List ℕ
 memory_in held memory = with_plan held.answer (planned held.first held.second) memory
 
-abbrev pub memory_after : Ending Planning → List ℕ → List ℕ
+abbrev pub memory_after : Ending (Result ℕ Refusal) → List ℕ → List ℕ
 memory_after (Kept answer) memory = memory
 memory_after (Left held) memory = memory_in held memory
 
 -- the promise of writing a plan
-pub record PlanSays (one two : Card) (memory first second memory-after first-after second-after : List ℕ) (answer : Planning) : Type 0 where
-  pub pair : PairSays one two NoPlan (plan_written (cells one) (length memory)) first second first-after second-after answer
+pub record PlanSays (one two : Card) (memory first second memory-after first-after second-after : List ℕ) (answer : Result ℕ Refusal) : Type 0 where
+  pub pair : PairSays one two Err (plan_written (cells one) (length memory)) first second first-after second-after answer
   pub writes : memory-after ≡ memory_after pair.ending memory
 
-pub record PlanPromise (one two : Card) (memory first second memory-after first-after second-after : List ℕ) (answer : Planning) : Type 0 where
-  pub pair : PairPromise one two NoPlan (plan_written (cells one) (length memory)) first second first-after second-after answer
+pub record PlanPromise (one two : Card) (memory first second memory-after first-after second-after : List ℕ) (answer : Result ℕ Refusal) : Type 0 where
+  pub pair : PairPromise one two Err (plan_written (cells one) (length memory)) first second first-after second-after answer
   pub writes : memory-after ≡ memory_after pair.ending memory
 
-abbrev pub checked_numbers : Checked → Numbers
-checked_numbers Accepted = answer 0 0 0 0
-checked_numbers (Refused refusal) = refusal_numbers refusal
+abbrev pub checked_numbers : Result ⊤ Refusal → Numbers
+checked_numbers = numbers_of just_zero
 
 -- at number 0 the numbers written
-abbrev pub planning_numbers : Planning → Numbers
-planning_numbers (Written numbers) = answer 0 numbers 0 0
-planning_numbers (NoPlan refusal) = refusal_numbers refusal
+abbrev pub planning_numbers : Result ℕ Refusal → Numbers
+planning_numbers = numbers_of one_detail

@@ -1,6 +1,7 @@
 -- Two cards in one space and two lent tables, before a plan is looked at: document 02's request 13, its checks in their order. 4 and 11 touch nothing;
 -- any refusal after them empties the cells of both tables.
-use Rattle.std.specs.Prelude.{Bool, true, false, cond, not, ◌&&◌, ◌||◌, List, [], ◌∷◌, ℕ, eqb, ltb}
+use Rattle.std.specs.Prelude.{Bool, true, false, cond, not, ◌&&◌, ◌||◌, List, [], ◌∷◌, ℕ, eqb, ltb, Result, Ok, Err}
+use Rattle.judgement.specs.declared.Approved.{Approved}
 use Rattle.answers.specs.declared.Refusal.{Refusal}
 use Rattle.answers.specs.declared.Refusal.TheVariants.{Limits, Space, Shape, TooShort}
 use Rattle.card.specs.Lists.{same}
@@ -9,8 +10,6 @@ use Rattle.card.specs.Admission.{space_fits}
 use Rattle.card.specs.declared.Card.{Card}
 use Rattle.judgement.specs.Judgement.{Judgement, NotAdmitted, NoRoom, OutsideAt, Clashing, Passed}
 use Rattle.judgement.specs.Verdict.{verdict_of}
-use Rattle.judgement.specs.declared.Verdict.{Verdict}
-use Rattle.judgement.specs.declared.Verdict.TheVariants.{Approved, Refused}
 
 -- one space: the lengths are the same, and they pass check 4
 abbrev pub one_space : List ℕ → List ℕ → Bool
@@ -31,12 +30,12 @@ pub data Opening : Type 0 where
   Ready : (first second : List ℕ) → Opening
 
 -- a card that is not approved is refused by its verdict's own number and details
-abbrev pub after_verdict : Verdict → Opening → Opening
-after_verdict (Approved n o c) then = then
-after_verdict (Refused refusal) then = Emptied refusal
+abbrev pub after_verdict : Result Approved Refusal → Opening → Opening
+after_verdict (Ok approval) then = then
+after_verdict (Err refusal) then = Emptied refusal
 
 -- both approved, the first judged first; no reuse mark on either; equally many elements; then the owners of both
-abbrev pub after_verdicts : Card → Card → Verdict → Verdict → List ℕ → List ℕ → Opening
+abbrev pub after_verdicts : Card → Card → Result Approved Refusal → Result Approved Refusal → List ℕ → List ℕ → Opening
 after_verdicts one two verdict other first second =
     after_verdict verdict
     (after_verdict other

@@ -1,4 +1,5 @@
 -- What two judgements come to, case by case, and what is left in the two tables.
+use Rattle.std.specs.Prelude.{Result, Err, Ok}
 use mathlib.Core.Path.{◌≡◌, refl, sym, ap, ap₂, ◌∙◌, subst}
 use mathlib.Core.Bool.{Bool, true, false, cond, not, ◌||◌, and-eq-true_iff}
 use mathlib.Core.List.{List, ◌++◌}
@@ -8,6 +9,8 @@ use lib.Dec.{eqb, ltb, leb}
 use lib.ListN.{length, take, drop, replicate, length-replicate}
 use lib.Seq.{drop_at}
 use borrow.Author.Tests.{leb-true, le-ltb}
+use Rattle.plans_second.specs.declared.Matching.{Matching}
+use Rattle.judgement.specs.declared.Approved.{Approved}
 use Rattle.laws.proofs.Rungs.{apart}
 use Rattle.laws.proofs.Lists.{take_whole}
 use Rattle.answers.specs.declared.Refusal.{Refusal}
@@ -22,18 +25,14 @@ use Rattle.card.specs.declared.Card.{Card}
 use Rattle.claims.specs.Claims.{occupied}
 use Rattle.judgement.specs.Judgement.{Judgement, NotAdmitted, NoRoom, OutsideAt, Clashing, Passed, ComesTo}
 use Rattle.judgement.specs.Plain.{VerdictSays}
-use Rattle.judgement.specs.Verdict.{verdict_of, table_after, VerdictPromise}
+use Rattle.judgement.specs.Verdict.{verdict_of, table_after, VerdictPromise, approved_with}
 use Rattle.judgement.proofs.Plain.{verdict_exactly}
 use Rattle.judgement.specs.Run.{judge}
-use Rattle.judgement.specs.declared.Verdict.{Verdict}
-use Rattle.judgement.specs.declared.Verdict.TheVariants.{Approved, Refused as NotApproved}
 use Rattle.judgement.proofs.Run.{judge_comes}
 use Rattle.plans_judged.specs.Pair.{one_space, marked, owners_of, Emptied, Ready, after_both, opening}
 use Rattle.plans_judged.specs.Endings.{emptying, Kept, Left, ending_of}
-use Rattle.plans_second.specs.Clauses.{OtherPromise}
+use Rattle.plans_second.specs.Clauses.{OtherPromise, matching_with}
 use Rattle.plans_pair.specs.Clauses.{pairing, if_approved, BothPromise, both_ready, OpenPromise}
-use Rattle.plans_second.specs.declared.Pairing.{Pairing}
-use Rattle.plans_second.specs.declared.Pairing.TheVariants.{Matching, Refused}
 
 -- the product of eight lengths that fit is not capped
 pub cells_whole : (lengths : List ℕ) (n : ℕ) → length lengths ≡ 8 → space_fits lengths ≡ true → n ≡ min (product (take 8 lengths)) beyond → n ≡ product lengths
@@ -42,15 +41,15 @@ cells_whole lengths n eight fits e =
     let whole : n ≡ min (product lengths) beyond = e ∙ ap (λ (l : List ℕ). min (product l) beyond) (take_whole 8 lengths eight) in
     omega arith
 
-module _ {one : Card} (two : Card) {first : List ℕ} (second : List ℕ) {after : List ℕ} {v : Verdict} (says : VerdictSays one first after v) where
+module _ {one : Card} (two : Card) {first : List ℕ} (second : List ℕ) {after : List ℕ} {v : Result Approved Refusal} (says : VerdictSays one first after v) where
   w : VerdictPromise one first after v
   w = (verdict_exactly one first after v).0 says
 
   -- both verdicts, where the first approves
-  pub both_judged : {after-other : List ℕ} {p : Pairing} {n o c : ℕ} → v ≡ Approved n o c → OtherPromise one two n second after-other p
+  pub both_judged : {after-other : List ℕ} {p : Result Matching Refusal} {n o c : ℕ} → v ≡ approved_with n o c → OtherPromise one two n second after-other p
       → BothPromise one two first second after after-other p
   both_judged {after-other} {p} {n} {o} {c} e q =
-      let is : verdict_of one w.judgement ≡ Approved n o c = sym w.answers ∙ e in
+      let is : verdict_of one w.judgement ≡ approved_with n o c = sym w.answers ∙ e in
       record {
         judgement = w.judgement;
         other = q.other;
@@ -62,9 +61,9 @@ module _ {one : Card} (two : Card) {first : List ℕ} (second : List ℕ) {after
       }
 
   -- and where it does not
-  pub first_refused : {r : Refusal} → v ≡ NotApproved r → BothPromise one two first second after second (Refused r)
+  pub first_refused : {r : Refusal} → v ≡ Err r → BothPromise one two first second after second (Err r)
   first_refused {r} e =
-      let is : verdict_of one w.judgement ≡ NotApproved r = sym w.answers ∙ e in
+      let is : verdict_of one w.judgement ≡ Err r = sym w.answers ∙ e in
       record {
         judgement = w.judgement;
         other = judge two (length second);
@@ -83,25 +82,34 @@ past_stays card room (OutsideAt flat axis) table h = drop_at (replicate (cells c
 past_stays card room (Clashing x y cell) table h = drop_at (replicate (cells card) 0) (drop (cells card) table) (cells card) (length-replicate (cells card) 0)
 past_stays card room (Passed owners count) table h = drop_at owners (drop (cells card) table) (cells card) h.2.size
 
+-- the counts of two layouts that match
+abbrev pub cells_told : Result Matching Refusal → ℕ
+cells_told (Ok pair) = pair.cells
+cells_told (Err refusal) = 0
+
+abbrev pub occupied_told : Result Matching Refusal → ℕ
+occupied_told (Ok pair) = pair.occupied
+occupied_told (Err refusal) = 0
+
 module _ (one two : Card) (room other : ℕ) where
   -- the ladder after both verdicts, where it refuses
-  ladder_refused : (a b : Bool) (r : Refusal) (n m : ℕ) (f s : List ℕ) → Refused r ≡ cond a (Refused Limits) (cond (not b) (Refused Shape) (Matching n m))
+  ladder_refused : (a b : Bool) (r : Refusal) (n m : ℕ) (f s : List ℕ) → Err r ≡ cond a (Err Limits) (cond (not b) (Err Shape) (matching_with n m))
       → cond a (Emptied Limits) (cond (not b) (Emptied Shape) (Ready f s)) ≡ Emptied r
   ladder_refused true b r n m f s e = let same-refusal : r ≡ Limits = cc in ap Emptied (sym same-refusal)
   ladder_refused false true r n m f s e = absurd (apart cc)
   ladder_refused false false r n m f s e = let same-refusal : r ≡ Shape = cc in ap Emptied (sym same-refusal)
 
   -- and where it does not
-  ladder_matching : (a b : Bool) (c o n m : ℕ) (f s : List ℕ) → Matching c o ≡ cond a (Refused Limits) (cond (not b) (Refused Shape) (Matching n m))
+  ladder_matching : (a b : Bool) (c o n m : ℕ) (f s : List ℕ) → matching_with c o ≡ cond a (Err Limits) (cond (not b) (Err Shape) (matching_with n m))
       → (c ≡ n) × (o ≡ m) × (cond a (Emptied Limits) (cond (not b) (Emptied Shape) (Ready f s)) ≡ Ready f s)
   ladder_matching true b c o n m f s e = absurd (apart cc)
-  ladder_matching false true c o n m f s e = (cc, cc, refl)
+  ladder_matching false true c o n m f s e = (ap cells_told e, ap occupied_told e, refl)
   ladder_matching false false c o n m f s e = absurd (apart cc)
 
   abbrev marks : Bool
   marks = marked one || marked two
 
-  pub pair_refused : (j k : Judgement) (r : Refusal) → Refused r ≡ pairing (verdict_of one j) (verdict_of two k) marks → after_both one two j k ≡ Emptied r
+  pub pair_refused : (j k : Judgement) (r : Refusal) → Err r ≡ pairing (verdict_of one j) (verdict_of two k) marks → after_both one two j k ≡ Emptied r
   pair_refused (NotAdmitted refusal) k r e = let q : r ≡ refusal = cc in ap Emptied (sym q)
   pair_refused NoRoom k r e = cc
   pair_refused (OutsideAt flat axis) k r e = cc
@@ -121,7 +129,7 @@ module _ (one two : Card) (room other : ℕ) where
     pub holds_other : if_approved (verdict_of one j) (table_after two k second) second ≡ owners_of k ++ drop (cells two) second
 
   pub pair_matching : (j k : Judgement) (c o : ℕ) (first second : List ℕ) → ComesTo two other k
-      → Matching c o ≡ pairing (verdict_of one j) (verdict_of two k) marks → Paired j k c o first second
+      → matching_with c o ≡ pairing (verdict_of one j) (verdict_of two k) marks → Paired j k c o first second
   pair_matching (NotAdmitted refusal) k c o first second g e = absurd (apart cc)
   pair_matching NoRoom k c o first second g e = absurd (apart cc)
   pair_matching (OutsideAt flat axis) k c o first second g e = absurd (apart cc)
@@ -146,8 +154,8 @@ module _ (one two : Card) (first second : List ℕ) (space : one_space one.lengt
   into : (j k : Judgement) → opening one two (length first) (length second) j k ≡ after_both one two j k
   into j k = rw (space, le-ltb (length first) (cells one) long, le-ltb (length second) (cells one) long_other) refl
 
-  pub opens_matching : {f s : List ℕ} {p : Pairing} {c o : ℕ} → BothPromise one two first second f s p → p ≡ Matching c o
-      → OpenPromise one two first second f s (Matching c o)
+  pub opens_matching : {f s : List ℕ} {p : Result Matching Refusal} {c o : ℕ} → BothPromise one two first second f s p → p ≡ matching_with c o
+      → OpenPromise one two first second f s (matching_with c o)
   opens_matching {f} {s} {p} {c} {o} b e =
       let m = pair_matching one two (length first) (length second) b.judgement b.other c o first second b.comes_other (sym e ∙ b.answers) in
       let is = into b.judgement b.other ∙ m.ready in
@@ -157,19 +165,19 @@ module _ (one two : Card) (first second : List ℕ) (space : one_space one.lengt
         comes = b.comes;
         comes_other = b.comes_other;
         ending = Left (both_ready (cells one) (owners_of b.judgement) (owners_of b.other));
-        follows = ap (ending_of (cells one) Refused (both_ready (cells one))) (sym is);
-        answers = ap₂ Matching (m.whole ∙ sym one_count) m.counted;
+        follows = ap (ending_of (cells one) Err (both_ready (cells one))) (sym is);
+        answers = ap₂ matching_with (m.whole ∙ sym one_count) m.counted;
         leaves = b.leaves ∙ m.holds;
         leaves_other = b.leaves_other ∙ m.holds_other ∙ ap (λ (n : ℕ). owners_of b.other ++ drop n second) (sym one_count);
       }
 
-  past_other : (v : Verdict) (k : Judgement) → ComesTo two (length second) k
+  past_other : (v : Result Approved Refusal) (k : Judgement) → ComesTo two (length second) k
       → drop (cells one) (if_approved v (table_after two k second) second) ≡ drop (cells one) second
-  past_other (Approved n o c) k g = rw one_count (past_stays two (length second) k second g)
-  past_other (NotApproved r) k g = refl
+  past_other (Ok approval) k g = rw one_count (past_stays two (length second) k second g)
+  past_other (Err r) k g = refl
 
-  pub opens_refused : {f s f' s' : List ℕ} {p : Pairing} {r : Refusal} {n : ℕ} → BothPromise one two first second f s p → p ≡ Refused r
-      → n ≡ cells one → f' ≡ replicate n 0 ++ drop n f → s' ≡ replicate n 0 ++ drop n s → OpenPromise one two first second f' s' (Refused r)
+  pub opens_refused : {f s f' s' : List ℕ} {p : Result Matching Refusal} {r : Refusal} {n : ℕ} → BothPromise one two first second f s p → p ≡ Err r
+      → n ≡ cells one → f' ≡ replicate n 0 ++ drop n f → s' ≡ replicate n 0 ++ drop n s → OpenPromise one two first second f' s' (Err r)
   opens_refused {f} {s} {f'} {s'} {p} {r} {n} b e count ef es =
       let is = into b.judgement b.other ∙ pair_refused one two (length first) (length second) b.judgement b.other r (sym e ∙ b.answers) in
       record {
@@ -177,8 +185,8 @@ module _ (one two : Card) (first second : List ℕ) (space : one_space one.lengt
         other = b.other;
         comes = b.comes;
         comes_other = b.comes_other;
-        ending = Left (emptying (cells one) (Refused r));
-        follows = ap (ending_of (cells one) Refused (both_ready (cells one))) (sym is);
+        ending = Left (emptying (cells one) (Err r));
+        follows = ap (ending_of (cells one) Err (both_ready (cells one))) (sym is);
         answers = refl;
         leaves =
             ef
@@ -194,14 +202,14 @@ module _ (one two : Card) (first second : List ℕ) (space : one_space one.lengt
 
 -- not one space, and no room: nothing is touched
 module _ (one two : Card) (first second : List ℕ) where
-  pub no_space : one_space one.lengths two.lengths ≡ false → OpenPromise one two first second first second (Refused Space)
+  pub no_space : one_space one.lengths two.lengths ≡ false → OpenPromise one two first second first second (Err Space)
   no_space e =
       record {
         judgement = judge one (length first);
         other = judge two (length second);
         comes = judge_comes one (length first);
         comes_other = judge_comes two (length second);
-        ending = Kept (Refused Space);
+        ending = Kept (Err Space);
         follows = rw e refl;
         answers = refl;
         leaves = refl;
@@ -209,7 +217,7 @@ module _ (one two : Card) (first second : List ℕ) where
       }
 
   pub no_room : {n : ℕ} → one_space one.lengths two.lengths ≡ true → n ≡ cells one → (ltb (length first) n || ltb (length second) n) ≡ true
-      → OpenPromise one two first second first second (Refused (TooShort n))
+      → OpenPromise one two first second first second (Err (TooShort n))
   no_room {n} e count short =
       let tests : (ltb (length first) (cells one) || ltb (length second) (cells one)) ≡ true = subst (λ (m : ℕ). (ltb (length first) m || ltb (length second) m) ≡ true) count short in
       record {
@@ -217,9 +225,9 @@ module _ (one two : Card) (first second : List ℕ) where
         other = judge two (length second);
         comes = judge_comes one (length first);
         comes_other = judge_comes two (length second);
-        ending = Kept (Refused (TooShort (cells one)));
+        ending = Kept (Err (TooShort (cells one)));
         follows = rw (e, tests) refl;
-        answers = ap (λ (m : ℕ). Refused (TooShort m)) count;
+        answers = ap (λ (m : ℕ). Err (TooShort m)) count;
         leaves = refl;
         leaves_other = refl;
       }

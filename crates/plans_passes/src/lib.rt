@@ -23,9 +23,7 @@ fn enter_cells(first: &[u32], plan: &mut [u64])
     requires { Fits first.now plan.old }
     ensures { plan.new ≡ entered_from first.now 0 plan.old }
 {
-    let mut cell = first.len();
-    while cell > 0 {
-        cell -= 1;
+    for cell in (0..first.len()).rev() {
         enter_cell(plan, first[cell], cell as u64);
     }
 }
@@ -51,10 +49,8 @@ fn put_sources(second: &[u32], plan: &mut [u64])
     ensures { plan.new ≡ sourced_from second.now 0 plan.old }
 {
     let mut copy = 0;
-    let mut cell = 0;
-    while cell < second.len() {
-        copy = put_source(plan, second[cell], copy);
-        cell += 1;
+    for owner in second {
+        copy = put_source(plan, *owner, copy);
     }
 }
 
@@ -77,10 +73,8 @@ fn put_targets(second: &[u32], plan: &mut [u64])
     ensures { plan.new ≡ aimed_from second.now 0 0 plan.old }
 {
     let mut copy = 0;
-    let mut cell = 0;
-    while cell < second.len() {
-        copy = put_target(plan, second[cell], copy, cell as u64);
-        cell += 1;
+    for (cell, owner) in second.iter().enumerate() {
+        copy = put_target(plan, *owner, copy, cell as u64);
     }
 }
 

@@ -9,39 +9,27 @@ ghost use Rattle.plans_second.specs.Clauses.{paired_by, OtherPromise};
 
 use answers::Refusal;
 use card::Card;
-use judgement::Verdict;
+use judgement::Approved;
 
 // Two cards before a plan is looked at: the cells of their space and how many of them the second occupies, or a refusal.
 #[derive(Clone, Copy)]
-pub enum Pairing {
-    Matching { cells: u64, occupied: u64 },
-    Refused(Refusal),
+pub struct Matching {
+    pub cells: u64,
+    pub occupied: u64,
 }
 
 // Whether two cards have the same lengths.
 pub fn same_lengths(one: [u64; 8], two: [u64; 8]) -> bool
     ensures { result ≡ same one two }
 {
-    let mut alike = true;
-    let mut axis: usize = 0;
-    while axis < 8 {
-        alike = alike & (one[axis] == two[axis]);
-        axis += 1;
-    }
-    alike
+    one == two
 }
 
 // Whether one of the iters below a count carries a mark.
 fn any_mark(marks: [bool; 8], count: u64) -> bool
     ensures { result ≡ any_mark (take count marks) }
 {
-    let mut found = false;
-    let mut k: usize = 0;
-    while (k < 8) & ((k as u64) < count) {
-        found = found | marks[k];
-        k += 1;
-    }
-    found
+    marks[..count.min(8) as usize].contains(&true)
 }
 
 // Whether a card carries a reuse mark.
@@ -54,29 +42,33 @@ fn is_marked(card: Card) -> bool
 }
 
 // The second verdict, where the first approved so many elements: then marks and elements are looked at.
-fn pair_up(verdict: Verdict, marks: bool, elements: u64) -> Pairing
+fn pair_up(
+    verdict: Result<Approved, Refusal>,
+    marks: bool,
+    elements: u64,
+) -> Result<Matching, Refusal>
     ensures { result ≡ paired_by verdict marks elements }
 {
-    match verdict {
-        Verdict::Approved {
-            elements: others,
-            occupied,
-            cells,
-        } => {
-            if marks {
-                return Pairing::Refused(Refusal::Limits);
-            }
-            if elements != others {
-                return Pairing::Refused(Refusal::Shape);
-            }
-            Pairing::Matching { cells, occupied }
-        }
-        Verdict::Refused(refusal) => Pairing::Refused(refusal),
+    let approved = verdict?;
+    if marks {
+        return Err(Refusal::Limits);
     }
+    if elements != approved.elements {
+        return Err(Refusal::Shape);
+    }
+    Ok(Matching {
+        cells: approved.cells,
+        occupied: approved.occupied,
+    })
 }
 
 // The second card's verdict, where the first approved so many elements.
-pub fn judge_other(one: Card, two: Card, elements: u64, second: &mut [u32]) -> Pairing
+pub fn judge_other(
+    one: Card,
+    two: Card,
+    elements: u64,
+    second: &mut [u32],
+) -> Result<Matching, Refusal>
     ensures { OtherPromise one two elements second.old second.new result }
 {
     let verdict = verdict::judge(two, second);

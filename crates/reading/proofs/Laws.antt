@@ -1,4 +1,5 @@
 -- From part to part of a text: what is answered from a part on follows from the run over that part and what is answered after it.
+use Rattle.std.specs.Prelude.{Ok}
 use Prim.Native.Nat.{ℕ, ◌+◌, ◌≤◌, ◌<◌}
 use mathlib.Core.Path.{◌≡◌, refl, ap, ◌∙◌, subst}
 use mathlib.Core.Bool.{Bool, true, false}
@@ -8,12 +9,12 @@ use borrow.Author.Tests.{eq-eqb, ne_eqb}
 use lib.Dec.{eqb}
 use lib.IntN.{ℤ, pos}
 use lib.ListN.{length, get_or, replicate}
+use Rattle.answers.specs.Refusals.{no_refusal}
 use Rattle.card.specs.declared.Iters.{Iters}
 use Rattle.notation.specs.Promise.{Answered, no_iters, no_layout}
 use Rattle.notation.specs.Machine.{go, is_stuck, refused_at, no_piece}
 use Rattle.notation.specs.declared.Layout.{Layout}
 use Rattle.notation.specs.declared.Reading.{Reading}
-use Rattle.notation.specs.declared.Read.TheVariants.{Done}
 use Rattle.notation.specs.declared.Phase.TheVariants.{First, Begun, Closed, Plus, Opened, Ended}
 use Rattle.notation.specs.declared.Part.TheVariants.{Shard, Several, Single, Offset}
 use Rattle.notation.specs.declared.Stand.{Stand}
@@ -30,10 +31,10 @@ use Rattle.reading_lists.proofs.Laws.{ready_begun, right_here, stuck_here}
 use Rattle.reading.specs.Parts.{OffsetsAnswered, ReplicaAnswered, SeveralAnswered, SingleAnswered, PlusAnswered}
 
 -- a phase in which a text may end
-pub may_stop : (t : List ℕ) (i : ℕ) (s : Stand) (l : Layout) → length t ≤ i → Standing t i Ended s l → Answered t (record { answer = Done; layout = l })
+pub may_stop : (t : List ℕ) (i : ℕ) (s : Stand) (l : Layout) → length t ≤ i → Standing t i Ended s l → Answered t (record { answer = no_refusal; layout = l })
 may_stop t i s l ge h = right_here t i (reader_at Ended h.owed h.piece s) l h.here ge (rw h.paid)
 
-pub shard_stops : (t : List ℕ) (i : ℕ) (s : Stand) (l : Layout) → length t ≤ i → Standing t i Closed s l → Answered t (record { answer = Done; layout = l })
+pub shard_stops : (t : List ℕ) (i : ℕ) (s : Stand) (l : Layout) → length t ≤ i → Standing t i Closed s l → Answered t (record { answer = no_refusal; layout = l })
 shard_stops t i s l ge h = right_here t i (reader_at Closed h.owed h.piece s) l h.here ge (rw h.paid)
 
 pub ended_wrong : (t : List ℕ) (i : ℕ) (s : Stand) (l : Layout) → i < length t → (get_or t i 0 ≡ 43 → ⊥) → Standing t i Ended s l → Answered t (refused_at i)
@@ -85,7 +86,7 @@ plus_rising t i s l c h =
       };
     }
 
-pub offsets_right : (t : List ℕ) (from : ℕ) (l : Layout) (k : Shifts) → Offsets t from k → k.fits ≡ true → OffsetsAnswered t from l (record { answer = Done; layout = with_offset l k.offset })
+pub offsets_right : (t : List ℕ) (from : ℕ) (l : Layout) (k : Shifts) → Offsets t from k → k.fits ≡ true → OffsetsAnswered t from l (record { answer = no_refusal; layout = with_offset l k.offset })
 offsets_right t from l k a f still h = a.done f l (subst (λ (o : List ℤ). AxesRise t from 0 (with_offset l o)) still h)
 
 pub offsets_wrong : (t : List ℕ) (from : ℕ) (l : Layout) (k : Shifts) → Offsets t from k → k.fits ≡ false → OffsetsAnswered t from l (refused_at k.next)

@@ -1,15 +1,15 @@
 // Reading a text of the layout notation: a shard, then a replica, then offsets, each by its tokens. Only whole lists are put into the layout.
 #![tactic(auto)]
 
-ghost use Rattle.std.specs.Prelude.{◌≡◌, pos, replicate};
-ghost use Rattle.notation.specs.declared.Read.TheVariants.{Done};
-ghost use Rattle.notation.specs.Promise.{no_iters, no_layout, ReadSays, read_numbers};
+ghost use Rattle.std.specs.Prelude.{◌≡◌, pos, replicate, Ok};
+ghost use Rattle.answers.specs.Refusals.{no_refusal};
+ghost use Rattle.notation.specs.Promise.{no_iters, no_layout, ReadSays};
 ghost use Rattle.notation.specs.Machine.{refused_at};
 ghost use Rattle.reading.specs.Parts.{OffsetsAnswered, ReplicaAnswered, SeveralAnswered, SingleAnswered, PlusAnswered};
 
-use answers::{Numbers, Refusal};
+use answers::Refusal;
 use card::{Iter, Iters};
-use notation::{Layout, Read, Reading};
+use notation::{Layout, Reading};
 
 // The places of what opens a shard and of what follows the R of a replica among the words of `reading_letters::expected`.
 const OPEN: usize = 23;
@@ -76,7 +76,7 @@ fn refuse(beginning: usize) -> Reading
     ensures { result ≡ refused_at beginning }
 {
     Reading {
-        answer: Read::Refused(Refusal::Notation {
+        answer: Err(Refusal::Notation {
             beginning: beginning as u64,
         }),
         layout: no_layout(),
@@ -99,10 +99,10 @@ fn with_offset(layout: Layout, offset: [i64; 8]) -> Layout
 
 // A layout that has been read to its end.
 fn done(layout: Layout) -> Reading
-    ensures { result ≡ record { answer = Done; layout = layout } }
+    ensures { result ≡ record { answer = no_refusal; layout = layout } }
 {
     Reading {
-        answer: Read::Done,
+        answer: Ok(()),
         layout,
     }
 }
@@ -205,14 +205,4 @@ pub fn read(text: &[u8]) -> Reading
         return refuse(from);
     }
     after_plus(text, from + 1, layout)
-}
-
-// The plain numbers of a reading.
-pub fn read_numbers(read: Read) -> Numbers
-    ensures { result ≡ read_numbers read }
-{
-    match read {
-        Read::Done => answers::answer(0, 0, 0, 0),
-        Read::Refused(refusal) => answers::refusal_numbers(refusal),
-    }
 }

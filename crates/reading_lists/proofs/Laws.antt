@@ -1,14 +1,16 @@
 -- Lists as runs of the notation's machine: an extent, a stride or an offset more carries a run on and writes the same slot of the layout that the code
 -- writes; what follows it, by the machine's own tests, goes on, ends the list or is where the text goes wrong.
+use Rattle.std.specs.Prelude.{Ok}
 use Prim.Native.Nat.{ℕ, ◌+◌, ◌≤◌, ◌<◌}
 use mathlib.Core.Path.{◌≡◌, refl, ap, ◌∙◌, subst}
 use mathlib.Core.Bool.{Bool, true, false, cond, ◌&&◌, false≢true, true≢false}
 use mathlib.Core.List.{List}
 use native.Mathlib.Omega.{arith}
-use borrow.Author.Tests.{ltb-true, eqb-true, lt-ltb}
+use borrow.Author.Tests.{ltb-true, eqb-true, lt-ltb, le-ltb}
 use lib.Dec.{leb, ltb, eqb}
 use lib.IntN.{ℤ, pos}
 use lib.ListN.{length, get_or, set, replicate}
+use Rattle.answers.specs.Refusals.{no_refusal}
 use Rattle.card.specs.declared.Iter.{Iter}
 use Rattle.card.specs.declared.Iters.{Iters}
 use Rattle.notation.specs.Text.{axis_meant, is_marked}
@@ -36,7 +38,6 @@ use Rattle.reading_tokens.specs.declared.Stride.{Stride}
 use Rattle.reading_tokens.proofs.Laws.{one_on, wrong_here, decided, no_digit}
 use Rattle.reading_lists.specs.Lists.{spot_in, laid_in, nothing_marked, Standing, Fitting, ExtentRun, ExtentsFrom, PaceRun, Paced, Listed, one_iter, Singled, with_offset, AxesRise, OffsetRun, Offsets}
 use Rattle.reading_lists.specs.declared.Single.{Single as ReadSingle}
-use Rattle.notation.specs.declared.Read.TheVariants.{Done}
 use Rattle.notation.proofs.Image.{answered_in_text, answered_at_end}
 use Rattle.reading_lists.specs.declared.Extents.{Extents}
 use Rattle.reading_lists.specs.declared.StepsRead.{StepsRead}
@@ -48,8 +49,24 @@ within_test t i x y v inside h = rw (lt-ltb i (length t) inside) at h
 pub within_yes : (t : List ℕ) (i : ℕ) (x y : Bool) → ((ltb i (length t) && x) && y) ≡ true → i < length t
 within_yes t i x y h = ltb-true i (length t) (both (ltb i (length t)) x (both (ltb i (length t) && x) y h).0).0
 
-pub second_less : (t : List ℕ) (i b k n : ℕ) → ((ltb i (length t) && eqb (get_or t i 0) b) && ltb k n) ≡ true → k < n
-second_less t i b k n h = ltb-true k n (both (ltb i (length t) && eqb (get_or t i 0) b) (ltb k n) h).1
+and_false : (x : Bool) → (x && false) ≡ false
+and_false true = refl
+and_false false = refl
+
+-- a comma, or none, and whether there is room for one more
+pub no_comma : (x y : Bool) → x ≡ false → (x && y) ≡ false
+no_comma x y e = rw e
+
+pub comma_more : (x : Bool) (k n : ℕ) → x ≡ true → k < n → (x && ltb k n) ≡ true
+comma_more x k n e h = rw (e, lt-ltb k n h)
+
+pub comma_past : (x : Bool) (k n : ℕ) → x ≡ true → n ≤ k → (x && ltb k n) ≡ false
+comma_past x k n e h = rw (e, le-ltb k n h)
+
+pub comma_only : (t : List ℕ) (i : ℕ) (y : Bool) → (ltb i (length t) && eqb (get_or t i 0) 44) ≡ true → ((ltb i (length t) && eqb (get_or t i 0) 41) && y) ≡ false
+comma_only t i y h =
+    let comma : get_or t i 0 ≡ 44 = eqb-true (get_or t i 0) 44 (both (ltb i (length t)) (eqb (get_or t i 0) 44) h).1 in
+    rw (comma, and_false (ltb i (length t)))
 
 -- an extent after which nothing goes on but what follows
 pub record InExtent (t : List ℕ) (i v : ℕ) (s : Stand) (l : Layout) : Type 0 where
@@ -301,10 +318,6 @@ list_good t from few many shard e k a f b =
       fails = λ u part l g d h. b.fails u part l g.0 d (a.runs_to f part l nothing_marked g h);
     }
 
-and_false : (x : Bool) → (x && false) ≡ false
-and_false true = refl
-and_false false = refl
-
 -- a single iter
 module _ (t : List ℕ) (from : ℕ) (n : Token) (a : Numbered t from 0 n) where
   abbrev bare : Layout → Layout
@@ -398,7 +411,7 @@ module _ (t : List ℕ) (from : ℕ) (n : Token) (a : Numbered t from 0 n) where
 
 -- where a text may end, and where it goes wrong though it might end
 pub right_here : (t : List ℕ) (i : ℕ) (r : Reader) (l : Layout) → Stands t i r l → length t ≤ i → ends_well r ≡ true
-    → Answered t (record { answer = Done; layout = recorded (last_event r.phase r.piece) r.piece r.spot l })
+    → Answered t (record { answer = no_refusal; layout = recorded (last_event r.phase r.piece) r.piece r.spot l })
 right_here t i r l h ge w =
     rw w at (answered_at_end t i (omega (arith, h.within)) r l (record { stands = h.reader; holds = h.layout }) h.alive)
 
@@ -433,8 +446,8 @@ module _ (t : List ℕ) (from i low : ℕ) (offset : List ℤ) (o : Stride) (r :
             let z = offset_read f l b in
             let e = z.ends refl (a.plain f refl) in
             let y = right_here t o.next (reader_at z.phase z.owed z.piece (here (r l b).steps)) (with_offset l offset) z.here ge e.0 in
-            subst (λ (w : Step). Answered t (record { answer = Done; layout = with_offset l (set offset (axis_meant o.step.place) (value_of w)) })) z.is
-            (subst (λ (w : Event). Answered t (record { answer = Done; layout = recorded w z.piece (here (r l b).steps) (with_offset l offset) })) e.1 y);
+            subst (λ (w : Step). Answered t (record { answer = no_refusal; layout = with_offset l (set offset (axis_meant o.step.place) (value_of w)) })) z.is
+            (subst (λ (w : Event). Answered t (record { answer = no_refusal; layout = recorded w z.piece (here (r l b).steps) (with_offset l offset) })) e.1 y);
         fails = λ g. absurd (true≢false g);
       }
 

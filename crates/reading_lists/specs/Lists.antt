@@ -1,12 +1,12 @@
 -- What the lists of a text lead to: runs of the notation's machine over extents, strides and offsets. Nothing here has to be believed.
-use Rattle.std.specs.Prelude.{ℕ, ◌≤◌, ◌<◌, ◌≡◌, Bool, true, false, List, ℤ, pos, eqb, length, get_or, set, replicate}
+use Rattle.std.specs.Prelude.{ℕ, ◌≤◌, ◌<◌, ◌≡◌, Bool, true, false, List, ℤ, pos, eqb, length, get_or, set, replicate, Ok}
+use Rattle.answers.specs.Refusals.{no_refusal}
 use Rattle.card.specs.declared.Iter.{Iter}
 use Rattle.card.specs.declared.Iters.{Iters}
 use Rattle.card.specs.Card.{none}
 use Rattle.notation.specs.Promise.{Answered, no_iters}
 use Rattle.notation.specs.Machine.{letter, most, least_axis, parens, is_shard, after, refused_at}
 use Rattle.notation.specs.declared.Layout.{Layout}
-use Rattle.notation.specs.declared.Read.TheVariants.{Done}
 use Rattle.notation.specs.declared.Phase.{Phase}
 use Rattle.notation.specs.declared.Phase.TheVariants.{First, Begun, Opened, Ended}
 use Rattle.notation.specs.declared.Part.{Part}
@@ -99,5 +99,5 @@ abbrev pub OffsetRun : List ℕ → ℕ → ℕ → ℕ → List ℤ → Type 0
 OffsetRun t from i low offset = (l : Layout) → AxesRise t from 0 (with_offset l (replicate 8 (pos 0))) → AxesRise t i low (with_offset l offset)
 
 pub record Offsets (t : List ℕ) (from : ℕ) (k : Shifts) : Type 0 where
-  pub done : k.fits ≡ true → (l : Layout) → AxesRise t from 0 (with_offset l (replicate 8 (pos 0))) → Answered t (record { answer = Done; layout = with_offset l k.offset })
+  pub done : k.fits ≡ true → (l : Layout) → AxesRise t from 0 (with_offset l (replicate 8 (pos 0))) → Answered t (record { answer = no_refusal; layout = with_offset l k.offset })
   pub fails : k.fits ≡ false → (l : Layout) → AxesRise t from 0 (with_offset l (replicate 8 (pos 0))) → Answered t (refused_at k.next)

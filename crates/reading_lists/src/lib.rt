@@ -75,8 +75,7 @@ fn read_extents(text: &[u8], from: usize, least: usize, most: usize) -> Extents
     };
     let mut at = [none; 8];
     let mut i = from;
-    let mut k: usize = 0;
-    loop {
+    for k in 0..most {
         let one = reading_tokens::number(text, i, 0);
         let next = one.next;
         if !one.fits {
@@ -87,21 +86,22 @@ fn read_extents(text: &[u8], from: usize, least: usize, most: usize) -> Extents
             stride: 0,
             axis: 0,
         };
-        k += 1;
-        if !(reading_tokens::stands(text, next, b',') & (k < most)) {
-            if reading_tokens::stands(text, next, b')') & (least <= k) {
+        if !reading_tokens::stands(text, next, b',') {
+            if reading_tokens::stands(text, next, b')') & (least <= k + 1) {
                 let open = reading_tokens::word(text, next + 1, BETWEEN, 0);
                 return Extents {
                     fits: open.fits,
                     next: open.next,
                     at,
-                    count: k,
+                    count: k + 1,
                 };
             }
             return no_extents(next);
         }
         i = next + 1;
     }
+    // a comma after the most: the text goes wrong at it
+    no_extents(i - 1)
 }
 
 // An iter with its stride and its axis, in the place of none.
@@ -152,8 +152,7 @@ fn read_steps(text: &[u8], from: usize, iters: [Iter; 8], count: usize, shard: b
     let mut at = iters;
     let mut marks = [false; 8];
     let mut i = from;
-    let mut k: usize = 0;
-    loop {
+    for k in 0..count {
         let one = reading_tokens::read_step(text, i, 0, shard);
         let next = one.next;
         if !one.fits {
@@ -163,9 +162,8 @@ fn read_steps(text: &[u8], from: usize, iters: [Iter; 8], count: usize, shard: b
         let place = step.place;
         at[k] = with_step(at[k], step);
         marks[k] = is_marked(place);
-        k += 1;
-        if !(reading_tokens::stands(text, next, b',') & (k < count)) {
-            if reading_tokens::stands(text, next, b')') & (k == count) {
+        if !reading_tokens::stands(text, next, b',') {
+            if reading_tokens::stands(text, next, b')') & (k + 1 == count) {
                 let shut = reading_tokens::word(text, next + 1, CLOSE, 0);
                 return StepsRead {
                     fits: shut.fits,
@@ -178,6 +176,8 @@ fn read_steps(text: &[u8], from: usize, iters: [Iter; 8], count: usize, shard: b
         }
         i = next + 1;
     }
+    // a comma after the last: the text goes wrong at it
+    no_steps(i - 1)
 }
 
 // A list that has been read, and where it ends; or where the text goes wrong.
@@ -289,6 +289,7 @@ pub fn offsets(text: &[u8], from: usize) -> Shifts
     let mut offset = [0; 8];
     let mut i = from;
     let mut least: u64 = 0;
+    // a `loop`, since the axes rise by as much as the text says: no index counts the offsets
     loop {
         let one = reading_tokens::read_step(text, i, least, false);
         let next = one.next;

@@ -51,17 +51,15 @@ fn digits(text: &[u8], from: usize, first: u64) -> Token
     requires { from ≤ length text.now }
     ensures { Digits text.now from first result }
 {
-    let mut i = from;
     let mut value = first;
-    while i < text.len() {
+    for i in from..text.len() {
         let d = reading_letters::digit(text[i]);
         if !reading_letters::goes_on(value, d) {
             return right(i, 0, value);
         }
         value = reading_letters::longer(value, d);
-        i += 1;
     }
-    right(i, 0, value)
+    right(text.len(), 0, value)
 }
 
 // A number of one to five digits. Its first is at least this one: after a minus no zero stands.
@@ -94,9 +92,8 @@ pub fn word(text: &[u8], from: usize, owed: usize, value: u64) -> Token
     requires { from ≤ length text.now }
     ensures { Worded text.now from owed value result }
 {
-    let mut i = from;
     let mut o = owed;
-    while i < text.len() {
+    for i in from..text.len() {
         let wanted = reading_letters::expected(o);
         if wanted == 0 {
             return right(i, o, value);
@@ -105,12 +102,11 @@ pub fn word(text: &[u8], from: usize, owed: usize, value: u64) -> Token
             return wrong(i);
         }
         o = o % 64 + 1;
-        i += 1;
     }
     if reading_letters::expected(o) == 0 {
-        return right(i, o, value);
+        return right(text.len(), o, value);
     }
-    wrong(i)
+    wrong(text.len())
 }
 
 // What follows `@T`: the axis TCol or TLane, where the least axis allows it.

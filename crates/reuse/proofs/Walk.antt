@@ -2,13 +2,13 @@
 -- than 0.
 use mathlib.Core.Path.{◌≡◌, sym, ap, ◌∙◌, subst}
 use mathlib.Core.Bool.{true, false}
-use mathlib.Core.List.{List, []}
+use mathlib.Core.List.{List}
 use Prim.Native.Nat.{ℕ, suc, ◌*◌, ◌/◌, ◌%◌, ◌≤◌, ◌<◌}
-use native.Mathlib.Nat.{div-div-eq-div-mul, mul_comm, div-one, zero-add, eq-or-lt_of_le}
+use native.Mathlib.Nat.{div-div-eq-div-mul, mul_comm, zero-add, eq-or-lt_of_le}
 use native.Mathlib.Omega.{arith}
-use mathlib.Core.Logic.{◌⊎◌, ⊎_elim}
+use mathlib.Core.Logic.{⊎_elim}
 use lib.IntN.{ℤ}
-use lib.ListN.{length, get_or, take, drop, length-take, drop_of_length-le}
+use lib.ListN.{length, get_or, drop, length-take}
 use lib.Seq.{slice, drop-cons, get_or-take}
 use Rattle.card.specs.Lists.{all, within, product}
 use Rattle.card.specs.Limits.{most_extent}
@@ -48,12 +48,6 @@ module _ (numbers : List ℕ) (flat : ℕ) (e : Element numbers flat) where
   pub record Walked (k rest : ℕ) : Type 0 where
     pub left : rest ≡ flat / product (drop k (extents_there numbers))
     pub still : (j : ℕ) → k ≤ j → j < count → mark_at numbers j ≡ true → component j ≡ 0
-
-  pub walked_none : Walked count flat
-  walked_none = record {
-    left = sym (ap (λ (l : List ℕ). flat / product l) (drop_of_length-le (extents_there numbers) {i = count} (omega (arith, as_many))) ∙ div-one flat);
-    still = λ j h k. absurd (omega arith);
-  }
 
   -- the component that comes next
   pub next_is : (k rest : ℕ) → Walked (suc k) rest → rest % get_or numbers k 0 ≡ component k

@@ -14,12 +14,10 @@ pub fn has_marks(numbers: &[u64; 56]) -> bool
     ensures { (strides : List ℤ) → result ≡ false → Unmarked (card_of numbers.now strides) }
 {
     let count = numbers[card::COUNTS + card::SHARD] as usize;
-    let mut k: usize = 0;
-    while k < count {
+    for k in 0..count {
         if numbers[card::MARKS + k] != 0 {
             return true;
         }
-        k += 1;
     }
     false
 }
@@ -30,9 +28,8 @@ fn stands_still(numbers: &[u64; 56], flat: Flat) -> bool
     ensures { (strides : List ℤ) → result ≡ eqb (leader (card_of numbers.now strides) flat.0) flat.0 }
 {
     let mut rest = flat.0;
-    let mut k = numbers[card::COUNTS + card::SHARD] as usize;
-    while 0 < k {
-        k -= 1;
+    let count = numbers[card::COUNTS + card::SHARD] as usize;
+    for k in (0..count).rev() {
         let extent = numbers[k];
         if (numbers[card::MARKS + k] != 0) & (rest % extent != 0) {
             return false;

@@ -1,5 +1,6 @@
 -- Elements that are one lie in the same cells, and one of them leads: the stride of a marked iter is 0, so its component moves nothing, and with the
 -- marked components at 0 the row-major number is the smallest.
+use Rattle.std.specs.Prelude.{Ok}
 use mathlib.Core.Path.{◌≡◌, refl, sym, ap, ap₂, ◌∙◌, fun_ext}
 use mathlib.Core.Bool.{Bool, true, false, cond, not, ◌&&◌, ◌||◌, and-eq-true_iff, true≢false}
 use mathlib.Core.List.{List, [], ◌∷◌, map}
@@ -10,12 +11,12 @@ use borrow.Author.Tests.{lt-ltb, leb-true}
 use lib.Dec.{eqb, leb, ltb}
 use lib.IntN.{ℤ, pos, negsuc, ◌+ℤ◌, ◌*ℤ◌}
 use lib.ListN.{length, get_or, drop}
+use Rattle.answers.specs.Refusals.{no_refusal}
 use Rattle.card.specs.Lists.{within_z, product}
 use Rattle.card.specs.Card.{listed, marks_of, extent_of, stride_of, elements}
 use Rattle.card.specs.Admission.{marks_fit, admission}
 use Rattle.card.specs.declared.Iter.{Iter}
 use Rattle.card.specs.declared.Card.{Card}
-use Rattle.card.specs.declared.Admission.TheVariants.{Admitted}
 use Rattle.card.proofs.Admitted.{checked, numbered}
 use Rattle.rules.specs.RowMajor.{row_major, components, inside, position}
 use Rattle.rules.specs.Rules.{axes, added, part, swizzled_m, on_axis, coordinates, spot_at, spot}
@@ -50,7 +51,7 @@ added_unmarked axis (mark ∷ marks) (iter ∷ l) (c ∷ cs) e =
     one false h = refl
 
 -- elements that are one have their copies in the same places
-pub one_spot : (card : Card) (x y combination : ℕ) → admission card ≡ Admitted → AreOne card x y → spot card x combination ≡ spot card y combination
+pub one_spot : (card : Card) (x y combination : ℕ) → admission card ≡ no_refusal → AreOne card x y → spot card x combination ≡ spot card y combination
 unfolding spot coordinates
 one_spot card x y combination admitted one =
     ap (λ (p : ℕ → ℤ). spot_at (position card.lengths (map on_axis (swizzled_m card.swizzle

@@ -4,6 +4,7 @@
 use answers::Cell;
 
 // Where coordinates are: at a number, row-major, or past a size, the smallest such place.
+// No Result: neither is a failure, both answer where the coordinates are.
 #[derive(Clone, Copy)]
 pub enum Position {
     At(u64),
@@ -11,6 +12,7 @@ pub enum Position {
 }
 
 // Where a copy goes: its cell, or the smallest axis on which it lies outside the space.
+// No Result: outside is an answer too, which the caller may refuse.
 #[derive(Clone, Copy)]
 pub enum Spot {
     Inside(Cell),

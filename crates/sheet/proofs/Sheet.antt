@@ -1,5 +1,6 @@
 -- Every load of the sheet has its stated answer: one test that the checker computes over the whole table, and the law that turns it
 -- into each load.
+use Rattle.std.specs.Prelude.{Result, ⊤}
 use mathlib.Core.Path.{◌≡◌, refl, sym, ap, ap₂}
 use mathlib.Core.Bool.{Bool, true, false, ◌&&◌, and-eq-true_iff}
 use mathlib.Core.List.{List, [], ◌∷◌, ◌++◌}
@@ -8,6 +9,8 @@ use borrow.Author.Tests.{eqb-true}
 use lib.Dec.{eqb}
 use lib.Count.{count_leading_zeros}
 use lib.ListN.{length, get_or}
+use Rattle.answers.specs.declared.Refusal.{Refusal}
+use Rattle.judgement.specs.declared.Approved.{Approved}
 use Rattle.laws.proofs.Table.{every, every_at}
 use Rattle.laws.proofs.Rungs.{apart}
 use Rattle.swizzle.specs.Swizzle.{swizzled}
@@ -27,12 +30,8 @@ use Rattle.placement_judged.specs.Placement.{placement_answer, placement_memory}
 use Rattle.card.specs.declared.Card.{Card}
 use Rattle.judgement.specs.Verdict.{table_after, VerdictPromise, owner_table_after, OwnerPromise, verdict_numbers, owner_numbers}
 use Rattle.judgement.specs.Run.{judge, owner_run}
-use Rattle.judgement.specs.declared.Verdict.{Verdict}
-use Rattle.judgement.specs.declared.Owner.{Owner}
 use Rattle.judgement.proofs.Run.{verdict_is_run, owner_is_run}
 use Rattle.plans_judged.specs.Endings.{CheckPromise, PlanPromise, checked_numbers, planning_numbers}
-use Rattle.plans_judged.specs.declared.Checked.{Checked}
-use Rattle.plans_judged.specs.declared.Planning.{Planning}
 use Rattle.plans_judged.proofs.Run.{check_is_run, plan_is_run}
 use Rattle.sheet.specs.Questions.{verdict, owner, carry, plan, Reply, reply, replied_to}
 use Rattle.sheet.specs.Loads.{Load, loads}
@@ -97,31 +96,31 @@ sheet_holds other k h =
     reply_same (replied_to load.question) load.stated (every_at meets loads other test k h)
 
 -- a load of the verdict is a load of its promise: whatever the promise allows has the numbers that the run computes, and leaves its table
-pub verdict_carried : (card : Card) (before after : List ℕ) (v : Verdict) → VerdictPromise card before after v
+pub verdict_carried : (card : Card) (before after : List ℕ) (v : Result Approved Refusal) → VerdictPromise card before after v
     → (replied_to (verdict card before) ≡ reply (verdict_numbers v) []) × (after ≡ table_after card (judge card (length before)) before)
 unfolding replied_to
 verdict_carried card before after v p =
     let run = verdict_is_run card before after v p in
-    (ap (λ (w : Verdict). reply (verdict_numbers w) []) (sym run.0), run.1)
+    (ap (λ (w : Result Approved Refusal). reply (verdict_numbers w) []) (sym run.0), run.1)
 
 -- and so is one of the owner
-pub owner_carried : (card : Card) (coordinates before after : List ℕ) (o : Owner) → OwnerPromise card coordinates before after o
+pub owner_carried : (card : Card) (coordinates before after : List ℕ) (o : Result ℕ Refusal) → OwnerPromise card coordinates before after o
     → (replied_to (owner card coordinates before) ≡ reply (owner_numbers o) [])
     × (after ≡ owner_table_after card (owner_run card coordinates (length before)) before)
 unfolding replied_to
 owner_carried card coordinates before after o p =
     let run = owner_is_run card coordinates before after o p in
-    (ap (λ (w : Owner). reply (owner_numbers w) []) (sym run.0), run.1)
+    (ap (λ (w : Result ℕ Refusal). reply (owner_numbers w) []) (sym run.0), run.1)
 
 -- and so is one of a plan that is checked, or written
-pub check_carried : (one two : Card) (moves first second f s : List ℕ) (a : Checked) → CheckPromise one two moves first second f s a
+pub check_carried : (one two : Card) (moves first second f s : List ℕ) (a : Result ⊤ Refusal) → CheckPromise one two moves first second f s a
     → replied_to (carry one two moves first second) ≡ reply (checked_numbers a) (f ++ s)
 unfolding replied_to
 check_carried one two moves first second f s a p =
     let run = check_is_run one two first second moves f s a p in
     ap₂ reply (ap checked_numbers (sym run.0)) (ap₂ (λ (l r : List ℕ). l ++ r) (sym run.1) (sym run.2))
 
-pub plan_carried : (one two : Card) (memory first second m f s : List ℕ) (a : Planning) → PlanPromise one two memory first second m f s a
+pub plan_carried : (one two : Card) (memory first second m f s : List ℕ) (a : Result ℕ Refusal) → PlanPromise one two memory first second m f s a
     → replied_to (plan one two memory first second) ≡ reply (planning_numbers a) (m ++ (f ++ s))
 unfolding replied_to
 plan_carried one two memory first second m f s a p =

@@ -1,4 +1,5 @@
 -- Every load of the notation has its stated answer, by tests that the checker computes, and so has whatever the promises allow.
+use Rattle.std.specs.Prelude.{Ok, Result, ⊤, Err}
 use Prim.Native.Nat.{ℕ, zero, suc, ◌-◌, ◌<◌}
 use mathlib.Core.Path.{◌≡◌, refl, sym, ap, ◌∙◌, subst}
 use mathlib.Core.Bool.{Bool, true, ◌&&◌, and-eq-true_iff}
@@ -9,7 +10,7 @@ use borrow.Author.Tests.{eqb-true}
 use lib.Dec.{eqb}
 use lib.ListN.{length, get_or}
 use Rattle.laws.proofs.Table.{every, every_at}
-use Rattle.answers.specs.Refusals.{refusal_numbers}
+use Rattle.answers.specs.Refusals.{refusal_numbers, no_refusal}
 use Rattle.answers.specs.declared.Refusal.{Refusal}
 use Rattle.answers.specs.declared.Refusal.TheVariants.{TooShort}
 use Rattle.notation.specs.Text.{decimal}
@@ -19,10 +20,7 @@ use Rattle.notation.specs.Promise.{Comes, Answered, read_numbers}
 use Rattle.notation.specs.Machine.{stepped, moved}
 use Rattle.notation.specs.Writing.{text_of, written_answer}
 use Rattle.notation.specs.declared.Layout.{Layout}
-use Rattle.notation.specs.declared.Read.{Read}
-use Rattle.notation.specs.declared.Read.TheVariants.{Done, Refused as NotRead}
 use Rattle.notation.specs.declared.Reading.{Reading}
-use Rattle.notation.specs.declared.Written.TheVariants.{Length, Refused}
 use Rattle.sheet_notation.specs.Loads.{Wrong, wrong_texts, Right, right, layout_card, right_texts}
 use Rattle.notation.proofs.Carried.{read_carried}
 use Rattle.sheet_notation.proofs.Same.{same_layout, layout_same}
@@ -62,13 +60,13 @@ right_test : every same_reading 0 right ≡ true
 unfolding same_reading right stepped moved
 right_test = refl
 
-done : (r : Read) → (read_numbers r).number ≡ 0 → (t : List ℕ) (l : Layout) → Comes r t l → r ≡ Done
-done Done e t l c = refl
-done (NotRead refusal) e t l c = absurd (let z : 18 ≡ 0 = ap (λ (x : Refusal). (refusal_numbers x).number) (sym c.eighteen) ∙ e in omega (arith, z))
+done : (r : Result ⊤ Refusal) → (read_numbers r).number ≡ 0 → (t : List ℕ) (l : Layout) → Comes r t l → r ≡ no_refusal
+done (Ok _) e t l c = refl
+done (Err refusal) e t l c = absurd (let z : 18 ≡ 0 = ap (λ (x : Refusal). (refusal_numbers x).number) (sym c.eighteen) ∙ e in omega (arith, z))
 
 -- every reading of a correct text that the promise allows gives its layout
 pub right_read : (other : Right) (k : ℕ) → k < length right → (r : Reading) → Answered (quoted_bytes (get_or right k other).text) r
-    → r ≡ record { answer = Done; layout = (get_or right k other).layout }
+    → r ≡ record { answer = no_refusal; layout = (get_or right k other).layout }
 unfolding same_reading
 right_read other k h r allowed =
     let load = get_or right k other in
@@ -76,7 +74,7 @@ right_read other k h r allowed =
     let run = read_run t in
     let passed = (and-eq-true_iff (eqb (read_numbers run.answer).number 0) (same_layout run.layout load.layout)).0 (every_at same_reading right other right_test k h) in
     let same : r ≡ run = read_carried t r allowed in
-    let is-done : run.answer ≡ Done = done run.answer (eqb-true (read_numbers run.answer).number 0 passed.0) t run.layout (subst (λ (x : Reading). Answered t x) same allowed) in
+    let is-done : run.answer ≡ no_refusal = done run.answer (eqb-true (read_numbers run.answer).number 0 passed.0) t run.layout (subst (λ (x : Reading). Answered t x) same allowed) in
     let its-layout : run.layout ≡ load.layout = layout_same run.layout load.layout passed.1 in
     same ∙ (λ i. record { answer = is-done i; layout = its-layout i })
 
@@ -85,7 +83,7 @@ abbrev Writes : Right → Type 0
 Writes load =
     let card = layout_card load.layout in
     let n = length (quoted_bytes load.text) in
-    (text_of card ≡ quoted_bytes load.text) × (written_answer card n ≡ Length n) × (written_answer card (n - 1) ≡ Refused (TooShort n))
+    (text_of card ≡ quoted_bytes load.text) × (written_answer card n ≡ Ok n) × (written_answer card (n - 1) ≡ Err (TooShort n))
 
 writes : All Writes right_texts
 unfolding right_texts text_of decimal

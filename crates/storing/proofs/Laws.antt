@@ -1,10 +1,12 @@
 -- A page by what its block comes to.
+use Rattle.std.specs.Prelude.{Err, Ok}
 use Prim.Native.Nat.{ℕ, ◌≤◌}
 use mathlib.Core.Path.{◌≡◌, refl}
 use mathlib.Core.Bool.{true, ◌&&◌}
 use mathlib.Core.List.{List}
 use borrow.Author.Tests.{leb-true}
 use lib.Dec.{leb}
+use Rattle.answers.specs.Refusals.{no_refusal}
 use Rattle.laws.proofs.Tests.{three_of}
 use Rattle.answers.specs.declared.Refusal.{Refusal}
 use Rattle.card.specs.Card.{no_card}
@@ -12,12 +14,11 @@ use Rattle.card.specs.Admission.{counts_fit}
 use Rattle.book.specs.Bytes.{field}
 use Rattle.book.specs.Book.{card_in, read_answer, page_of}
 use Rattle.book.specs.declared.Page.{Page}
-use Rattle.book.specs.declared.Answer.TheVariants.{Done, Refused}
 
-pub page_refused : (block : List ℕ) (r : Refusal) → read_answer block ≡ Refused r → record { answer = Refused r; card = no_card } ≡ page_of block
+pub page_refused : (block : List ℕ) (r : Refusal) → read_answer block ≡ Err r → record { answer = Err r; card = no_card } ≡ page_of block
 page_refused block r e = rw e
 
-pub page_done : (block : List ℕ) → read_answer block ≡ Done → record { answer = Done; card = card_in block } ≡ page_of block
+pub page_done : (block : List ℕ) → read_answer block ≡ no_refusal → record { answer = no_refusal; card = card_in block } ≡ page_of block
 page_done block e = rw e
 
 pub counts_in : (block : List ℕ) → counts_fit (card_in block) ≡ (leb 1 (field 1 0 block) && leb (field 1 0 block) 8 && leb (field 1 1 block) 4)

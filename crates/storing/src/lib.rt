@@ -1,22 +1,21 @@
 // Reading and writing a block of the layout book, the note a part of the block.
 #![tactic(auto)]
 
-ghost use Rattle.std.specs.Prelude.{◌≡◌, length};
+ghost use Rattle.std.specs.Prelude.{◌≡◌, length, Err};
 ghost use Rattle.card.specs.Card.{no_card};
-ghost use Rattle.book.specs.Book.{read_answer, page_of, note_read, NoteBegins, write_answer, lent_after, answer_numbers};
-ghost use Rattle.book.specs.declared.Answer.TheVariants.{Refused};
+ghost use Rattle.book.specs.Book.{read_answer, page_of, note_read, NoteBegins, write_answer, lent_after};
 
-use answers::{Numbers, Refusal};
-use book::{Answer, Page};
-use card::{Admission, Card};
+use answers::Refusal;
+use book::Page;
+use card::Card;
 
 // A refused read.
 fn refused(refusal: Refusal) -> Page
-    ensures { result ≡ record { answer = Refused refusal; card = no_card } }
+    ensures { result ≡ record { answer = Err refusal; card = no_card } }
 {
     let card = book_card::no_card();
     Page {
-        answer: Answer::Refused(refusal),
+        answer: Err(refusal),
         card,
     }
 }
@@ -43,7 +42,7 @@ pub fn read_block(block: &[u8]) -> Page
     }
     let card = book_card::card_in(block);
     Page {
-        answer: Answer::Done,
+        answer: Ok(()),
         card,
     }
 }
@@ -56,39 +55,27 @@ pub fn read_note(block: &[u8]) -> &[u8]
     let page = read_block(block);
     let answer = page.answer;
     match answer {
-        Answer::Done => {
+        Ok(()) => {
             let end = book::NOTE + book_blocks::noted_in(block) as usize;
             &block[book::NOTE..end]
         }
-        Answer::Refused(_) => &block[0..0],
+        Err(_) => &block[0..0],
     }
 }
 
 // Writes the block of a card with a note into lent bytes; those past it stay.
-pub fn write_block(card: Card, note: &[u8], memory: &mut [u8]) -> Answer
+pub fn write_block(card: Card, note: &[u8], memory: &mut [u8]) -> Result<(), Refusal>
     ensures { (result ≡ write_answer card (length note.now) (length memory.old)) × (memory.new ≡ lent_after result card note.now memory.old) }
 {
-    if let Admission::Refused(refusal) = admission::admit(card) {
-        return Answer::Refused(refusal);
-    }
+    admission::admit(card)?;
     if book::MOST_NOTE < note.len() {
-        return Answer::Refused(Refusal::Unused);
+        return Err(Refusal::Unused);
     }
     if memory.len() < book::BLOCK {
-        return Answer::Refused(Refusal::TooShort {
+        return Err(Refusal::TooShort {
             needed: book::BLOCK as u64,
         });
     }
     book_blocks::fill(card, note, &mut memory[..book::BLOCK]);
-    Answer::Done
-}
-
-// The plain numbers of an answer.
-pub fn answer_numbers(answer: Answer) -> Numbers
-    ensures { result ≡ answer_numbers answer }
-{
-    match answer {
-        Answer::Done => answers::answer(0, 0, 0, 0),
-        Answer::Refused(refusal) => answers::refusal_numbers(refusal),
-    }
+    Ok(())
 }

@@ -4,39 +4,44 @@
 #![tactic(auto)]
 
 ghost use Rattle.std.specs.Prelude.{◌≡◌, length};
-ghost use Rattle.stretch_judged.specs.Stretch.{stretch_answer, stretch_of, StretchBegins, stretch_numbers};
+ghost use Rattle.stretch_judged.specs.Stretch.{stretch_answer, stretch_of, StretchBegins};
 
-use answers::{Cell, Numbers, Refusal};
+use answers::{Cell, Refusal};
 use rules::Position;
-use stretch_judged::Located;
+use stretch_judged::Stretch;
 
 // Where a stretch of the table lies: the cells under the coordinates of all axes up to and with the
 // asked one. No coordinate past it is looked at.
-pub fn locate_stretch(table: &[u32], lengths: [u64; 8], axis: u64, coordinates: [u64; 8]) -> Located
+pub fn locate_stretch(
+    table: &[u32],
+    lengths: [u64; 8],
+    axis: u64,
+    coordinates: [u64; 8],
+) -> Result<Stretch, Refusal>
     ensures { result ≡ stretch_answer lengths axis coordinates (length table.now) }
 {
     if axis > card::LAST_AXIS {
-        return Located::Refused(Refusal::Axis);
+        return Err(Refusal::Axis);
     }
     if !admission::space_fits(lengths) {
-        return Located::Refused(Refusal::Space);
+        return Err(Refusal::Space);
     }
     let number = match copies::locate(&lengths, &coordinates, axis + 1) {
         Position::At(number) => number,
         Position::Past(outside) => {
-            return Located::Refused(Refusal::CellOutside { axis: outside });
+            return Err(Refusal::CellOutside { axis: outside });
         }
     };
     let cells = card_products::product(lengths, 8);
     if (table.len() as u64) < cells {
-        return Located::Refused(Refusal::TooShort { needed: cells });
+        return Err(Refusal::TooShort { needed: cells });
     }
     // each prefix has equally many cells under it
     let length = cells / card_products::product(lengths, axis + 1);
-    Located::Stretch {
+    Ok(Stretch {
         first: Cell(number * length),
         length,
-    }
+    })
 }
 
 // The stretch of the table itself, not a copy: it begins at its first cell, four bytes a cell into the
@@ -47,21 +52,11 @@ pub fn stretch(table: &[u32], lengths: [u64; 8], axis: u64, coordinates: [u64; 8
 {
     let located = locate_stretch(table, lengths, axis, coordinates);
     match located {
-        Located::Stretch { first, length } => {
-            let start = first.0 as usize;
-            let end = start + length as usize;
+        Ok(found) => {
+            let start = found.first.0 as usize;
+            let end = start + found.length as usize;
             &table[start..end]
         }
-        Located::Refused(_) => &table[0..0],
-    }
-}
-
-// The plain numbers of a stretch's answer.
-pub fn stretch_numbers(located: Located) -> Numbers
-    ensures { result ≡ stretch_numbers located }
-{
-    match located {
-        Located::Stretch { first, length } => answers::answer(0, first.0, length, 0),
-        Located::Refused(refusal) => answers::refusal_numbers(refusal),
+        Err(_) => &table[0..0],
     }
 }

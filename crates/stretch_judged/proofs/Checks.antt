@@ -1,5 +1,6 @@
 -- What is known where the answer is a stretch: the four checks have passed, one by one, and it ends within the cells.
-use mathlib.Core.Path.{◌≡◌, sym}
+use Rattle.std.specs.Prelude.{Result, Err}
+use mathlib.Core.Path.{◌≡◌, sym, ap}
 use mathlib.Core.Bool.{true, not, and-eq-true_iff}
 use mathlib.Core.List.{List}
 use Prim.Native.Nat.{ℕ, ◌+◌, ◌/◌, ◌≤◌}
@@ -18,8 +19,8 @@ use Rattle.rules.specs.RowMajor.{row_major, inside}
 use Rattle.laws.proofs.Products.{factors}
 use Rattle.laws.proofs.Rungs.{apart, passed_by}
 use Rattle.rules.proofs.Prefixes.{product_parts, prefix_within}
-use Rattle.stretch_judged.specs.Stretch.{asked, stretch_answer}
-use Rattle.stretch_judged.specs.declared.Located.TheVariants.{Stretch, Refused}
+use Rattle.stretch_judged.specs.Stretch.{asked, stretch_answer, stretch_with, stretch_numbers}
+use Rattle.stretch_judged.specs.declared.Stretch.{Stretch}
 
 -- a space that fits, its axes in two parts: each part has cells, and both no more than a space may have
 pub record Parted (lengths : List ℕ) (n : ℕ) : Type 0 where
@@ -60,11 +61,11 @@ pub record StretchWithin (lengths : List ℕ) (entries first long : ℕ) : Type 
   pub most : product lengths ≤ most_cells
 
 -- a stretch is no refusal
-not_refused : {r : Refusal} {first : Cell} {long : ℕ} → Refused r ≡ Stretch first long → ⊥
+not_refused : {r : Refusal} {first : Cell} {long : ℕ} → Err r ≡ stretch_with first long → ⊥
 not_refused e = apart (cc)
 
 module _ (lengths : List ℕ) (axis : ℕ) (coordinates : List ℕ) (entries : ℕ) (first : Cell) (long : ℕ)
-    (found : stretch_answer lengths axis coordinates entries ≡ Stretch first long) where
+    (found : stretch_answer lengths axis coordinates entries ≡ stretch_with first long) where
   pub answer_passed : ChecksPassed lengths axis coordinates entries first.0 long
   answer_passed =
       let three = passed_by (ltb last_axis axis) found not_refused in
@@ -76,8 +77,8 @@ module _ (lengths : List ℕ) (axis : ℕ) (coordinates : List ℕ) (entries : �
         fits = not-false (space_fits lengths) four.0;
         inside_asked = not-false (inside (asked axis lengths) (asked axis coordinates)) twelve.0;
         room = ltb-false entries (product lengths) eleven.0;
-        first_is = cc;
-        long_is = cc;
+        first_is = sym (ap (λ (found : Result Stretch Refusal). (stretch_numbers found).a) same);
+        long_is = sym (ap (λ (found : Result Stretch Refusal). (stretch_numbers found).b) same);
       }
 
   pub answer_within : StretchWithin lengths entries first.0 long

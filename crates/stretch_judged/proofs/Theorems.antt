@@ -1,4 +1,5 @@
 -- What the definition of the stretch means, in plain for-alls, from the laws on the checks and on prefixes.
+use Rattle.std.specs.Prelude.{Result, Err, Ok}
 use mathlib.Core.Path.{◌≡◌, refl, sym, ap, ◌∙◌}
 use mathlib.Core.Bool.{true, not, cond}
 use mathlib.Core.Logic.{◌↔◌}
@@ -7,6 +8,7 @@ use Prim.Native.Nat.{ℕ, ◌+◌, ◌*◌, ◌≤◌, ◌<◌, min}
 use native.Mathlib.Omega.{arith}
 use lib.Dec.{ltb, eqb}
 use lib.ListN.{length, take, drop, length-take, length-drop}
+use Rattle.stretch_judged.specs.declared.Stretch.{Stretch}
 use Rattle.answers.specs.Refusals.{answer}
 use Rattle.answers.specs.declared.Cell.{Cell}
 use Rattle.answers.specs.declared.Numbers.{Numbers}
@@ -21,13 +23,11 @@ use Rattle.card.specs.Admission.{space_fits}
 use Rattle.rules.specs.RowMajor.{row_major, components, inside, first_past}
 use Rattle.rules.proofs.RowMajor.{components_inside, components_give_back, FirstPast, first_past_lem}
 use Rattle.rules.proofs.Prefixes.{prefix_under}
-use Rattle.stretch_judged.specs.Stretch.{asked, stretch_answer, stretch_of, StretchBegins, stretch_numbers}
-use Rattle.stretch_judged.specs.declared.Located.{Located}
-use Rattle.stretch_judged.specs.declared.Located.TheVariants.{Stretch, Refused}
+use Rattle.stretch_judged.specs.Stretch.{asked, stretch_answer, stretch_of, StretchBegins, stretch_numbers, stretch_with}
 use Rattle.stretch_judged.proofs.Checks.{answer_passed, answer_within}
 
 -- two outcomes that the promise of the companion question allows are equal
-pub locate_settled : (lengths : List ℕ) (axis : ℕ) (coordinates : List ℕ) (entries : ℕ) (p q : Located)
+pub locate_settled : (lengths : List ℕ) (axis : ℕ) (coordinates : List ℕ) (entries : ℕ) (p q : Result Stretch Refusal)
     → p ≡ stretch_answer lengths axis coordinates entries → q ≡ stretch_answer lengths axis coordinates entries → p ≡ q
 locate_settled lengths axis coordinates entries p q e f = e ∙ sym f
 
@@ -41,16 +41,16 @@ pub stretch_settled : (table lengths : List ℕ) (axis : ℕ) (coordinates : Lis
 stretch_settled table lengths axis coordinates start p q a b e s f t = (e ∙ sym f, s.0 ∙ sym t.0, s.1 ∙ sym t.1)
 
 -- pinning the numbers pins the answer
-stretch_at : Numbers → Located
-stretch_at n = Stretch (record { 0 = n.a }) n.b
+stretch_at : Numbers → Result Stretch Refusal
+stretch_at n = stretch_with (record { 0 = n.a }) n.b
 
-stretch_back : (p : Located) → read_back stretch_at Refused (stretch_numbers p) ≡ p
+stretch_back : (p : Result Stretch Refusal) → read_back stretch_at Err (stretch_numbers p) ≡ p
 unfolding stretch_at
-stretch_back (Stretch first long) = refl
-stretch_back (Refused r) = refused_back stretch_at Refused r
+stretch_back (Ok stretch) = refl
+stretch_back (Err r) = refused_back stretch_at Err r
 
-pub stretch_one_to_one : (p q : Located) → stretch_numbers p ≡ stretch_numbers q → p ≡ q
-stretch_one_to_one = pinned stretch_at Refused stretch_numbers stretch_back
+pub stretch_one_to_one : (p q : Result Stretch Refusal) → stretch_numbers p ≡ stretch_numbers q → p ≡ q
+stretch_one_to_one = pinned stretch_at Err stretch_numbers stretch_back
 
 -- a stretch looks at no coordinate past its axis
 pub past_axis_lem : (lengths : List ℕ) (axis : ℕ) (coordinates others : List ℕ) (entries : ℕ) → asked axis coordinates ≡ asked axis others
@@ -59,7 +59,7 @@ past_axis_lem lengths axis coordinates others entries e = rw e
 
 -- the axis that refusal 12 names is the smallest one outside: its coordinate is not below its length, and each before it is
 pub outside_smallest : (lengths : List ℕ) (axis : ℕ) (coordinates : List ℕ) (entries a : ℕ) → length coordinates ≡ length lengths
-    → stretch_answer lengths axis coordinates entries ≡ Refused (CellOutside a) → FirstPast (asked axis lengths) (asked axis coordinates) a
+    → stretch_answer lengths axis coordinates entries ≡ Err (CellOutside a) → FirstPast (asked axis lengths) (asked axis coordinates) a
 outside_smallest lengths axis coordinates entries a same e =
     let long = asked axis lengths in
     let near = asked axis coordinates in
@@ -74,7 +74,7 @@ outside_smallest lengths axis coordinates entries a same e =
     rw (sym found) (first_past_lem long near equally (not-true _ twelve.0))
 
 module _ (lengths : List ℕ) (axis : ℕ) (coordinates : List ℕ) (entries : ℕ) (first : Cell) (long : ℕ)
-    (found : stretch_answer lengths axis coordinates entries ≡ Stretch first long) where
+    (found : stretch_answer lengths axis coordinates entries ≡ stretch_with first long) where
   -- the stretch lies within the cells, and these within the table
   pub stretch_within : (first.0 + long ≤ product lengths) × (product lengths ≤ entries)
   stretch_within = let w = answer_within lengths axis coordinates entries first long found in (w.ends, w.held)
@@ -96,18 +96,18 @@ module _ (lengths : List ℕ) (axis : ℕ) (coordinates : List ℕ) (entries : �
 -- an empty stretch means refused, and a refused one is empty
 pub empty_refused : (table lengths : List ℕ) (axis : ℕ) (coordinates : List ℕ)
     → (stretch_of (stretch_answer lengths axis coordinates (length table)) table ≡ [])
-    ↔ ((r : Refusal) × (stretch_answer lengths axis coordinates (length table) ≡ Refused r))
+    ↔ ((r : Refusal) × (stretch_answer lengths axis coordinates (length table) ≡ Err r))
 empty_refused table lengths axis coordinates =
     (split (stretch_answer lengths axis coordinates (length table)) refl, λ refused. rw refused.1)
   where
-    split : (a : Located) → stretch_answer lengths axis coordinates (length table) ≡ a → stretch_of a table ≡ [] → (r : Refusal) × (a ≡ Refused r)
-    split (Stretch first long) e q =
-        let w = answer_within lengths axis coordinates (length table) first long e in
-        absurd (omega (arith, ap length q, length-take long (drop first.0 table), length-drop first.0 table))
-    split (Refused r) e q = (r, refl)
+    split : (a : Result Stretch Refusal) → stretch_answer lengths axis coordinates (length table) ≡ a → stretch_of a table ≡ [] → (r : Refusal) × (a ≡ Err r)
+    split (Ok stretch) e q =
+        let w = answer_within lengths axis coordinates (length table) stretch.first stretch.length e in
+        absurd (omega (arith, ap length q, length-take stretch.length (drop stretch.first.0 table), length-drop stretch.first.0 table))
+    split (Err r) e q = (r, refl)
 
 -- in document 01's numbers: 3, 4, 12 with the smallest axis, 11 with the cells, or 0 with the first cell and the length
-pub locate_in_numbers : (lengths : List ℕ) (axis : ℕ) (coordinates : List ℕ) (entries : ℕ) (r : Located)
+pub locate_in_numbers : (lengths : List ℕ) (axis : ℕ) (coordinates : List ℕ) (entries : ℕ) (r : Result Stretch Refusal)
     → r ≡ stretch_answer lengths axis coordinates entries
     → stretch_numbers r
     ≡ cond (ltb last_axis axis) (answer 3 0 0 0)
@@ -124,9 +124,9 @@ locate_in_numbers lengths axis coordinates entries r e =
 
 -- and the stretch itself, by the numbers that the companion question gives: at 0 so many entries from the first cell on, four bytes a cell
 -- into the table, and else empty
-pub stretch_in_numbers : (table : List ℕ) (r : Located) (part : List ℕ) (start place : ℕ × ℕ) → part ≡ stretch_of r table → StretchBegins r start place
+pub stretch_in_numbers : (table : List ℕ) (r : Result Stretch Refusal) (part : List ℕ) (start place : ℕ × ℕ) → part ≡ stretch_of r table → StretchBegins r start place
     → let n = stretch_numbers r in
     (part ≡ cond (eqb n.number 0) (take n.b (drop n.a table)) [])
     × (place.0 ≡ start.0) × (place.1 ≡ start.1 + 4 * cond (eqb n.number 0) n.a 0)
-stretch_in_numbers table (Stretch first long) part start place e b = (e, b.0, b.1)
-stretch_in_numbers table (Refused refusal) part start place e b = rw (refusal_not_zero refusal) (e, b.0, b.1)
+stretch_in_numbers table (Ok stretch) part start place e b = (e, b.0, b.1)
+stretch_in_numbers table (Err refusal) part start place e b = rw (refusal_not_zero refusal) (e, b.0, b.1)

@@ -1,4 +1,5 @@
 -- What the definitions of the swizzle and of the modes mean, in plain for-alls, each from the laws with the widths as parameters.
+use Rattle.std.specs.Prelude.{Ok, Result, Err}
 use mathlib.Core.Path.{◌≡◌, refl, sym, ap, ap₂, ◌∙◌}
 use mathlib.Core.Bool.{Bool, true, false, cond}
 use mathlib.Core.Logic.{◌⊎◌, ⊎_elim}
@@ -10,6 +11,7 @@ use lib.Dec.{ltb}
 use lib.Pow.{pow-add, pow_mono, split, shr-shr, field, mod-mod-pow}
 use lib.Bits.{bit_xor, xor_shr, xor_mod}
 use lib.Count.{leading_length}
+use Rattle.answers.specs.declared.Refusal.{Refusal}
 use Rattle.answers.specs.Refusals.{answer}
 use Rattle.answers.specs.declared.Numbers.{Numbers}
 use Rattle.answers.specs.declared.Refusal.TheVariants.{Swizzle as NotPermitted}
@@ -17,11 +19,7 @@ use Rattle.answers.proofs.OneToOne.{read_back, refused_back, pinned, rung}
 use Rattle.laws.proofs.Rungs.{apart, ended_at}
 use Rattle.swizzle.specs.Swizzle.{permitted, picked, swizzled, swizzle_answer, swizzle_numbers}
 use Rattle.swizzle.specs.Mode.{known, bit_length, mode_answer, mode_numbers}
-use Rattle.swizzle.specs.declared.Swizzled.{Swizzled}
-use Rattle.swizzle.specs.declared.Swizzled.TheVariants.{Address, Refused}
 use Rattle.swizzle.specs.declared.Swizzle.{Swizzle}
-use Rattle.swizzle.specs.declared.Chosen.{Chosen}
-use Rattle.swizzle.specs.declared.Chosen.TheVariants.{Parameters, Refused as NotChosen}
 use Rattle.swizzle.proofs.Laws.{permitted_numbers, swizzled_low, swizzled_high, swizzled_block, swizzle_twice}
 use Rattle.swizzle.proofs.Widths.{known_parts, zeros_known}
 
@@ -127,7 +125,7 @@ known_permitted bits mode k =
     rw (le-leb (bit_length (128 / bits) - 1) 8 (omega arith), le-leb mode 4 (omega arith), le-leb mode 3 (omega arith))
 
 -- what comes out of bits and mode says that they are known, and is their M, B, S
-pub mode_told : (bits mode : ℕ) (w : Swizzle) → mode_answer bits mode ≡ Parameters w
+pub mode_told : (bits mode : ℕ) (w : Swizzle) → mode_answer bits mode ≡ Ok w
     → (known bits mode ≡ true) × (w ≡ record { m = bit_length (128 / bits) - 1; b = mode; s = 3 })
 mode_told bits mode w e =
     let named = ended_at (known bits mode) e (λ q. apart (cc)) in
@@ -135,44 +133,44 @@ mode_told bits mode w e =
     (named.0, cc)
 
 -- for every bits and mode the numbers that come out are permitted
-pub mode_permitted : (bits mode : ℕ) (w : Swizzle) → mode_answer bits mode ≡ Parameters w → permitted w.m w.b w.s ≡ true
+pub mode_permitted : (bits mode : ℕ) (w : Swizzle) → mode_answer bits mode ≡ Ok w → permitted w.m w.b w.s ≡ true
 mode_permitted bits mode w e =
     let told = mode_told bits mode w e in
     rw told.1 (known_permitted bits mode told.0)
 
 -- two outcomes that the promise of the swizzle of an address allows are equal
-pub swizzle_settled : (M B S m : ℕ) (p q : Swizzled) → p ≡ swizzle_answer M B S m → q ≡ swizzle_answer M B S m → p ≡ q
+pub swizzle_settled : (M B S m : ℕ) (p q : Result ℕ Refusal) → p ≡ swizzle_answer M B S m → q ≡ swizzle_answer M B S m → p ≡ q
 swizzle_settled M B S m p q e f = e ∙ sym f
 
 -- and so are two that the promise of bits and mode allows
-pub mode_settled : (bits mode : ℕ) (p q : Chosen) → p ≡ mode_answer bits mode → q ≡ mode_answer bits mode → p ≡ q
+pub mode_settled : (bits mode : ℕ) (p q : Result Swizzle Refusal) → p ≡ mode_answer bits mode → q ≡ mode_answer bits mode → p ≡ q
 mode_settled bits mode p q e f = e ∙ sym f
 
 -- pinning the numbers pins the answer
-swizzle_back : (p : Swizzled) → read_back (λ n. Address n.a) Refused (swizzle_numbers p) ≡ p
-swizzle_back (Address m) = refl
-swizzle_back (Refused r) = refused_back (λ n. Address n.a) Refused r
+swizzle_back : (p : Result ℕ Refusal) → read_back (λ n. Ok n.a) Err (swizzle_numbers p) ≡ p
+swizzle_back (Ok m) = refl
+swizzle_back (Err r) = refused_back (λ n. Ok n.a) Err r
 
-pub swizzle_one_to_one : (p q : Swizzled) → swizzle_numbers p ≡ swizzle_numbers q → p ≡ q
-swizzle_one_to_one = pinned (λ n. Address n.a) Refused swizzle_numbers swizzle_back
+pub swizzle_one_to_one : (p q : Result ℕ Refusal) → swizzle_numbers p ≡ swizzle_numbers q → p ≡ q
+swizzle_one_to_one = pinned (λ n. Ok n.a) Err swizzle_numbers swizzle_back
 
-chosen : Numbers → Chosen
-chosen n = Parameters (record { m = n.a; b = n.b; s = n.c })
+chosen : Numbers → Result Swizzle Refusal
+chosen n = Ok (record { m = n.a; b = n.b; s = n.c })
 
-mode_back : (p : Chosen) → read_back chosen NotChosen (mode_numbers p) ≡ p
+mode_back : (p : Result Swizzle Refusal) → read_back chosen Err (mode_numbers p) ≡ p
 unfolding chosen
-mode_back (Parameters w) = refl
-mode_back (NotChosen r) = refused_back chosen NotChosen r
+mode_back (Ok w) = refl
+mode_back (Err r) = refused_back chosen Err r
 
-pub mode_one_to_one : (p q : Chosen) → mode_numbers p ≡ mode_numbers q → p ≡ q
-mode_one_to_one = pinned chosen NotChosen mode_numbers mode_back
+pub mode_one_to_one : (p q : Result Swizzle Refusal) → mode_numbers p ≡ mode_numbers q → p ≡ q
+mode_one_to_one = pinned chosen Err mode_numbers mode_back
 
 -- in document 01's numbers: 0 and the new address, or 6
-pub swizzle_in_numbers : (M B S m : ℕ) (r : Swizzled) → r ≡ swizzle_answer M B S m
+pub swizzle_in_numbers : (M B S m : ℕ) (r : Result ℕ Refusal) → r ≡ swizzle_answer M B S m
     → swizzle_numbers r ≡ cond (permitted M B S) (answer 0 (swizzled M B S m) 0 0) (answer 6 0 0 0)
 swizzle_in_numbers M B S m r e = ap swizzle_numbers e ∙ rung swizzle_numbers (permitted M B S) refl refl
 
 -- 0 and M, B, S, or 6
-pub mode_in_numbers : (bits mode : ℕ) (r : Chosen) → r ≡ mode_answer bits mode
+pub mode_in_numbers : (bits mode : ℕ) (r : Result Swizzle Refusal) → r ≡ mode_answer bits mode
     → mode_numbers r ≡ cond (known bits mode) (answer 0 (bit_length (128 / bits) - 1) mode 3) (answer 6 0 0 0)
 mode_in_numbers bits mode r e = ap mode_numbers e ∙ rung mode_numbers (known bits mode) refl refl

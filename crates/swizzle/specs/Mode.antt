@@ -1,12 +1,11 @@
 -- M, B, S from element bits and mode: document 01, after rule 5.
-use Rattle.std.specs.Prelude.{ℕ, ◌-◌, ◌/◌, Bool, cond, ◌&&◌, ◌||◌, leb, eqb}
+use Rattle.std.specs.Prelude.{ℕ, ◌-◌, ◌/◌, Bool, cond, ◌&&◌, ◌||◌, leb, eqb, Result, Ok, Err}
 use Rattle.std.specs.Int.Count.{count_leading_zeros}
-use Rattle.answers.specs.Refusals.{answer, refusal_numbers}
+use Rattle.answers.specs.declared.Refusal.{Refusal}
+use Rattle.answers.specs.Refusals.{answer, refusal_numbers, numbers_of}
 use Rattle.answers.specs.declared.Numbers.{Numbers}
 use Rattle.answers.specs.declared.Refusal.TheVariants.{Swizzle as NotPermitted}
 use Rattle.swizzle.specs.declared.Swizzle.{Swizzle}
-use Rattle.swizzle.specs.declared.Chosen.{Chosen}
-use Rattle.swizzle.specs.declared.Chosen.TheVariants.{Parameters, Refused as NotChosen}
 
 -- element bits 4, 8, 16, 32, 64 or 128
 abbrev pub known_bits : ℕ → Bool
@@ -25,10 +24,12 @@ abbrev pub swizzle_of_mode : ℕ → ℕ → Swizzle
 swizzle_of_mode bits mode = record { m = bit_length (128 / bits) - 1; b = mode; s = 3 }
 
 -- any other bits or mode is refusal 6
-abbrev pub mode_answer : ℕ → ℕ → Chosen
-mode_answer bits mode = cond (known bits mode) (Parameters (swizzle_of_mode bits mode)) (NotChosen NotPermitted)
+abbrev pub mode_answer : ℕ → ℕ → Result Swizzle Refusal
+mode_answer bits mode = cond (known bits mode) (Ok (swizzle_of_mode bits mode)) (Err NotPermitted)
 
 -- at number 0 M, B, S
-abbrev pub mode_numbers : Chosen → Numbers
-mode_numbers (Parameters swizzle) = answer 0 swizzle.m swizzle.b swizzle.s
-mode_numbers (NotChosen refusal) = refusal_numbers refusal
+abbrev pub parameter_numbers : Swizzle → Numbers
+parameter_numbers swizzle = answer 0 swizzle.m swizzle.b swizzle.s
+
+abbrev pub mode_numbers : Result Swizzle Refusal → Numbers
+mode_numbers = numbers_of parameter_numbers

@@ -1,11 +1,10 @@
 -- The swizzle of an address: document 01, rule 4, and the swizzle numbers that are permitted.
-use Rattle.std.specs.Prelude.{ℕ, ◌+◌, ◌*◌, ◌/◌, ◌%◌, ◌^◌, Bool, cond, ◌&&◌, leb}
+use Rattle.std.specs.Prelude.{ℕ, ◌+◌, ◌*◌, ◌/◌, ◌%◌, ◌^◌, Bool, cond, ◌&&◌, leb, Result, Ok, Err}
 use Rattle.std.specs.Int.Bits.{bit_xor}
-use Rattle.answers.specs.Refusals.{answer, refusal_numbers}
+use Rattle.answers.specs.declared.Refusal.{Refusal}
+use Rattle.answers.specs.Refusals.{answer, refusal_numbers, numbers_of, one_detail}
 use Rattle.answers.specs.declared.Numbers.{Numbers}
 use Rattle.answers.specs.declared.Refusal.TheVariants.{Swizzle}
-use Rattle.swizzle.specs.declared.Swizzled.{Swizzled}
-use Rattle.swizzle.specs.declared.Swizzled.TheVariants.{Address, Refused}
 
 -- M at most 8, B at most 4, S at most 8, and S not below B
 abbrev pub permitted : ℕ → ℕ → ℕ → Bool
@@ -20,10 +19,9 @@ unfoldable pub swizzled : ℕ → ℕ → ℕ → ℕ → ℕ
 swizzled M B S m = bit_xor (m / 2 ^ M) (picked B S (m / 2 ^ M)) * 2 ^ M + m % 2 ^ M
 
 -- the answer to any numbers: refusal 6 exactly when the swizzle is not permitted
-abbrev pub swizzle_answer : ℕ → ℕ → ℕ → ℕ → Swizzled
-swizzle_answer M B S m = cond (permitted M B S) (Address (swizzled M B S m)) (Refused Swizzle)
+abbrev pub swizzle_answer : ℕ → ℕ → ℕ → ℕ → Result ℕ Refusal
+swizzle_answer M B S m = cond (permitted M B S) (Ok (swizzled M B S m)) (Err Swizzle)
 
 -- at number 0 the new address
-abbrev pub swizzle_numbers : Swizzled → Numbers
-swizzle_numbers (Address m) = answer 0 m 0 0
-swizzle_numbers (Refused refusal) = refusal_numbers refusal
+abbrev pub swizzle_numbers : Result ℕ Refusal → Numbers
+swizzle_numbers = numbers_of one_detail

@@ -2,10 +2,10 @@
 #![tactic(auto)]
 
 ghost use Rattle.std.specs.Prelude.{◌≡◌, true, ◌-◌, ◌/◌};
-ghost use Rattle.swizzle.specs.Swizzle.{permitted, swizzled, swizzle_answer, swizzle_numbers};
-ghost use Rattle.swizzle.specs.Mode.{known_bits, known, bit_length, mode_answer, mode_numbers};
+ghost use Rattle.swizzle.specs.Swizzle.{permitted, swizzled, swizzle_answer};
+ghost use Rattle.swizzle.specs.Mode.{known_bits, known, bit_length, mode_answer};
 
-use answers::{Numbers, Refusal};
+use answers::{Details, Numbers, Refusal};
 
 // The largest M, B and S that are permitted.
 const MOST_M: u64 = 8;
@@ -29,18 +29,17 @@ pub struct Swizzle {
     pub s: u64,
 }
 
-// The answer to the swizzle of an address.
-#[derive(Clone, Copy)]
-pub enum Swizzled {
-    Address(u64),
-    Refused(Refusal),
-}
+impl Details for Swizzle {
+    ghost use Rattle.std.specs.Prelude.{refl};
+    ghost use Rattle.swizzle.specs.Mode.{parameter_numbers};
 
-// The answer to bits and mode.
-#[derive(Clone, Copy)]
-pub enum Chosen {
-    Parameters(Swizzle),
-    Refused(Refusal),
+    ghost as_numbers = { parameter_numbers };
+
+    ghost reads_back = { (λ n. record { m = n.a; b = n.b; s = n.c }, λ x. (refl, refl)) };
+
+    fn details(self) -> Numbers {
+        answers::answer(0, self.m, self.b, self.s)
+    }
 }
 
 // Whether a swizzle is permitted. Public for the crates above, which judge a card by it.
@@ -61,14 +60,13 @@ pub fn swizzle_permitted(m: u64, b: u64, s: u64, address: u64) -> u64
 }
 
 // The swizzle of any address by any M, B, S.
-pub fn swizzle_address(m: u64, b: u64, s: u64, address: u64) -> Swizzled
+pub fn swizzle_address(m: u64, b: u64, s: u64, address: u64) -> Result<u64, Refusal>
     ensures { result ≡ swizzle_answer m b s address }
 {
-    if is_permitted(m, b, s) {
-        Swizzled::Address(swizzle_permitted(m, b, s, address))
-    } else {
-        Swizzled::Refused(Refusal::Swizzle)
+    if !is_permitted(m, b, s) {
+        return Err(Refusal::Swizzle);
     }
+    Ok(swizzle_permitted(m, b, s, address))
 }
 
 // Whether these are bits of an element. Public for the crates above, which have elements of the same widths.
@@ -94,36 +92,16 @@ fn kept_bits(bits: u64) -> u64
 }
 
 // M, B, S from any element bits and any mode.
-pub fn swizzle_of_mode(bits: u64, mode: u64) -> Chosen
+pub fn swizzle_of_mode(bits: u64, mode: u64) -> Result<Swizzle, Refusal>
     ensures { result ≡ mode_answer bits mode }
 {
     if is_known(bits, mode) {
-        Chosen::Parameters(Swizzle {
+        Ok(Swizzle {
             m: kept_bits(bits),
             b: mode,
             s: MODE_S,
         })
     } else {
-        Chosen::Refused(Refusal::Swizzle)
-    }
-}
-
-// The plain numbers of a swizzle's answer.
-pub fn swizzle_numbers(swizzled: Swizzled) -> Numbers
-    ensures { result ≡ swizzle_numbers swizzled }
-{
-    match swizzled {
-        Swizzled::Address(address) => answers::answer(0, address, 0, 0),
-        Swizzled::Refused(refusal) => answers::refusal_numbers(refusal),
-    }
-}
-
-// The plain numbers of a mode's answer.
-pub fn mode_numbers(chosen: Chosen) -> Numbers
-    ensures { result ≡ mode_numbers chosen }
-{
-    match chosen {
-        Chosen::Parameters(swizzle) => answers::answer(0, swizzle.m, swizzle.b, swizzle.s),
-        Chosen::Refused(refusal) => answers::refusal_numbers(refusal),
+        Err(Refusal::Swizzle)
     }
 }

@@ -1,4 +1,5 @@
 -- One table of bytes serves every width of mode 128B: counted in bits all widths have one swizzle, and bytes are whole units of it.
+use Rattle.std.specs.Prelude.{Ok}
 use mathlib.Core.Path.{◌≡◌, refl, sym, ap₂, ◌∙◌}
 use mathlib.Core.Bool.{true}
 use Prim.Native.Nat.{ℕ, ◌+◌, ◌-◌, ◌*◌, ◌/◌, ◌%◌, ◌≤◌}
@@ -8,7 +9,6 @@ use lib.Count.{count_leading_zeros}
 use Rattle.swizzle.specs.Swizzle.{swizzled}
 use Rattle.swizzle.specs.Mode.{known_bits, bit_length, mode_answer}
 use Rattle.swizzle.specs.declared.Swizzle.{Swizzle}
-use Rattle.swizzle.specs.declared.Chosen.TheVariants.{Parameters}
 use Rattle.swizzle.proofs.Widths.{at_known_bits, known_parts, bits_positive, together}
 use Rattle.swizzle.proofs.Theorems.{mode_told}
 use Rattle.swizzle_table.proofs.Laws.{whole_units, pattern_repeats}
@@ -32,7 +32,7 @@ pub half_bytes : (m : ℕ) → (byte_of 4 m ≡ m / 2) × (bit_of 4 m ≡ 4 * (m
 half_bytes m = (omega arith, omega arith)
 
 -- the table's numbers, 4, 3 and 3, are those of 8-bit elements in mode 128B
-pub mode_of_bytes : mode_answer 8 3 ≡ Parameters (record { m = 4; b = 3; s = 3 })
+pub mode_of_bytes : mode_answer 8 3 ≡ Ok (record { m = 4; b = 3; s = 3 })
 unfolding bit_length count_leading_zeros
 mode_of_bytes = refl
 
@@ -64,14 +64,14 @@ of_known bits m entry k e =
 
 -- Request 10 of document 02, for every width and every element address; `entry` is what `table::entry` promises for the byte's place in
 -- its block
-pub by_table : (bits m entry : ℕ) (w : Swizzle) → mode_answer bits 3 ≡ Parameters w → entry ≡ swizzled 4 3 3 (byte_of bits m % 1024)
+pub by_table : (bits m entry : ℕ) (w : Swizzle) → mode_answer bits 3 ≡ Ok w → entry ≡ swizzled 4 3 3 (byte_of bits m % 1024)
     → ByTable bits m entry w
 by_table bits m entry w chosen e =
     let told = mode_told bits 3 w chosen in
     rw told.1 (of_known bits m entry (known_parts bits 3 told.0).0 e)
 
 -- and `place_of_byte` has both in one: the byte of the swizzled element is the place of the element's byte
-pub place_of_element : (bits m r : ℕ) (w : Swizzle) → mode_answer bits 3 ≡ Parameters w → r ≡ swizzled 4 3 3 (byte_of bits m)
+pub place_of_element : (bits m r : ℕ) (w : Swizzle) → mode_answer bits 3 ≡ Ok w → r ≡ swizzled 4 3 3 (byte_of bits m)
     → byte_of bits (swizzled w.m w.b w.s m) ≡ r
 place_of_element bits m r w chosen e =
     (by_table bits m (swizzled 4 3 3 (byte_of bits m % 1024)) w chosen refl).byte ∙ sym (e ∙ pattern_repeats (byte_of bits m))

@@ -12,6 +12,7 @@ pub struct Input {
     pub next: usize,
     pub end: usize,
     pub held: usize,
+    // what is told of the line, and no flag of the places before it
     pub whole: bool,
     pub ended: bool,
 }
@@ -50,13 +51,11 @@ fn begun(input: Input) -> usize {
 fn scan(part: &[u8; 65536], line: &mut [u8; 4096], input: Input) -> Input {
     let end = input.end;
     let mut held = begun(input);
-    let mut next = input.next;
-    while next < end {
+    for next in input.next..end {
         let b = part[next % 65536];
-        next += 1;
         if b == b'\n' {
             return Input {
-                next,
+                next: next + 1,
                 end,
                 held,
                 whole: true,
@@ -66,7 +65,7 @@ fn scan(part: &[u8; 65536], line: &mut [u8; 4096], input: Input) -> Input {
         held = keep(line, held, b);
     }
     Input {
-        next,
+        next: end,
         end,
         held,
         whole: false,

@@ -6,8 +6,8 @@ ghost use Rattle.typed_judged.specs.Judge.{card_for, TypedOutcome, JudgePromise}
 
 use answers::Refusal;
 use card::Card;
-use judgement::Verdict;
-use notation::{Layout, Read, Reading};
+use judgement::Approved;
+use notation::{Layout, Reading};
 use swizzle::Swizzle;
 use typed_lengths::LineOfLengths;
 
@@ -30,25 +30,20 @@ fn card_for(lengths: [u64; 8], layout: Layout) -> Card
 }
 
 // The verdict on what the two lines are read as: the first is judged first.
-fn judge_read(line: LineOfLengths, reading: Reading, table: &mut [u32]) -> Verdict
+fn judge_read(line: LineOfLengths, reading: Reading, table: &mut [u32]) -> Result<Approved, Refusal>
     ensures { TypedOutcome line reading table.old table.new result }
 {
     if !line.correct {
-        return Verdict::Refused(Refusal::Space);
+        return Err(Refusal::Space);
     }
-    let answer = reading.answer;
-    match answer {
-        Read::Done => {
-            let lengths = line.lengths;
-            let layout = reading.layout;
-            verdict::judge(card_for(lengths, layout), table)
-        }
-        Read::Refused(refusal) => Verdict::Refused(refusal),
-    }
+    reading.answer?;
+    let lengths = line.lengths;
+    let layout = reading.layout;
+    verdict::judge(card_for(lengths, layout), table)
 }
 
 // The verdict on two lines.
-pub fn judge_lines(first: &[u8], second: &[u8], table: &mut [u32]) -> Verdict
+pub fn judge_lines(first: &[u8], second: &[u8], table: &mut [u32]) -> Result<Approved, Refusal>
     ensures { JudgePromise first.now second.now table.old table.new result }
 {
     let line = typed_lengths::read(first);

@@ -1,8 +1,11 @@
 -- Two typed lines in document 01's numbers: 4, then 18, then the verdict's, as the promise has them.
+use Rattle.std.specs.Prelude.{Result}
 use Prim.Native.Nat.{ℕ}
 use mathlib.Core.Path.{◌≡◌, ap}
 use mathlib.Core.List.{List}
 use lib.ListN.{length, take}
+use Rattle.answers.specs.declared.Refusal.{Refusal}
+use Rattle.judgement.specs.declared.Approved.{Approved}
 use Rattle.answers.specs.Refusals.{answer}
 use Rattle.answers.specs.declared.Numbers.{Numbers}
 use Rattle.card.specs.Card.{elements, cells}
@@ -13,7 +16,6 @@ use Rattle.notation.specs.Beginning.{Refused}
 use Rattle.notation.specs.Meaning.{layout_of}
 use Rattle.typed_lengths.specs.Line.{LineSays}
 use Rattle.judgement.specs.Verdict.{verdict_numbers}
-use Rattle.judgement.specs.declared.Verdict.{Verdict}
 use Rattle.judgement.proofs.InNumbers.{InNumbers, verdict_in_numbers}
 use Rattle.judgement.proofs.Plain.{verdict_exactly}
 use Rattle.typed_judged.specs.Judge.{card_for, JudgePromise}
@@ -29,7 +31,7 @@ pub record JudgeInNumbers (first second before after : List ℕ) (n : Numbers) :
       → let card : Card = card_for l (layout_of c.says) in
       InNumbers card (length before) n (answer 0 (elements card) (occupied (take (cells card) after)) (cells card))
 
-pub judge_in_numbers : (first second before after : List ℕ) (v : Verdict) → JudgePromise first second before after v
+pub judge_in_numbers : (first second before after : List ℕ) (v : Result Approved Refusal) → JudgePromise first second before after v
     → JudgeInNumbers first second before after (verdict_numbers v)
 judge_in_numbers first second before after v p = record {
   no_lengths = λ none. let o = p.no_lengths none in (ap verdict_numbers o.0, o.1);

@@ -1,4 +1,5 @@
 -- A line longer than what is kept of it is answered as its beginning is: no line of eight lengths has more than 47 bytes, no correct text more than 352.
+use Rattle.std.specs.Prelude.{Result, ⊤, Ok, Err}
 use Prim.Native.Nat.{ℕ, ◌*◌, ◌≤◌, ◌<◌}
 use mathlib.Core.Path.{◌≡◌, subst, subst⁻¹}
 use mathlib.Core.Bool.{Bool, true, false}
@@ -7,17 +8,16 @@ use mathlib.Core.Logic.{⊎_elim}
 use native.Mathlib.Omega.{arith}
 use lib.ListN.{length, length-append, take}
 use lib.Seq.{take-take, take_all, length-take-le}
+use Rattle.judgement.specs.declared.Approved.{Approved}
+use Rattle.answers.specs.declared.Refusal.{Refusal}
 use Rattle.notation.specs.Text.{decimal, Correct}
 use Rattle.notation.specs.Beginning.{Begins, Refused}
 use Rattle.notation.specs.Promise.{Comes, Answered}
 use Rattle.notation.proofs.Long.{decimal_length, correct_length, begins_length}
 use Rattle.laws.proofs.Order.{le_or_lt}
-use Rattle.notation.specs.declared.Read.{Read}
-use Rattle.notation.specs.declared.Read.TheVariants.{Done, Refused as NotRead}
 use Rattle.notation.specs.declared.Reading.{Reading}
 use Rattle.typed_lengths.specs.Line.{LineSays, LengthsCome as LineComes, LengthsAnswered as LineAnswered}
 use Rattle.typed_lengths.specs.declared.LineOfLengths.{LineOfLengths}
-use Rattle.judgement.specs.declared.Verdict.{Verdict}
 use Rattle.typed_lengths.proofs.Run.{further, spaced}
 use Rattle.typed_judged.specs.Judge.{JudgePromise, JudgeRead}
 use Rattle.typed_judged.proofs.Theorems.{judge_exactly}
@@ -67,12 +67,12 @@ module _ (t : List ℕ) (k : ℕ) (some : 352 < k) (kept : k ≤ length t) where
   pub long_text : (r : Reading) → Answered (take k t) r → Answered t r
   long_text r = by r.answer
     where
-      by : (x : Read) → Comes x (take k t) r.layout → Comes x t r.layout
-      by Done c = absurd (omega (arith, correct_length (take k t) c.correct, cut))
-      by (NotRead refusal) c = record { a = c.a; eighteen = c.eighteen; longest = long_refused c.a c.longest; zeros = c.zeros }
+      by : (x : Result ⊤ Refusal) → Comes x (take k t) r.layout → Comes x t r.layout
+      by (Ok _) c = absurd (omega (arith, correct_length (take k t) c.correct, cut))
+      by (Err refusal) c = record { a = c.a; eighteen = c.eighteen; longest = long_refused c.a c.longest; zeros = c.zeros }
 
 -- two lines of which so many bytes are kept
-read_kept : (first second before after : List ℕ) (verdict : Verdict) (k : ℕ) → 352 < k → JudgeRead (take k first) (take k second) before after verdict
+read_kept : (first second before after : List ℕ) (verdict : Result Approved Refusal) (k : ℕ) → 352 < k → JudgeRead (take k first) (take k second) before after verdict
     → JudgeRead first second before after verdict
 read_kept first second before after verdict k some p =
     record {
@@ -87,7 +87,7 @@ read_kept first second before after verdict k some p =
       outcome = p.outcome;
     }
 
-pub judge_kept : (first second before after : List ℕ) (verdict : Verdict) (k : ℕ) → 352 < k → JudgePromise (take k first) (take k second) before after verdict
+pub judge_kept : (first second before after : List ℕ) (verdict : Result Approved Refusal) (k : ℕ) → 352 < k → JudgePromise (take k first) (take k second) before after verdict
     → JudgePromise first second before after verdict
 judge_kept first second before after verdict k some p =
     (judge_exactly first second before after verdict).1

@@ -3,7 +3,7 @@
 
 ghost use Rattle.std.specs.Prelude.{◌≡◌};
 ghost use Rattle.typed_lengths.specs.Line.{LengthsAnswered};
-ghost use Rattle.typed_lengths.specs.Machine.{line_at, halted, before_move, inside_move, line_phase_move, is_inside, line_start, line_concluded};
+ghost use Rattle.typed_lengths.specs.Machine.{line_at, zeros, before_move, inside_move, line_phase_move, is_inside, line_concluded};
 
 // What reading a line gives: whether it is one, and its lengths.
 #[derive(Clone, Copy)]
@@ -40,16 +40,11 @@ fn to(phase: LinePhase, value: u64, count: usize, lengths: [u64; 8]) -> LineRead
     }
 }
 
-fn halt() -> LineReader
-    ensures { result ≡ halted }
+// Nothing is kept: before the first number, or past what no such line has.
+fn empty(phase: LinePhase) -> LineReader
+    ensures { result ≡ line_at phase 0 0 zeros }
 {
-    to(LinePhase::Stuck, 0, 0, [0; 8])
-}
-
-fn begin() -> LineReader
-    ensures { result ≡ line_start }
-{
-    to(LinePhase::Before, 0, 0, [0; 8])
+    to(phase, 0, 0, [0; 8])
 }
 
 // A number begins with a digit.
@@ -61,7 +56,7 @@ fn before(r: LineReader, b: u8) -> LineReader
         let lengths = r.lengths;
         return to(LinePhase::Inside, d, r.count, lengths);
     }
-    halt()
+    empty(LinePhase::Stuck)
 }
 
 // A number goes on with a digit, and a space ends one of the first seven.
@@ -83,17 +78,18 @@ fn inside(r: LineReader, b: u8) -> LineReader
         lengths[count] = r.value;
         return to(LinePhase::Before, 0, count + 1, lengths);
     }
-    halt()
+    empty(LinePhase::Stuck)
 }
 
 fn advance(r: LineReader, b: u8) -> LineReader
     ensures { result ≡ line_phase_move r.phase r b }
 {
     let phase = r.phase;
+    // A match, and no function kept as the phase: the definition goes by the same phases.
     match phase {
         LinePhase::Before => before(r, b),
         LinePhase::Inside => inside(r, b),
-        LinePhase::Stuck => halt(),
+        LinePhase::Stuck => empty(LinePhase::Stuck),
     }
 }
 
@@ -130,11 +126,9 @@ fn conclude(r: LineReader) -> LineOfLengths
 pub fn read(line: &[u8]) -> LineOfLengths
     ensures { LengthsAnswered line.now result }
 {
-    let mut r = begin();
-    let mut i: usize = 0;
-    while i < line.len() {
-        r = advance(r, line[i]);
-        i += 1;
+    let mut r = empty(LinePhase::Before);
+    for b in line {
+        r = advance(r, *b);
     }
     conclude(r)
 }

@@ -1,4 +1,5 @@
 -- The canonical layouts for C: two outcomes are equal, and the card that is handed out reads back as the card that is judged.
+use Rattle.std.specs.Prelude.{Result, ⊤, Ok, Err}
 use mathlib.Core.Path.{◌≡◌, refl, sym, ap, subst, ◌∙◌}
 use mathlib.Core.Bool.{Bool, true, false, cond, not, ◌||◌}
 use mathlib.Core.List.{List, [], ◌∷◌}
@@ -7,12 +8,12 @@ use native.Mathlib.Omega.{arith}
 use borrow.Author.Tests.{lt-ltb}
 use lib.IntN.{ℤ, pos}
 use lib.ListN.{replicate}
+use Rattle.answers.specs.Refusals.{no_refusal}
+use Rattle.answers.specs.declared.Refusal.{Refusal}
 use Rattle.swizzle.specs.Mode.{swizzle_of_mode}
 use Rattle.card.specs.Card.{none}
 use Rattle.card.specs.declared.Iter.{Iter}
 use Rattle.card.specs.declared.Card.{Card}
-use Rattle.card.specs.declared.Admission.{Admission}
-use Rattle.card.specs.declared.Admission.TheVariants.{Admitted, Refused}
 use Rattle.judgement.specs.Plain.{VerdictSays}
 use Rattle.canonical.specs.Rule.{is_k, plain, pieces, uses_lbo, across_rows, across_columns}
 use Rattle.canonical.specs.Canonical.{checked, in_elements, canonical_card, built_by, built, PromiseBy, reported_numbers}
@@ -127,16 +128,16 @@ module _ (q : Canonical) (so : PassedChecks q) where
 pub card_back : (q : Canonical) → card_from (card_numbers (built q).card) 0 ≡ (built q).card
 card_back q = by (checked q) refl
   where
-    by : (c : Admission) → checked q ≡ c → card_from (card_numbers (built_by c q).card) 0 ≡ (built_by c q).card
-    by Admitted e = let p = checks_passed q e in judged_back q (sound q p.0 p.1)
-    by (Refused refusal) e = refl
+    by : (c : Result ⊤ Refusal) → checked q ≡ c → card_from (card_numbers (built_by c q).card) 0 ≡ (built_by c q).card
+    by (Ok _) e = let p = checks_passed q e in judged_back q (sound q p.0 p.1)
+    by (Err refusal) e = refl
 
 -- so the verdict on these numbers is the same question, where the checks are passed
-pub canonical_by_card : (q : Canonical) (before after encodings answer : List ℕ) → checked q ≡ Admitted → AsCanonical q before after encodings answer
+pub canonical_by_card : (q : Canonical) (before after encodings answer : List ℕ) → checked q ≡ no_refusal → AsCanonical q before after encodings answer
     → AsVerdict (card_numbers (built q).card) 0 before after answer
 canonical_by_card q before after encodings answer e h =
-    let p = subst (λ (c : Admission). PromiseBy c q before after h.reported) e h.allowed in
-    let card : canonical_card q ≡ card_from (card_numbers (built q).card) 0 = sym (ap (λ (c : Admission). (built_by c q).card) e) ∙ sym (card_back q) in
+    let p = subst (λ (c : Result ⊤ Refusal). PromiseBy c q before after h.reported) e h.allowed in
+    let card : canonical_card q ≡ card_from (card_numbers (built q).card) 0 = sym (ap (λ (c : Result ⊤ Refusal). (built_by c q).card) e) ∙ sym (card_back q) in
     record {
       verdict = h.reported.verdict;
       allowed = subst (λ (c : Card). VerdictSays c before after h.reported.verdict) card p.0;

@@ -1,13 +1,12 @@
 -- What dealing and collecting leave in arrays of registers: as given where refused, and where done what the stored registers leave, which
 -- were dealt or collected into empty ones.
+use Rattle.std.specs.Prelude.{Err, Result, ⊤}
 use Prim.Native.Nat.{ℕ, ◌*◌}
 use mathlib.Core.Path.{◌≡◌, sym, ap, ◌∙◌}
 use mathlib.Core.List.{List}
 use lib.ListN.{length}
 use Rattle.answers.specs.declared.Refusal.{Refusal}
 use Rattle.c_bits.specs.declared.Bits.{Bits}
-use Rattle.values.specs.declared.Moved.{Moved}
-use Rattle.values.specs.declared.Moved.TheVariants.{Refused}
 use Rattle.values.specs.Registers.{filled}
 use Rattle.c_bits.specs.Bits.{rows_from, sort_after, single_after, double_after, entries_after}
 use Rattle.c_bits.proofs.Given.{left_as_given}
@@ -15,7 +14,7 @@ use Rattle.c_bits.proofs.Empties.{WrittenAlike}
 use Rattle.urszovely.specs.Answers.{RegistersWritten}
 
 module _ (rows : ℕ) (sorts singles doubles : List ℕ) where
-  pub untouched : (m : Moved) (new : List (List Bits)) (refusal : Refusal) → m ≡ Refused refusal
+  pub untouched : (m : Result ⊤ Refusal) (new : List (List Bits)) (refusal : Refusal) → m ≡ Err refusal
       → RegistersWritten (filled m new (rows_from rows sorts singles doubles)) sorts singles doubles sorts singles doubles
   untouched m new refusal e =
       let same = left_as_given rows sorts singles doubles in

@@ -1,23 +1,21 @@
 -- What the exported questions promise where the library's promise is a record: some answer that the library allows, in its numbers; and
 -- what is left in arrays of registers.
-use Rattle.std.specs.Prelude.{ℕ, ◌≡◌, List, [], ◌∷◌}
+use Rattle.std.specs.Prelude.{ℕ, ◌≡◌, List, [], ◌∷◌, Result, ⊤}
+use Rattle.judgement.specs.declared.Approved.{Approved}
+use Rattle.mma_kinds.specs.declared.MmaSlot.{MmaSlot}
+use Rattle.answers.specs.declared.Refusal.{Refusal}
+use Rattle.fragment.specs.declared.Slot.{Slot}
 use Rattle.fragment.specs.Fragment.{HolderAnswer, holder_numbers}
 use Rattle.fragment.specs.declared.Place.{Place}
-use Rattle.fragment.specs.declared.Holder.{Holder}
 use Rattle.card.specs.Admission.{admission_numbers}
-use Rattle.card.specs.declared.Admission.{Admission}
 use Rattle.idle.specs.Admission.{AdmissionSays}
 use Rattle.placement_judged.specs.Placement.{PlacementSays, placement_numbers}
 use Rattle.mma_kinds.specs.Mma.{MmaHolderAnswer, mma_holder_numbers}
 use Rattle.mma_kinds.specs.declared.MmaPlace.{MmaPlace}
-use Rattle.mma_kinds.specs.declared.MmaHolder.{MmaHolder}
-use Rattle.placement_judged.specs.declared.Placement.{Placement}
 use Rattle.notation.specs.Promise.{ReadSays, read_numbers}
 use Rattle.notation.specs.declared.Reading.{Reading}
 use Rattle.judgement.specs.Plain.{VerdictSays, OwnerSays}
 use Rattle.judgement.specs.Verdict.{verdict_numbers, owner_numbers}
-use Rattle.judgement.specs.declared.Verdict.{Verdict}
-use Rattle.judgement.specs.declared.Owner.{Owner}
 use Rattle.c_bits.specs.declared.Bits.{Bits}
 use Rattle.c_bits.specs.Bits.{sort_after, single_after, double_after, entries_after}
 use Rattle.c_card.specs.Card.{card_from, four}
@@ -25,12 +23,12 @@ use Rattle.c_tuple.specs.Tuple.{tuple_from}
 use Rattle.c_layout.specs.Layout.{card_with, mark_bits}
 
 pub record AsHolder (kind : ℕ) (place : Place) (answer : List ℕ) : Type 0 where
-  pub holder : Holder
+  pub holder : Result Slot Refusal
   pub allowed : HolderAnswer kind place holder
   pub numbers : answer ≡ four (holder_numbers holder)
 
 pub record AsMmaHolder (kind : ℕ) (place : MmaPlace) (answer : List ℕ) : Type 0 where
-  pub holder : MmaHolder
+  pub holder : Result MmaSlot Refusal
   pub allowed : MmaHolderAnswer kind place holder
   pub numbers : answer ≡ four (mma_holder_numbers holder)
 
@@ -43,22 +41,22 @@ pub record AsReading (text before card marks answer : List ℕ) : Type 0 where
   pub numbers : answer ≡ four (read_numbers reading.answer)
 
 pub record AsAdmission (card : List ℕ) (marks : ℕ) (answer : List ℕ) : Type 0 where
-  pub admission : Admission
+  pub admission : Result ⊤ Refusal
   pub allowed : AdmissionSays (card_from card marks) admission
   pub numbers : answer ≡ four (admission_numbers admission)
 
 pub record AsPlacement (card : List ℕ) (marks : ℕ) (shape coordinates before after answer : List ℕ) : Type 0 where
-  pub placement : Placement
+  pub placement : Result ℕ Refusal
   pub allowed : PlacementSays (card_from card marks) (tuple_from shape) (tuple_from coordinates) before after placement
   pub numbers : answer ≡ four (placement_numbers placement)
 
 pub record AsVerdict (card : List ℕ) (marks : ℕ) (before after answer : List ℕ) : Type 0 where
-  pub verdict : Verdict
+  pub verdict : Result Approved Refusal
   pub allowed : VerdictSays (card_from card marks) before after verdict
   pub numbers : answer ≡ four (verdict_numbers verdict)
 
 pub record AsOwner (card : List ℕ) (marks : ℕ) (coordinates before after answer : List ℕ) : Type 0 where
-  pub owner : Owner
+  pub owner : Result ℕ Refusal
   pub allowed : OwnerSays (card_from card marks) coordinates before after owner
   pub numbers : answer ≡ four (owner_numbers owner)
 

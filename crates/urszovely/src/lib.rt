@@ -1,5 +1,5 @@
 // Every question for C: numbers in arrays, an answer as four numbers, lent memory as a pointer and a length. include/urszovely.h
-// declares them.
+// declares them. Kinds, sorts and modes are numbers here, since C has them so.
 #![tactic(auto)]
 
 ghost use Rattle.std.specs.Prelude.{◌≡◌, length};
@@ -25,11 +25,10 @@ ghost use Rattle.urszovely.specs.Canonical.{card_numbers, AsCanonical};
 ghost use Rattle.urszovely.specs.Book.{note_place, AsBlock, AsPage};
 ghost use Rattle.urszovely.specs.Plans.{AsCheck, AsPlan};
 
-use book::Answer;
+use answers::Refusal;
 use canonical::Canonical;
 use card::Card;
 use notation::Layout;
-use values::Moved;
 
 // The swizzle of an address.
 #[unsafe(no_mangle)]
@@ -37,7 +36,7 @@ pub extern "C" fn urszovely_swizzle(m: u64, b: u64, s: u64, address: u64, answer
     ensures { answer.new ≡ four (swizzle_numbers (swizzle_answer m b s address)) }
 {
     let swizzled = swizzle::swizzle_address(m, b, s, address);
-    let numbers = swizzle::swizzle_numbers(swizzled);
+    let numbers = answers::in_numbers(swizzled);
     *answer = c_card::four(numbers);
 }
 
@@ -47,7 +46,7 @@ pub extern "C" fn urszovely_mode(bits: u64, mode: u64, answer: &mut [u64; 4])
     ensures { answer.new ≡ four (mode_numbers (mode_answer bits mode)) }
 {
     let chosen = swizzle::swizzle_of_mode(bits, mode);
-    let numbers = swizzle::mode_numbers(chosen);
+    let numbers = answers::in_numbers(chosen);
     *answer = c_card::four(numbers);
 }
 
@@ -57,7 +56,7 @@ pub extern "C" fn urszovely_bank(bits: u64, address: u64, answer: &mut [u64; 4])
     ensures { answer.new ≡ four (bank_numbers (bank_answer bits address)) }
 {
     let banked = banks::bank_of(bits, address);
-    let numbers = banks::bank_numbers(banked);
+    let numbers = answers::in_numbers(banked);
     *answer = c_card::four(numbers);
 }
 
@@ -67,7 +66,7 @@ pub extern "C" fn urszovely_fragment(kind: u64, lane: u64, register: u64, answer
     ensures { answer.new ≡ four (held_numbers (held_answer kind lane register)) }
 {
     let held = fragment::held_by(kind, lane, register);
-    let numbers = fragment::held_numbers(held);
+    let numbers = answers::in_numbers(held);
     *answer = c_card::four(numbers);
 }
 
@@ -83,7 +82,7 @@ pub extern "C" fn urszovely_holder(
     ensures { AsHolder kind (record { computation = computation; row = row; column = column }) answer.new }
 {
     let holder = fragment::holder_of(kind, computation, row, column);
-    let numbers = fragment::holder_numbers(holder);
+    let numbers = answers::in_numbers(holder);
     *answer = c_card::four(numbers);
 }
 
@@ -99,7 +98,7 @@ pub extern "C" fn urszovely_mma(
     ensures { answer.new ≡ four (mma_numbers (mma_answer kind warp lane register)) }
 {
     let held = mma::held_by(kind, warp, lane, register);
-    let numbers = mma::held_numbers(held);
+    let numbers = answers::in_numbers(held);
     *answer = c_card::four(numbers);
 }
 
@@ -115,7 +114,7 @@ pub extern "C" fn urszovely_mma_holder(
     ensures { AsMmaHolder kind (record { matrix = matrix; row = row; column = column }) answer.new }
 {
     let holder = mma::holder_of(kind, matrix, row, column);
-    let numbers = mma::holder_numbers(holder);
+    let numbers = answers::in_numbers(holder);
     *answer = c_card::four(numbers);
 }
 
@@ -144,9 +143,9 @@ pub extern "C" fn urszovely_deal(
         tile_singles,
         tile_doubles,
     );
-    let numbers = dealing::moved_numbers(told);
+    let numbers = answers::in_numbers(told);
     *answer = c_card::four(numbers);
-    let Moved::Done = told else {
+    let Ok(()) = told else {
         return;
     };
     c_registers::deal(
@@ -184,9 +183,9 @@ pub extern "C" fn urszovely_collect(
         lane_singles,
         lane_doubles,
     );
-    let numbers = dealing::moved_numbers(told);
+    let numbers = answers::in_numbers(told);
     *answer = c_card::four(numbers);
-    let Moved::Done = told else {
+    let Ok(()) = told else {
         return;
     };
     c_registers::collect(
@@ -224,9 +223,9 @@ pub extern "C" fn urszovely_deal_f64(
         tile_singles,
         tile_doubles,
     );
-    let numbers = dealing::moved_numbers(told);
+    let numbers = answers::in_numbers(told);
     *answer = c_card::four(numbers);
-    let Moved::Done = told else {
+    let Ok(()) = told else {
         return;
     };
     c_holdings::deal_holdings(
@@ -254,9 +253,9 @@ pub extern "C" fn urszovely_collect_f64(
     ensures registers_written { RegistersWritten (collected_from_numbers kind computation holdings.now (rows_from 8 sorts.old singles.old doubles.old)) sorts.old singles.old doubles.old sorts.new singles.new doubles.new }
 {
     let told = dealing_holdings::judge_collecting(kind, computation);
-    let numbers = dealing::moved_numbers(told);
+    let numbers = answers::in_numbers(told);
     *answer = c_card::four(numbers);
-    let Moved::Done = told else {
+    let Ok(()) = told else {
         return;
     };
     c_holdings::collect_holdings(kind, computation, holdings, sorts, singles, doubles);
@@ -272,7 +271,7 @@ pub extern "C" fn urszovely_fields(descriptor: u64, fields: &mut [u8; 12], answe
     let read = reading.fields;
     *fields = c_fields::field_bytes(read);
     let told = reading.answer;
-    let numbers = descriptor_bits::read_numbers(told);
+    let numbers = answers::in_numbers(told);
     *answer = c_card::four(numbers);
 }
 
@@ -282,7 +281,7 @@ pub extern "C" fn urszovely_descriptor(m: u64, fields: &[u8; 11], shift: u64, an
     ensures { answer.new ≡ four (descriptor_numbers (descriptor_answer (shift_limit m) m (fields_from fields.now shift))) }
 {
     let written = descriptor_bits::write_descriptor(m, c_fields::fields(fields, shift));
-    let numbers = descriptor_bits::write_numbers(written);
+    let numbers = answers::in_numbers(written);
     *answer = c_card::four(numbers);
 }
 
@@ -299,7 +298,7 @@ pub extern "C" fn urszovely_mask(
     ensures mask_after { mask.new ≡ mask_memory (mask_answer (shift_limit m) m n descriptor (length mask.old)) m n descriptor mask.old }
 {
     let generated = mask::generate_mask(m, n, descriptor, mask);
-    let numbers = mask::mask_numbers(generated);
+    let numbers = answers::in_numbers(generated);
     *answer = c_card::four(numbers);
 }
 
@@ -312,7 +311,7 @@ pub extern "C" fn urszovely_admit(card: &[u64; 57], marks: u64, answer: &mut [u6
     let mut strides = [0i64; 24];
     c_packed::pack(card, marks, &mut numbers, &mut strides);
     let admission = idle_search::admit_packed(&numbers, &strides);
-    let told = admission::admission_numbers(admission);
+    let told = answers::in_numbers(admission);
     *answer = c_card::four(told);
 }
 
@@ -338,7 +337,7 @@ pub extern "C" fn urszovely_place(
         c_tuple::tuple(coordinates),
         memory,
     );
-    let told = placement::placement_numbers(placement);
+    let told = answers::in_numbers(placement);
     *answer = c_card::four(told);
 }
 
@@ -356,7 +355,7 @@ pub extern "C" fn urszovely_verdict(
     let mut strides = [0i64; 24];
     c_packed::pack(card, marks, &mut numbers, &mut strides);
     let verdict = verdict::judge_packed(&numbers, &strides, table);
-    let told = judgement_numbers::verdict_numbers(verdict);
+    let told = answers::in_numbers(verdict);
     *answer = c_card::four(told);
 }
 
@@ -372,7 +371,7 @@ pub extern "C" fn urszovely_owner(
     ensures { AsOwner card.now marks coordinates.now table.old table.new answer.new }
 {
     let owner = verdict::owner_of(c_card::card(card, marks), *coordinates, table);
-    let numbers = judgement_numbers::owner_numbers(owner);
+    let numbers = answers::in_numbers(owner);
     *answer = c_card::four(numbers);
 }
 
@@ -388,7 +387,7 @@ pub extern "C" fn urszovely_stretch(
     ensures { answer.new ≡ four (stretch_numbers (stretch_answer lengths.now axis coordinates.now (length table.now))) }
 {
     let located = stretch::locate_stretch(table, *lengths, axis, *coordinates);
-    let numbers = stretch::stretch_numbers(located);
+    let numbers = answers::in_numbers(located);
     *answer = c_card::four(numbers);
 }
 
@@ -408,7 +407,7 @@ pub extern "C" fn urszovely_read(
     c_layout::put_layout(layout, card);
     *marks = [c_layout::mark_bits(marked)];
     let told = reading.answer;
-    let numbers = reading::read_numbers(told);
+    let numbers = answers::in_numbers(told);
     *answer = c_card::four(numbers);
 }
 
@@ -424,7 +423,7 @@ pub extern "C" fn urszovely_write(
     ensures text_after { text.new ≡ bytes_after (textAnswer (card_from card.now marks) (length text.old)) (card_from card.now marks) text.old }
 {
     let written = writing::write(c_card::card(card, marks), text);
-    let numbers = writing::write_numbers(written);
+    let numbers = answers::in_numbers(written);
     *answer = c_card::four(numbers);
 }
 
@@ -523,7 +522,7 @@ pub extern "C" fn urszovely_canonical_card(
     let of = built.card;
     *card = card_numbers(of);
     let told = built.answer;
-    let numbers = admission::admission_numbers(told);
+    let numbers = answers::in_numbers(told);
     *answer = c_card::four(numbers);
 }
 
@@ -537,7 +536,7 @@ pub extern "C" fn urszovely_mma_layout(kind: u64, card: &mut [u64; 57], answer: 
     let of = layout.card;
     *card = card_numbers(of);
     let told = layout.answer;
-    let numbers = admission::admission_numbers(told);
+    let numbers = answers::in_numbers(told);
     *answer = c_card::four(numbers);
 }
 
@@ -553,18 +552,18 @@ pub extern "C" fn urszovely_block(
     ensures { AsBlock card.now marks note.now bytes.old bytes.new answer.new }
 {
     let written = storing::write_block(c_card::card(card, marks), note, bytes);
-    let numbers = storing::answer_numbers(written);
+    let numbers = answers::in_numbers(written);
     *answer = c_card::four(numbers);
 }
 
 // Where in a block its note begins and how long it is, both 0 where the block is refused.
-fn note_place(told: Answer, block: &[u8]) -> [u64; 2]
+fn note_place(told: Result<(), Refusal>, block: &[u8]) -> [u64; 2]
     requires { told ≡ blockAnswer block.now }
     ensures { result ≡ note_place told block.now }
 {
     match told {
-        Answer::Done => [book::NOTE as u64, book_blocks::noted_in(block)],
-        Answer::Refused(_) => [0, 0],
+        Ok(()) => [book::NOTE as u64, book_blocks::noted_in(block)],
+        Err(_) => [0, 0],
     }
 }
 
@@ -586,7 +585,7 @@ pub extern "C" fn urszovely_page(
     *marks = [c_layout::mark_bits(marked)];
     let told = page.answer;
     *note = note_place(told, block);
-    let numbers = storing::answer_numbers(told);
+    let numbers = answers::in_numbers(told);
     *answer = c_card::four(numbers);
 }
 
@@ -607,7 +606,7 @@ pub extern "C" fn urszovely_carry(
     let one = c_card::card(first_card, first_marks);
     let two = c_card::card(second_card, second_marks);
     let checked = planning::check_plan(one, two, plan, first, second);
-    let numbers = plans_numbers::checked_numbers(checked);
+    let numbers = answers::in_numbers(checked);
     *answer = c_card::four(numbers);
 }
 
@@ -628,6 +627,6 @@ pub extern "C" fn urszovely_plan(
     let one = c_card::card(first_card, first_marks);
     let two = c_card::card(second_card, second_marks);
     let written = planning::write_plan(one, two, plan, first, second);
-    let numbers = plans_numbers::planning_numbers(written);
+    let numbers = answers::in_numbers(written);
     *answer = c_card::four(numbers);
 }

@@ -1,5 +1,6 @@
 -- What the questions promise, in plain for-alls: outcomes are settled, the first value of the wrong sort is named, and on registers as on
 -- holdings collecting what was dealt gives it back.
+use Rattle.std.specs.Prelude.{Result, ⊤, Ok, Err}
 use mathlib.Core.Path.{◌≡◌, refl, sym, ap, ◌∙◌}
 use mathlib.Core.Logic.{◌⊎◌, inl, inr}
 use mathlib.Core.Bool.{Bool, true, false, not, ◌&&◌, and-eq-true_iff, true≢false}
@@ -8,6 +9,8 @@ use Prim.Native.Nat.{ℕ, ◌+◌, ◌*◌, ◌/◌, ◌%◌, ◌<◌}
 use native.Mathlib.Omega.{arith}
 use borrow.Author.Tests.{ltb-true, ltb-false}
 use lib.Dec.{ltb}
+use Rattle.answers.specs.Refusals.{no_refusal}
+use Rattle.answers.specs.declared.Refusal.{Refusal}
 use Rattle.laws.proofs.Rungs.{apart, passed_by, ended_at}
 use Rattle.answers.specs.declared.Numbers.{Numbers}
 use Rattle.answers.specs.declared.Refusal.TheVariants.{Fragment}
@@ -17,8 +20,6 @@ use Rattle.fragment.specs.Fragment.{is_place}
 use Rattle.fragment.proofs.Inside.{slot_numbers}
 use Rattle.values.specs.declared.Register.{Register}
 use Rattle.values.specs.declared.Register.TheVariants.{Empty}
-use Rattle.values.specs.declared.Moved.{Moved}
-use Rattle.values.specs.declared.Moved.TheVariants.{Done, Refused}
 use Rattle.values.specs.Rows.{entry}
 use Rattle.values.specs.Values.{is_own, in_tile, dealt, collected, first}
 use Rattle.values.specs.Registers.{is_matrix, is_of_sort, is_wrong, judged, deal_answer, collect_answer, dealt_lanes, filled, collected_tile, moved_numbers}
@@ -28,26 +29,26 @@ use Rattle.values.proofs.Theorems.{IsTile, AreLanes, undo_each_other, in_place}
 use Rattle.values.proofs.Holder.{own}
 
 -- two outcomes that the promises allow are equal, what is filled too
-pub dealing_settled : (kind c : ℕ) (tile lanes : List (List Register)) (g h : Moved) (x y : List (List Register))
+pub dealing_settled : (kind c : ℕ) (tile lanes : List (List Register)) (g h : Result ⊤ Refusal) (x y : List (List Register))
     → g ≡ deal_answer kind c tile → h ≡ deal_answer kind c tile → x ≡ dealt_lanes kind c tile lanes → y ≡ dealt_lanes kind c tile lanes → (g ≡ h) × (x ≡ y)
 dealing_settled kind c tile lanes g h x y e f p q = (e ∙ sym f, p ∙ sym q)
 
-pub collecting_settled : (kind c : ℕ) (lanes tile : List (List Register)) (g h : Moved) (x y : List (List Register))
+pub collecting_settled : (kind c : ℕ) (lanes tile : List (List Register)) (g h : Result ⊤ Refusal) (x y : List (List Register))
     → g ≡ collect_answer kind c lanes → h ≡ collect_answer kind c lanes → x ≡ collected_tile kind c lanes tile → y ≡ collected_tile kind c lanes tile
     → (g ≡ h) × (x ≡ y)
 collecting_settled kind c lanes tile g h x y e f p q = (e ∙ sym f, p ∙ sym q)
 
 -- pinning the numbers pins the answer
-done : Numbers → Moved
-done n = Done
+done : Numbers → Result ⊤ Refusal
+done n = no_refusal
 
-moved_back : (g : Moved) → read_back done Refused (moved_numbers g) ≡ g
+moved_back : (g : Result ⊤ Refusal) → read_back done Err (moved_numbers g) ≡ g
 unfolding done
-moved_back Done = refl
-moved_back (Refused r) = refused_back done Refused r
+moved_back (Ok _) = refl
+moved_back (Err r) = refused_back done Err r
 
-pub moved_one_to_one : (g h : Moved) → moved_numbers g ≡ moved_numbers h → g ≡ h
-moved_one_to_one = pinned done Refused moved_numbers moved_back
+pub moved_one_to_one : (g h : Result ⊤ Refusal) → moved_numbers g ≡ moved_numbers h → g ≡ h
+moved_one_to_one = pinned done Err moved_numbers moved_back
 
 -- of two registers the one with the smaller lane comes first, then the one with the smaller number
 abbrev pub ComesBefore : ℕ → ℕ → ℕ → ℕ → Type 0
@@ -64,9 +65,9 @@ abbrev pub AllOfSort : ℕ → ℕ → (ℕ → ℕ → Register) → Type 0
 AllOfSort kind c value = (lane i : ℕ) → is_own kind c lane i ≡ true → is_of_sort kind (value lane i) ≡ true
 
 -- the search, as its two outcomes
-pub record Judged (kind c : ℕ) (value : ℕ → ℕ → Register) (answer : Moved) : Type 0 where
-  pub accepted : answer ≡ Done → AllOfSort kind c value
-  pub refused : (lane i : ℕ) → answer ≡ Refused (Fragment lane i) → FirstWrong kind c value lane i
+pub record Judged (kind c : ℕ) (value : ℕ → ℕ → Register) (answer : Result ⊤ Refusal) : Type 0 where
+  pub accepted : answer ≡ no_refusal → AllOfSort kind c value
+  pub refused : (lane i : ℕ) → answer ≡ Err (Fragment lane i) → FirstWrong kind c value lane i
 
 right : (b s : Bool) → (b && not s) ≡ false → b ≡ true → s ≡ true
 right b true e t = refl
@@ -87,7 +88,7 @@ module _ (kind c : ℕ) (value : ℕ → ℕ → Register) where
       let of_register : (8 * lane + i) % 8 ≡ i = omega arith in
       right (is_own kind c lane i) (is_of_sort kind (value lane i)) (rw (of_lane, of_register) at (none (8 * lane + i) (h small))) e
 
-  all_of_sort : judged kind c value ≡ Done → AllOfSort kind c value
+  all_of_sort : judged kind c value ≡ no_refusal → AllOfSort kind c value
   unfolding judged
   all_of_sort e lane i o =
       let n : ℕ = first (is_wrong kind c value) 256 in
@@ -95,7 +96,7 @@ module _ (kind c : ℕ) (value : ℕ → ℕ → Register) where
       let s = slot_numbers kind lane i (own kind c lane i o).slot in
       before n lane i (none_before_first (is_wrong kind c value) 256) o (λ small. omega (arith, past, s.of_lane))
 
-  first_wrong_lem : (lane i : ℕ) → judged kind c value ≡ Refused (Fragment lane i) → FirstWrong kind c value lane i
+  first_wrong_lem : (lane i : ℕ) → judged kind c value ≡ Err (Fragment lane i) → FirstWrong kind c value lane i
   unfolding judged
   first_wrong_lem lane i e =
       let n : ℕ = first (is_wrong kind c value) 256 in
@@ -122,21 +123,21 @@ module _ (kind c : ℕ) (value : ℕ → ℕ → Register) where
 
 -- what was dealt can be collected, and then every place of the matrix has what it had, whatever the tile collected into
 pub record GivenBack (kind c : ℕ) (tile lanes into : List (List Register)) : Type 0 where
-  pub answer : collect_answer kind c (dealt_lanes kind c tile lanes) ≡ Done
+  pub answer : collect_answer kind c (dealt_lanes kind c tile lanes) ≡ no_refusal
   pub places : (row column : ℕ) → is_place kind (at c row column) ≡ true
       → entry Empty (collected_tile kind c (dealt_lanes kind c tile lanes) into) row column ≡ entry Empty tile row column
   pub others : (row column : ℕ) → is_place kind (at c row column) ≡ false
       → entry Empty (collected_tile kind c (dealt_lanes kind c tile lanes) into) row column ≡ entry Empty into row column
 
-pub collected_as_dealt : (kind c : ℕ) (tile lanes into : List (List Register)) → AreLanes lanes → IsTile into → deal_answer kind c tile ≡ Done
+pub collected_as_dealt : (kind c : ℕ) (tile lanes into : List (List Register)) → AreLanes lanes → IsTile into → deal_answer kind c tile ≡ no_refusal
     → GivenBack kind c tile lanes into
 collected_as_dealt kind c tile lanes into l t e =
     let matrix = ended_at (is_matrix kind c) e (λ q. apart (cc)) in
-    let dealing : dealt_lanes kind c tile lanes ≡ dealt Empty kind c tile lanes = ap (λ (m : Moved). filled m (dealt Empty kind c tile lanes) lanes) e in
-    let accepted : collect_answer kind c (dealt Empty kind c tile lanes) ≡ Done = rw matrix.0 (judged_dealt kind c tile lanes l ∙ matrix.1) in
+    let dealing : dealt_lanes kind c tile lanes ≡ dealt Empty kind c tile lanes = ap (λ (m : Result ⊤ Refusal). filled m (dealt Empty kind c tile lanes) lanes) e in
+    let accepted : collect_answer kind c (dealt Empty kind c tile lanes) ≡ no_refusal = rw matrix.0 (judged_dealt kind c tile lanes l ∙ matrix.1) in
     let whole : collected_tile kind c (dealt_lanes kind c tile lanes) into ≡ collected Empty kind c (dealt Empty kind c tile lanes) into =
     ap (λ (x : List (List Register)). collected_tile kind c x into) dealing
-    ∙ ap (λ (m : Moved). filled m (collected Empty kind c (dealt Empty kind c tile lanes) into) into) accepted in
+    ∙ ap (λ (m : Result ⊤ Refusal). filled m (collected Empty kind c (dealt Empty kind c tile lanes) into) into) accepted in
     let u = undo_each_other Empty kind c in
     record {
       answer = ap (collect_answer kind c) dealing ∙ accepted;
@@ -146,24 +147,24 @@ collected_as_dealt kind c tile lanes into l t e =
 
 -- and what was collected can be dealt, and then every register of the computation has what it had, whatever the lanes dealt to
 pub record DealtBack (kind c : ℕ) (lanes tile into : List (List Register)) : Type 0 where
-  pub answer : deal_answer kind c (collected_tile kind c lanes tile) ≡ Done
+  pub answer : deal_answer kind c (collected_tile kind c lanes tile) ≡ no_refusal
   pub registers : (lane i : ℕ) → is_own kind c lane i ≡ true
       → entry Empty (dealt_lanes kind c (collected_tile kind c lanes tile) into) lane i ≡ entry Empty lanes lane i
   pub others : (lane i : ℕ) → is_own kind c lane i ≡ false
       → entry Empty (dealt_lanes kind c (collected_tile kind c lanes tile) into) lane i ≡ entry Empty into lane i
 
-pub dealt_as_collected : (kind c : ℕ) (lanes tile into : List (List Register)) → IsTile tile → AreLanes into → collect_answer kind c lanes ≡ Done
+pub dealt_as_collected : (kind c : ℕ) (lanes tile into : List (List Register)) → IsTile tile → AreLanes into → collect_answer kind c lanes ≡ no_refusal
     → DealtBack kind c lanes tile into
 dealt_as_collected kind c lanes tile into t l e =
     let matrix = ended_at (is_matrix kind c) e (λ q. apart (cc)) in
     let made : List (List Register) = collected Empty kind c lanes tile in
-    let collecting : collected_tile kind c lanes tile ≡ made = ap (λ (m : Moved). filled m made tile) e in
+    let collecting : collected_tile kind c lanes tile ≡ made = ap (λ (m : Result ⊤ Refusal). filled m made tile) e in
     let u = undo_each_other Empty kind c in
-    let accepted : deal_answer kind c made ≡ Done =
+    let accepted : deal_answer kind c made ≡ no_refusal =
     rw matrix.0
     (judged_same kind c (λ lane i. in_tile Empty made (place kind lane i)) (entry Empty lanes) (in_place Empty kind c lanes tile t) ∙ matrix.1) in
     let whole : dealt_lanes kind c (collected_tile kind c lanes tile) into ≡ dealt Empty kind c made into =
-    ap (λ (x : List (List Register)). dealt_lanes kind c x into) collecting ∙ ap (λ (m : Moved). filled m (dealt Empty kind c made into) into) accepted in
+    ap (λ (x : List (List Register)). dealt_lanes kind c x into) collecting ∙ ap (λ (m : Result ⊤ Refusal). filled m (dealt Empty kind c made into) into) accepted in
     record {
       answer = ap (deal_answer kind c) collecting ∙ accepted;
       registers = λ lane i o. ap (λ (x : List (List Register)). entry Empty x lane i) whole ∙ u.on_lanes lanes tile into lane i t l o;

@@ -1,5 +1,6 @@
 -- A holding is its lane's registers for kinds 6 to 8: none is of the wrong sort, and made anew they are what they were made of, so that
 -- dealing to holdings and collecting from them undo each other. By cases on the four fields.
+use Rattle.std.specs.Prelude.{Err, Result, ⊤, Ok}
 use mathlib.Core.Path.{◌≡◌, refl, sym, ap, ◌∙◌, subst}
 use mathlib.Core.Bool.{Bool, true, false, cond, not, ◌&&◌, and-eq-true_iff, true≢false}
 use mathlib.Core.List.{List, [], map}
@@ -10,6 +11,8 @@ use borrow.Author.Tests.{ltb-true}
 use lib.Dec.{eqb, leb, ltb}
 use lib.Ieee.{Float, nan}
 use lib.ListN.{length, get_or, length-map}
+use Rattle.answers.specs.Refusals.{no_refusal}
+use Rattle.answers.specs.declared.Refusal.{Refusal}
 use Rattle.laws.proofs.Rungs.{apart, ended_at}
 use Rattle.fragment.specs.Kinds.{computations, at, place, registers}
 use Rattle.fragment.specs.Fragment.{is_place, outside}
@@ -18,8 +21,6 @@ use Rattle.fragment.proofs.Back.{back}
 use Rattle.values.specs.declared.Register.{Register}
 use Rattle.values.specs.declared.Register.TheVariants.{Empty, Single, Double}
 use Rattle.values.specs.declared.Holding.{Holding}
-use Rattle.values.specs.declared.Moved.{Moved}
-use Rattle.values.specs.declared.Moved.TheVariants.{Done, Refused}
 use Rattle.values.specs.Rows.{each, entry}
 use Rattle.values.specs.Values.{is_own, in_tile, dealt, collected}
 use Rattle.values.specs.Registers.{is_matrix, is_of_sort, is_wrong, deal_answer, collect_answer, filled, collected_tile}
@@ -146,7 +147,7 @@ module _ (kind c : ℕ) where
   pub no_wrong_sort : (holdings : List Holding) → length holdings ≡ 32 → ltb 5 kind ≡ true
       → collect_answer kind c (map (registers_of kind) holdings) ≡ collect_holdings_answer kind c
   no_wrong_sort holdings e f =
-      rw f (ap (λ (m : Moved). cond (is_matrix kind c) m (Refused outside)) (judged_done kind c (entry Empty (map (registers_of kind) holdings)) none_wrong))
+      rw f (ap (λ (m : Result ⊤ Refusal). cond (is_matrix kind c) m (Err outside)) (judged_done kind c (entry Empty (map (registers_of kind) holdings)) none_wrong))
     where
       of_own : (k : ℕ) (b : Bool) → is_own kind c (k / 8) (k % 8) ≡ b → (b && not (is_of_sort kind (entry Empty (map (registers_of kind) holdings) (k / 8) (k % 8)))) ≡ false
       of_own k false o = refl
@@ -160,7 +161,7 @@ module _ (kind c : ℕ) where
 
   -- what was dealt to holdings and is collected from them: every place of the matrix has what it had, every other stays as given
   pub record HoldingsGiveBack (tile : List (List Register)) (holdings : List Holding) (into : List (List Register)) : Type 0 where
-    pub answer : collect_holdings_answer kind c ≡ Done
+    pub answer : collect_holdings_answer kind c ≡ no_refusal
     pub places : (row column : ℕ) → is_place kind (at c row column) ≡ true
         → entry Empty (collected_from_holdings kind c (dealt_holdings kind c tile holdings) into) row column ≡ entry Empty tile row column
     pub others : (row column : ℕ) → is_place kind (at c row column) ≡ false
@@ -184,17 +185,17 @@ module _ (kind c : ℕ) where
       ∙ has
 
   pub collected_as_dealt_to_holdings : (tile : List (List Register)) (holdings : List Holding) (into : List (List Register)) → length holdings ≡ 32 → IsTile into
-      → deal_holdings_answer kind c tile ≡ Done → HoldingsGiveBack tile holdings into
+      → deal_holdings_answer kind c tile ≡ no_refusal → HoldingsGiveBack tile holdings into
   collected_as_dealt_to_holdings tile holdings into e t d =
       let later = ended_at (ltb 5 kind) d (λ q. apart (cc)) in
       let matrix = ended_at (is_matrix kind c) later.1 (λ q. apart (cc)) in
       let lanes : List (List Register) = dealt Empty kind c tile (map (registers_of kind) holdings) in
       let after : List Holding = each (λ k h. with_registers kind h (get_or lanes k [])) holdings in
-      let dealing : dealt_holdings kind c tile holdings ≡ after = ap (λ (m : Moved). filled m after holdings) d in
-      let accepted : collect_holdings_answer kind c ≡ Done = rw (later.0, matrix.0) in
+      let dealing : dealt_holdings kind c tile holdings ≡ after = ap (λ (m : Result ⊤ Refusal). filled m after holdings) d in
+      let accepted : collect_holdings_answer kind c ≡ no_refusal = rw (later.0, matrix.0) in
       let whole : collected_from_holdings kind c (dealt_holdings kind c tile holdings) into ≡ collected Empty kind c (map (registers_of kind) after) into =
       ap (λ (x : List Holding). collected_from_holdings kind c x into) dealing
-      ∙ ap (λ (m : Moved). filled m (collected Empty kind c (map (registers_of kind) after) into) into) accepted in
+      ∙ ap (λ (m : Result ⊤ Refusal). filled m (collected Empty kind c (map (registers_of kind) after) into) into) accepted in
       let sorts = (judged_means kind c (λ lane i. in_tile Empty tile (place kind lane i))).accepted matrix.1 in
       record {
         answer = accepted;
@@ -211,7 +212,7 @@ module _ (kind c : ℕ) where
 
   -- what was collected from holdings and is dealt to others: the kind's registers have what they had; dealt back to the same they are as they were
   pub record HoldingsDealtBack (holdings : List Holding) (tile : List (List Register)) (into : List Holding) : Type 0 where
-    pub answer : deal_holdings_answer kind c (collected_from_holdings kind c holdings tile) ≡ Done
+    pub answer : deal_holdings_answer kind c (collected_from_holdings kind c holdings tile) ≡ no_refusal
     pub registers : (lane i : ℕ) → is_own kind c lane i ≡ true
         → entry Empty (map (registers_of kind) (dealt_holdings kind c (collected_from_holdings kind c holdings tile) into)) lane i
         ≡ entry Empty (map (registers_of kind) holdings) lane i
@@ -228,19 +229,19 @@ module _ (kind c : ℕ) where
       sym (ap (with_registers kind h) row ∙ same_holding f h)))
 
   pub dealt_as_collected_from_holdings : (holdings : List Holding) (tile : List (List Register)) (into : List Holding) → length holdings ≡ 32 → length into ≡ 32
-      → IsTile tile → collect_holdings_answer kind c ≡ Done → HoldingsDealtBack holdings tile into
+      → IsTile tile → collect_holdings_answer kind c ≡ no_refusal → HoldingsDealtBack holdings tile into
   dealt_as_collected_from_holdings holdings tile into e g t d =
       let both = (and-eq-true_iff (ltb 5 kind) (is_matrix kind c)).0 (ended_at (ltb 5 kind && is_matrix kind c) d (λ q. apart (cc))).0 in
       let had : List (List Register) = map (registers_of kind) holdings in
       let from : List (List Register) = collected_from_holdings kind c holdings tile in
-      let collecting : from ≡ collected Empty kind c had tile = ap (λ (m : Moved). filled m (collected Empty kind c had tile) tile) d in
-      let asked : collect_answer kind c had ≡ Done = no_wrong_sort holdings e both.0 ∙ d in
-      let same : from ≡ collected_tile kind c had tile = collecting ∙ sym (ap (λ (m : Moved). filled m (collected Empty kind c had tile) tile) asked) in
-      let registers-accepted : deal_answer kind c from ≡ Done = ap (deal_answer kind c) same ∙ (dealt_as_collected kind c had tile had t (are_lanes holdings e) asked).answer in
-      let accepted : deal_holdings_answer kind c from ≡ Done = ap (λ (b : Bool). cond b (deal_answer kind c from) (Refused outside)) both.0 ∙ registers-accepted in
+      let collecting : from ≡ collected Empty kind c had tile = ap (λ (m : Result ⊤ Refusal). filled m (collected Empty kind c had tile) tile) d in
+      let asked : collect_answer kind c had ≡ no_refusal = no_wrong_sort holdings e both.0 ∙ d in
+      let same : from ≡ collected_tile kind c had tile = collecting ∙ sym (ap (λ (m : Result ⊤ Refusal). filled m (collected Empty kind c had tile) tile) asked) in
+      let registers-accepted : deal_answer kind c from ≡ no_refusal = ap (deal_answer kind c) same ∙ (dealt_as_collected kind c had tile had t (are_lanes holdings e) asked).answer in
+      let accepted : deal_holdings_answer kind c from ≡ no_refusal = ap (λ (b : Bool). cond b (deal_answer kind c from) (Err outside)) both.0 ∙ registers-accepted in
       let sorts = (judged_means kind c (λ lane i. in_tile Empty from (place kind lane i))).accepted (ended_at (is_matrix kind c) registers-accepted (λ q. apart (cc))).1 in
       let after : List Holding → List Holding = λ l. each (λ k h. with_registers kind h (get_or (dealt Empty kind c from (map (registers_of kind) l)) k [])) l in
-      let dealing : (l : List Holding) → dealt_holdings kind c from l ≡ after l = λ l. ap (λ (m : Moved). filled m (after l) l) accepted in
+      let dealing : (l : List Holding) → dealt_holdings kind c from l ≡ after l = λ l. ap (λ (m : Result ⊤ Refusal). filled m (after l) l) accepted in
       record {
         answer = accepted;
         registers = λ lane i o.
@@ -263,22 +264,22 @@ module _ (kind c : ℕ) where
       made : ℕ → Holding → Holding
       made k g = with_registers kind g (get_or (dealt Empty kind c tile (map (registers_of kind) holdings)) k [])
 
-      by_answer : (m : Moved) → deal_holdings_answer kind c tile ≡ m
+      by_answer : (m : Result ⊤ Refusal) → deal_holdings_answer kind c tile ≡ m
           → OtherFieldsStay kind (get_or (filled m (each made holdings) holdings) lane none) (get_or holdings lane none)
-      by_answer (Refused r) e = record { of_a = λ d. refl; of_b = λ d. refl; of_first = λ d. refl; of_second = λ d. refl }
-      by_answer Done e =
+      by_answer (Err r) e = record { of_a = λ d. refl; of_b = λ d. refl; of_first = λ d. refl; of_second = λ d. refl }
+      by_answer (Ok _) e =
           let later = ended_at (ltb 5 kind) e (λ q. apart (cc)) in
           let matrix = ended_at (is_matrix kind c) later.1 (λ q. apart (cc)) in
           subst (λ (g : Holding). OtherFieldsStay kind g (get_or holdings lane none)) (sym (each_at made holdings lane none h))
           (fields_stay (first_field kind c later.0 matrix.0) (get_or holdings lane none) (get_or (dealt Empty kind c tile (map (registers_of kind) holdings)) lane []))
 
 -- two outcomes that the promises allow are equal, what is filled too
-pub dealing_to_holdings_settled : (kind c : ℕ) (tile : List (List Register)) (holdings : List Holding) (g h : Moved) (x y : List Holding)
+pub dealing_to_holdings_settled : (kind c : ℕ) (tile : List (List Register)) (holdings : List Holding) (g h : Result ⊤ Refusal) (x y : List Holding)
     → g ≡ deal_holdings_answer kind c tile → h ≡ deal_holdings_answer kind c tile → x ≡ dealt_holdings kind c tile holdings → y ≡ dealt_holdings kind c tile holdings
     → (g ≡ h) × (x ≡ y)
 dealing_to_holdings_settled kind c tile holdings g h x y e f p q = (e ∙ sym f, p ∙ sym q)
 
-pub collecting_from_holdings_settled : (kind c : ℕ) (holdings : List Holding) (tile : List (List Register)) (g h : Moved) (x y : List (List Register))
+pub collecting_from_holdings_settled : (kind c : ℕ) (holdings : List Holding) (tile : List (List Register)) (g h : Result ⊤ Refusal) (x y : List (List Register))
     → g ≡ collect_holdings_answer kind c → h ≡ collect_holdings_answer kind c → x ≡ collected_from_holdings kind c holdings tile
     → y ≡ collected_from_holdings kind c holdings tile → (g ≡ h) × (x ≡ y)
 collecting_from_holdings_settled kind c holdings tile g h x y e f p q = (e ∙ sym f, p ∙ sym q)

@@ -1,5 +1,6 @@
 -- Dealing and collecting in document 01's numbers: 14 where the kind or the computation is not one, else 14 with the first value of the wrong
 -- sort, else 0. The search names exactly the first: a number with this lane and register passes its test and none before it does.
+use Rattle.std.specs.Prelude.{Ok, Err, Result, ⊤}
 use mathlib.Core.Path.{◌≡◌, refl, sym, ap, ◌∙◌}
 use mathlib.Core.Logic.{◌↔◌, inl, inr}
 use mathlib.Core.Bool.{Bool, true, false, cond, not, ◌&&◌, true≢false}
@@ -8,8 +9,9 @@ use Prim.Native.Nat.{ℕ, ◌+◌, ◌*◌, ◌/◌, ◌%◌, ◌<◌}
 use native.Mathlib.Decide.{ℕ_discrete}
 use native.Mathlib.Omega.{arith}
 use lib.Dec.{ltb}
+use Rattle.answers.specs.declared.Refusal.{Refusal}
 use Rattle.laws.proofs.Rungs.{apart}
-use Rattle.answers.specs.Refusals.{answer}
+use Rattle.answers.specs.Refusals.{answer, no_refusal}
 use Rattle.answers.specs.declared.Numbers.{Numbers}
 use Rattle.answers.specs.declared.Refusal.TheVariants.{Fragment}
 use Rattle.answers.proofs.OneToOne.{rung}
@@ -18,8 +20,6 @@ use Rattle.fragment.specs.Fragment.{outside}
 use Rattle.fragment.proofs.Inside.{slot_numbers}
 use Rattle.values.specs.declared.Register.{Register}
 use Rattle.values.specs.declared.Register.TheVariants.{Empty}
-use Rattle.values.specs.declared.Moved.{Moved}
-use Rattle.values.specs.declared.Moved.TheVariants.{Done, Refused}
 use Rattle.values.specs.Rows.{entry}
 use Rattle.values.specs.Values.{is_own, in_tile}
 use Rattle.values.specs.Registers.{is_matrix, is_of_sort, is_wrong, judged, deal_answer, collect_answer, moved_numbers}
@@ -44,13 +44,13 @@ not_wrong false s e = refl
 
 module _ (kind c : ℕ) (value : ℕ → ℕ → Register) where
   -- where all are of the kind's sort the search finds none
-  none_named : AllOfSort kind c value → judged kind c value ≡ Done
+  none_named : AllOfSort kind c value → judged kind c value ≡ no_refusal
   none_named all =
       judged_done kind c value
       (λ k h. not_wrong (is_own kind c (k / 8) (k % 8)) (is_of_sort kind (value (k / 8) (k % 8))) (all (k / 8) (k % 8)))
 
   -- the first of the wrong sort is named
-  named : (lane i : ℕ) → FirstWrong kind c value lane i → judged kind c value ≡ Refused (Fragment lane i)
+  named : (lane i : ℕ) → FirstWrong kind c value lane i → judged kind c value ≡ Err (Fragment lane i)
   named lane i w =
       let s = slot_numbers kind lane i (own kind c lane i w.is_own_lem).slot in
       let small : i < 8 = omega (arith, s.of_register, s.sizes_of.most_registers) in
@@ -68,44 +68,44 @@ module _ (kind c : ℕ) (value : ℕ → ℕ → Register) where
           not_wrong (is_own kind c (k / 8) (k % 8)) (is_of_sort kind (value (k / 8) (k % 8)))
           (λ o. w.smallest (k / 8) (k % 8) o (earlier k small h (ℕ_discrete (k / 8) lane)))
 
-  in_numbers : (one : Bool) (r : Moved) → r ≡ cond one (judged kind c value) (Refused outside) → MovedInNumbers kind c one value (moved_numbers r)
+  in_numbers : (one : Bool) (r : Result ⊤ Refusal) → r ≡ cond one (judged kind c value) (Err outside) → MovedInNumbers kind c one value (moved_numbers r)
   in_numbers false r e = record {
     no_matrix = λ q. ap moved_numbers e;
     wrong_sort = λ q. absurd (true≢false (sym q));
-    moved = (λ n. let done : r ≡ Done = moved_one_to_one r Done n in absurd (apart (cc)), λ p. absurd (true≢false (sym p.0)));
+    moved = (λ n. let done : r ≡ no_refusal = moved_one_to_one r no_refusal n in absurd (apart (cc)), λ p. absurd (true≢false (sym p.0)));
   }
   in_numbers true r e = record {
     no_matrix = λ q. absurd (true≢false q);
     wrong_sort = λ q lane i. (
-      λ n. (judged_means kind c value).refused lane i (sym e ∙ moved_one_to_one r (Refused (Fragment lane i)) n),
+      λ n. (judged_means kind c value).refused lane i (sym e ∙ moved_one_to_one r (Err (Fragment lane i)) n),
       λ w. ap moved_numbers (e ∙ named lane i w),
     );
     moved = (
-      λ n. (refl, (judged_means kind c value).accepted (sym e ∙ moved_one_to_one r Done n)),
+      λ n. (refl, (judged_means kind c value).accepted (sym e ∙ moved_one_to_one r no_refusal n)),
       λ p. ap moved_numbers (e ∙ none_named p.1),
     );
   }
 
 -- dealing judges the place of each register, collecting the register
-pub dealing_in_numbers : (kind c : ℕ) (tile : List (List Register)) (r : Moved) → r ≡ deal_answer kind c tile
+pub dealing_in_numbers : (kind c : ℕ) (tile : List (List Register)) (r : Result ⊤ Refusal) → r ≡ deal_answer kind c tile
     → MovedInNumbers kind c (is_matrix kind c) (λ lane i. in_tile Empty tile (place kind lane i)) (moved_numbers r)
 dealing_in_numbers kind c tile r e = in_numbers kind c (λ lane i. in_tile Empty tile (place kind lane i)) (is_matrix kind c) r e
 
-pub collecting_in_numbers : (kind c : ℕ) (lanes : List (List Register)) (r : Moved) → r ≡ collect_answer kind c lanes
+pub collecting_in_numbers : (kind c : ℕ) (lanes : List (List Register)) (r : Result ⊤ Refusal) → r ≡ collect_answer kind c lanes
     → MovedInNumbers kind c (is_matrix kind c) (entry Empty lanes) (moved_numbers r)
 collecting_in_numbers kind c lanes r e = in_numbers kind c (entry Empty lanes) (is_matrix kind c) r e
 
 -- over holdings kind 5 is none, and nothing that is collected is of the wrong sort
-both_rungs : (a b : Bool) (x y : Moved) → cond a (cond b x y) y ≡ cond (a && b) x y
+both_rungs : (a b : Bool) (x y : Result ⊤ Refusal) → cond a (cond b x y) y ≡ cond (a && b) x y
 both_rungs true b x y = refl
 both_rungs false b x y = refl
 
-pub dealing_to_holdings_in_numbers : (kind c : ℕ) (tile : List (List Register)) (r : Moved) → r ≡ deal_holdings_answer kind c tile
+pub dealing_to_holdings_in_numbers : (kind c : ℕ) (tile : List (List Register)) (r : Result ⊤ Refusal) → r ≡ deal_holdings_answer kind c tile
     → MovedInNumbers kind c (ltb 5 kind && is_matrix kind c) (λ lane i. in_tile Empty tile (place kind lane i)) (moved_numbers r)
 dealing_to_holdings_in_numbers kind c tile r e =
     let value : ℕ → ℕ → Register = λ lane i. in_tile Empty tile (place kind lane i) in
-    in_numbers kind c value (ltb 5 kind && is_matrix kind c) r (e ∙ both_rungs (ltb 5 kind) (is_matrix kind c) (judged kind c value) (Refused outside))
+    in_numbers kind c value (ltb 5 kind && is_matrix kind c) r (e ∙ both_rungs (ltb 5 kind) (is_matrix kind c) (judged kind c value) (Err outside))
 
-pub collecting_from_holdings_in_numbers : (kind c : ℕ) (r : Moved) → r ≡ collect_holdings_answer kind c
+pub collecting_from_holdings_in_numbers : (kind c : ℕ) (r : Result ⊤ Refusal) → r ≡ collect_holdings_answer kind c
     → moved_numbers r ≡ cond (ltb 5 kind && is_matrix kind c) (answer 0 0 0 0) (answer 14 0 0 0)
 collecting_from_holdings_in_numbers kind c r e = ap moved_numbers e ∙ rung moved_numbers (ltb 5 kind && is_matrix kind c) refl refl

@@ -1,4 +1,5 @@
 -- The first value of the wrong sort: what the search over the registers comes to, and what it means in plain for-alls.
+use Rattle.std.specs.Prelude.{Result, ⊤, Err, Ok}
 use mathlib.Core.Path.{◌≡◌, refl, ap, ◌∙◌}
 use mathlib.Core.Bool.{Bool, true, false, cond, not, ◌&&◌}
 use mathlib.Core.List.{List, []}
@@ -6,12 +7,12 @@ use Prim.Native.Nat.{ℕ, ◌/◌, ◌%◌, ◌<◌}
 use borrow.Author.Tests.{lt-ltb}
 use lib.Dec.{ltb}
 use lib.ListN.{length, replicate, length-replicate, get_or-replicate}
+use Rattle.answers.specs.Refusals.{no_refusal}
+use Rattle.answers.specs.declared.Refusal.{Refusal}
 use Rattle.fragment.specs.Kinds.{place}
 use Rattle.answers.specs.declared.Refusal.TheVariants.{Fragment}
 use Rattle.values.specs.declared.Register.{Register}
 use Rattle.values.specs.declared.Register.TheVariants.{Empty}
-use Rattle.values.specs.declared.Moved.{Moved}
-use Rattle.values.specs.declared.Moved.TheVariants.{Done, Refused}
 use Rattle.values.specs.Rows.{entry}
 use Rattle.values.specs.Values.{is_own, in_tile, dealt}
 use Rattle.values.specs.Registers.{is_of_sort, is_wrong, judged}
@@ -19,16 +20,16 @@ use Rattle.values.proofs.First.{NoneBefore, is_first, none_passes, same_first}
 use Rattle.values.proofs.Theorems.{AreLanes, dealt_own}
 
 -- what is answered where the search ends at n
-abbrev at : ℕ → Moved
-at n = cond (ltb n 256) (Refused (Fragment (n / 8) (n % 8))) Done
+abbrev at : ℕ → Result ⊤ Refusal
+at n = cond (ltb n 256) (Err (Fragment (n / 8) (n % 8))) no_refusal
 
 module _ (kind c : ℕ) where
   pub judged_at : (value : ℕ → ℕ → Register) (n : ℕ) → n < 256 → NoneBefore (is_wrong kind c value) n → is_wrong kind c value n ≡ true
-      → judged kind c value ≡ Refused (Fragment (n / 8) (n % 8))
+      → judged kind c value ≡ Err (Fragment (n / 8) (n % 8))
   unfolding judged
   judged_at value n h none e = ap at (is_first (is_wrong kind c value) 256 n h none e) ∙ rw (lt-ltb n 256 h)
 
-  pub judged_done : (value : ℕ → ℕ → Register) → NoneBefore (is_wrong kind c value) 256 → judged kind c value ≡ Done
+  pub judged_done : (value : ℕ → ℕ → Register) → NoneBefore (is_wrong kind c value) 256 → judged kind c value ≡ no_refusal
   unfolding judged
   judged_done value none = ap at (none_passes (is_wrong kind c value) 256 none)
 

@@ -1,11 +1,11 @@
 -- The questions on .f64 holdings: a lane's record is its registers of kinds 6 to 8, and dealing and collecting are those of registers.
-use Rattle.std.specs.Prelude.{ℕ, cond, ◌&&◌, List, [], ◌∷◌, map, eqb, ltb, Float, get_or}
+use Rattle.std.specs.Prelude.{ℕ, cond, ◌&&◌, List, [], ◌∷◌, map, eqb, ltb, Float, get_or, Result, ⊤, Err, Ok}
+use Rattle.answers.specs.Refusals.{no_refusal}
+use Rattle.answers.specs.declared.Refusal.{Refusal}
 use Rattle.fragment.specs.Fragment.{outside}
 use Rattle.values.specs.declared.Register.{Register}
 use Rattle.values.specs.declared.Register.TheVariants.{Empty, Single, Double}
 use Rattle.values.specs.declared.Holding.{Holding}
-use Rattle.values.specs.declared.Moved.{Moved}
-use Rattle.values.specs.declared.Moved.TheVariants.{Done, Refused}
 use Rattle.values.specs.Rows.{each}
 use Rattle.values.specs.Values.{dealt, collected}
 use Rattle.values.specs.Registers.{is_matrix, deal_answer, filled}
@@ -34,12 +34,12 @@ with_registers kind h registers =
     (cond (eqb kind 7) (holding h.a (double 0 h.b) h.first h.second) (holding h.a h.b (double 0 h.first) (double 1 h.second)))
 
 -- kind 5 has no holdings
-abbrev pub deal_holdings_answer : ℕ → ℕ → List (List Register) → Moved
-deal_holdings_answer kind c tile = cond (ltb 5 kind) (deal_answer kind c tile) (Refused outside)
+abbrev pub deal_holdings_answer : ℕ → ℕ → List (List Register) → Result ⊤ Refusal
+deal_holdings_answer kind c tile = cond (ltb 5 kind) (deal_answer kind c tile) (Err outside)
 
 -- no register of a holding is of the wrong sort
-abbrev pub collect_holdings_answer : ℕ → ℕ → Moved
-collect_holdings_answer kind c = cond (ltb 5 kind && is_matrix kind c) Done (Refused outside)
+abbrev pub collect_holdings_answer : ℕ → ℕ → Result ⊤ Refusal
+collect_holdings_answer kind c = cond (ltb 5 kind && is_matrix kind c) no_refusal (Err outside)
 
 abbrev pub dealt_holdings : ℕ → ℕ → List (List Register) → List Holding → List Holding
 dealt_holdings kind c tile holdings =

@@ -1,14 +1,13 @@
 -- The questions on registers: which values are of the kind's sort, the answer, and what is filled.
-use Rattle.std.specs.Prelude.{ℕ, ◌/◌, ◌%◌, Bool, false, cond, not, ◌&&◌, List, eqb, leb, ltb}
-use Rattle.answers.specs.Refusals.{answer, refusal_numbers}
+use Rattle.std.specs.Prelude.{ℕ, ◌/◌, ◌%◌, Bool, false, cond, not, ◌&&◌, List, eqb, leb, ltb, Result, ⊤, Err, Ok}
+use Rattle.answers.specs.declared.Refusal.{Refusal}
+use Rattle.answers.specs.Refusals.{answer, refusal_numbers, numbers_of, just_zero, no_refusal}
 use Rattle.answers.specs.declared.Numbers.{Numbers}
 use Rattle.answers.specs.declared.Refusal.TheVariants.{Fragment}
 use Rattle.fragment.specs.Kinds.{computations, place}
 use Rattle.fragment.specs.Fragment.{outside}
 use Rattle.values.specs.declared.Register.{Register}
 use Rattle.values.specs.declared.Register.TheVariants.{Empty, Single, Double}
-use Rattle.values.specs.declared.Moved.{Moved}
-use Rattle.values.specs.declared.Moved.TheVariants.{Done, Refused}
 use Rattle.values.specs.Rows.{entry}
 use Rattle.values.specs.Values.{is_own, first, in_tile, dealt, collected}
 
@@ -27,23 +26,23 @@ abbrev pub is_wrong : ℕ → ℕ → (ℕ → ℕ → Register) → ℕ → Boo
 is_wrong kind c value n = is_own kind c (n / 8) (n % 8) && not (is_of_sort kind (value (n / 8) (n % 8)))
 
 -- refusal 14 with the smallest lane and register of the wrong sort, if there is one
-unfoldable pub judged : ℕ → ℕ → (ℕ → ℕ → Register) → Moved
+unfoldable pub judged : ℕ → ℕ → (ℕ → ℕ → Register) → Result ⊤ Refusal
 judged kind c value =
-    let n = first (is_wrong kind c value) 256 in cond (ltb n 256) (Refused (Fragment (n / 8) (n % 8))) Done
+    let n = first (is_wrong kind c value) 256 in cond (ltb n 256) (Err (Fragment (n / 8) (n % 8))) no_refusal
 
 -- dealing judges the places of the matrix, each by the register that it would go to
-abbrev pub deal_answer : ℕ → ℕ → List (List Register) → Moved
+abbrev pub deal_answer : ℕ → ℕ → List (List Register) → Result ⊤ Refusal
 deal_answer kind c tile =
-    cond (is_matrix kind c) (judged kind c (λ lane i. in_tile Empty tile (place kind lane i))) (Refused outside)
+    cond (is_matrix kind c) (judged kind c (λ lane i. in_tile Empty tile (place kind lane i))) (Err outside)
 
 -- collecting judges the registers
-abbrev pub collect_answer : ℕ → ℕ → List (List Register) → Moved
-collect_answer kind c lanes = cond (is_matrix kind c) (judged kind c (entry Empty lanes)) (Refused outside)
+abbrev pub collect_answer : ℕ → ℕ → List (List Register) → Result ⊤ Refusal
+collect_answer kind c lanes = cond (is_matrix kind c) (judged kind c (entry Empty lanes)) (Err outside)
 
 -- what was to be filled: filled, or as given where refused
-abbrev pub filled : {A : Type 0} → Moved → A → A → A
-filled Done new given = new
-filled (Refused refusal) new given = given
+abbrev pub filled : {A : Type 0} → Result ⊤ Refusal → A → A → A
+filled (Ok _) new given = new
+filled (Err refusal) new given = given
 
 abbrev pub dealt_lanes : ℕ → ℕ → List (List Register) → List (List Register) → List (List Register)
 dealt_lanes kind c tile lanes = filled (deal_answer kind c tile) (dealt Empty kind c tile lanes) lanes
@@ -52,6 +51,5 @@ abbrev pub collected_tile : ℕ → ℕ → List (List Register) → List (List 
 collected_tile kind c lanes tile = filled (collect_answer kind c lanes) (collected Empty kind c lanes tile) tile
 
 -- at number 0 all details are 0
-abbrev pub moved_numbers : Moved → Numbers
-moved_numbers Done = answer 0 0 0 0
-moved_numbers (Refused refusal) = refusal_numbers refusal
+abbrev pub moved_numbers : Result ⊤ Refusal → Numbers
+moved_numbers = numbers_of just_zero

@@ -1,8 +1,6 @@
 // Values dealt to the lanes of a warp and collected from them, document 02's request 1: types, definitions and theorems.
 #![tactic(auto)]
 
-use answers::Refusal;
-
 // What a register reads as: empty, one single or one double.
 #[derive(Clone, Copy)]
 pub enum Register {
@@ -18,11 +16,4 @@ pub struct Holding {
     pub b: f64,
     pub first: f64,
     pub second: f64,
-}
-
-// The answer to dealing and to collecting.
-#[derive(Clone, Copy)]
-pub enum Moved {
-    Done,
-    Refused(Refusal),
 }

@@ -3,24 +3,28 @@
 // owner does not admit its card twice.
 #![tactic(auto)]
 
-ghost use Rattle.std.specs.Prelude.{◌≡◌, ◌<◌, length};
+ghost use Rattle.std.specs.Prelude.{◌≡◌, ◌<◌, length, Ok};
+ghost use Rattle.answers.specs.Refusals.{no_refusal};
 ghost use Rattle.card.specs.Card.{cells};
 ghost use Rattle.card.specs.Packed.{card_of, Whole};
-ghost use Rattle.card.specs.declared.Admission.TheVariants.{Admitted};
 ghost use Rattle.idle.specs.Admission.{full_admission};
 ghost use Rattle.judgement.specs.Plain.{VerdictSays, OwnerSays};
 ghost use Rattle.judgement.specs.Verdict.{VerdictPromise, OwnerPromise};
 ghost use Rattle.verdict.specs.Clauses.{ReadAt};
 
 use answers::{Cell, Refusal};
-use card::{Admission, Card};
-use judgement::{Owner, Verdict};
+use card::Card;
+use judgement::Approved;
 use rules::Spot;
 
 // The verdict on an admitted card in a table of exactly its cells, with one row for the copies of an
 // element.
-fn judge_cells(numbers: &[u64; 56], strides: &[i64; 24], table: &mut [u32]) -> Verdict
-    requires whole { Whole numbers.now strides.now × (full_admission (card_of numbers.now strides.now) ≡ Admitted) }
+fn judge_cells(
+    numbers: &[u64; 56],
+    strides: &[i64; 24],
+    table: &mut [u32],
+) -> Result<Approved, Refusal>
+    requires whole { Whole numbers.now strides.now × (full_admission (card_of numbers.now strides.now) ≡ no_refusal) }
     requires table_len { length table.old ≡ cells (card_of numbers.now strides.now) }
     ensures { VerdictPromise (card_of numbers.now strides.now) table.old table.new result }
 {
@@ -31,13 +35,17 @@ fn judge_cells(numbers: &[u64; 56], strides: &[i64; 24], table: &mut [u32]) -> V
 }
 
 // The verdict on an admitted card: room for its cells, then the owners in them.
-fn judge_admitted(numbers: &[u64; 56], strides: &[i64; 24], table: &mut [u32]) -> Verdict
-    requires { Whole numbers.now strides.now × (full_admission (card_of numbers.now strides.now) ≡ Admitted) }
+fn judge_admitted(
+    numbers: &[u64; 56],
+    strides: &[i64; 24],
+    table: &mut [u32],
+) -> Result<Approved, Refusal>
+    requires { Whole numbers.now strides.now × (full_admission (card_of numbers.now strides.now) ≡ no_refusal) }
     ensures { VerdictPromise (card_of numbers.now strides.now) table.old table.new result }
 {
     let cells = numbers[card::CELLS];
     if (table.len() as u64) < cells {
-        return Verdict::Refused(Refusal::TooShort { needed: cells });
+        return Err(Refusal::TooShort { needed: cells });
     }
     let end = cells as usize;
     judge_cells(numbers, strides, &mut table[..end])
@@ -45,19 +53,20 @@ fn judge_admitted(numbers: &[u64; 56], strides: &[i64; 24], table: &mut [u32]) -
 
 // The verdict on a packed card: the card's own checks, then the table's. Public, with a requires, for the
 // crate above, which packs a card from plain numbers.
-pub fn judge_packed(numbers: &[u64; 56], strides: &[i64; 24], table: &mut [u32]) -> Verdict
+pub fn judge_packed(
+    numbers: &[u64; 56],
+    strides: &[i64; 24],
+    table: &mut [u32],
+) -> Result<Approved, Refusal>
     requires { Whole numbers.now strides.now }
     ensures { VerdictPromise (card_of numbers.now strides.now) table.old table.new result }
 {
-    let admission = idle_search::admit_packed(numbers, strides);
-    if let Admission::Refused(refusal) = admission {
-        return Verdict::Refused(refusal);
-    }
+    idle_search::admit_packed(numbers, strides)?;
     judge_admitted(numbers, strides, table)
 }
 
 // The verdict on any card.
-pub fn judge(card: Card, table: &mut [u32]) -> Verdict
+pub fn judge(card: Card, table: &mut [u32]) -> Result<Approved, Refusal>
     ensures { VerdictSays card table.old table.new result }
 {
     let packed = card_packed::pack(card);
@@ -67,20 +76,18 @@ pub fn judge(card: Card, table: &mut [u32]) -> Verdict
 }
 
 // The owner of a cell of an admitted card: the verdict, and then one entry is read.
-fn owner_at(numbers: &[u64; 56], strides: &[i64; 24], cell: Cell, table: &mut [u32]) -> Owner
-    requires whole { Whole numbers.now strides.now × (full_admission (card_of numbers.now strides.now) ≡ Admitted) }
+fn owner_at(
+    numbers: &[u64; 56],
+    strides: &[i64; 24],
+    cell: Cell,
+    table: &mut [u32],
+) -> Result<u64, Refusal>
+    requires whole { Whole numbers.now strides.now × (full_admission (card_of numbers.now strides.now) ≡ no_refusal) }
     requires cell_bound { cell.0 < cells (card_of numbers.now strides.now) }
     ensures { ReadAt (card_of numbers.now strides.now) cell.0 table.old table.new result }
 {
-    let verdict = judge_admitted(numbers, strides, table);
-    match verdict {
-        Verdict::Approved {
-            elements: _,
-            occupied: _,
-            cells: _,
-        } => Owner::Entry(table[cell.0 as usize] as u64),
-        Verdict::Refused(refusal) => Owner::Refused(refusal),
-    }
+    judge_admitted(numbers, strides, table)?;
+    Ok(table[cell.0 as usize] as u64)
 }
 
 // The owner of a cell of a packed card: after the card's own checks the coordinates are judged.
@@ -89,23 +96,20 @@ fn owner_packed(
     strides: &[i64; 24],
     coordinates: &[u64; 8],
     table: &mut [u32],
-) -> Owner
+) -> Result<u64, Refusal>
     requires { Whole numbers.now strides.now × (length coordinates.now ≡ 8) }
     ensures { OwnerPromise (card_of numbers.now strides.now) coordinates.now table.old table.new result }
 {
-    let admission = idle_search::admit_packed(numbers, strides);
-    if let Admission::Refused(refusal) = admission {
-        return Owner::Refused(refusal);
-    }
+    idle_search::admit_packed(numbers, strides)?;
     let spot = copies::spot_at(numbers, coordinates);
     match spot {
         Spot::Inside(cell) => owner_at(numbers, strides, cell, table),
-        Spot::Outside(axis) => Owner::Refused(Refusal::CellOutside { axis }),
+        Spot::Outside(axis) => Err(Refusal::CellOutside { axis }),
     }
 }
 
 // The owner of the cell that eight coordinates name, for any card.
-pub fn owner_of(card: Card, coordinates: [u64; 8], table: &mut [u32]) -> Owner
+pub fn owner_of(card: Card, coordinates: [u64; 8], table: &mut [u32]) -> Result<u64, Refusal>
     ensures { OwnerSays card coordinates table.old table.new result }
 {
     let packed = card_packed::pack(card);

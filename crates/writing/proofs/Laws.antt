@@ -9,7 +9,7 @@ use borrow.Author.Tests.{ne_eqb}
 use lib.Dec.{eqb, ltb}
 use lib.IntN.{ℤ, pos, nat_abs}
 use lib.ListN.{length, get_or, set, take, drop, replicate, length-append}
-use lib.Seq.{take-suc, drop-cons, length-take-le}
+use lib.Seq.{take-suc, length-take-le}
 use Rattle.card.specs.declared.Iter.{Iter}
 use Rattle.notation.specs.Quoted.{quoted_bytes}
 use Rattle.notation.specs.Text.{tails, joined, spell_step, spell_offsets}
@@ -45,15 +45,6 @@ text_length t = omega arith
 pub text_taken : (t : List ℕ) → length t ≤ 512 → take (wrote no_text t).length (wrote no_text t).bytes ≡ t
 unfolding wrote
 text_taken t h = ap (λ (n : ℕ). take n (overlay (replicate 512 0) 0 t)) (text_length t) ∙ text_there (replicate 512 0) t h
-
--- one byte more of a copy
-pub copy_next : (from to : List ℕ) (k : ℕ) → k < length from → k < length to → set (take k from ++ drop k to) k (get_or from k 0) ≡ take (k + 1) from ++ drop (k + 1) to
-copy_next from to k h l =
-    let x : ℕ = get_or from k 0 in
-    let long : length (take k from) ≡ k = length-take-le k from (omega arith) in
-    ap (λ (m : List ℕ). set (take k from ++ m) k x) (drop-cons to k 0 l) ∙ ap (λ (n : ℕ). set (take k from ++ (get_or to k 0 ∷ drop (suc k) to)) n x) (sym long)
-    ∙ set_append (take k from) (drop (suc k) to) x (get_or to k 0) ∙ ap (λ (m : List ℕ). m ++ drop (suc k) to) (sym (take-suc from k 0 h))
-    ∙ ap (λ (n : ℕ). take n from ++ drop n to) (sym (add-one k))
 
 -- lists, parted by commas
 joined_snoc : (ts : List (List ℕ)) (t : List ℕ) → joined (quoted_bytes ",") (ts ++ (t ∷ [])) ≡ joined (quoted_bytes ",") ts ++ (joint (length ts) ++ t)

@@ -2,18 +2,17 @@
 // A text is spelled into a buffer of 512 bytes and then copied, since 11 needs its length first and leaves the lent bytes untouched.
 #![tactic(auto)]
 
-ghost use Rattle.std.specs.Prelude.{◌≡◌, false, cond, [], ◌∷◌, ◌++◌, map, ◌+◌, ◌≤◌, nat_abs, eqb, length, take, drop};
+ghost use Rattle.std.specs.Prelude.{◌≡◌, false, cond, [], ◌∷◌, ◌++◌, map, ◌+◌, ◌≤◌, nat_abs, eqb, length, take, drop, Ok};
+ghost use Rattle.answers.specs.Refusals.{no_refusal};
 ghost use Rattle.card.specs.Card.{listed, extent_of};
 ghost use Rattle.card.specs.Admission.{field_checks};
-ghost use Rattle.card.specs.declared.Admission.TheVariants.{Admitted};
 ghost use Rattle.notation.specs.Quoted.{quoted_bytes as quoted};
 ghost use Rattle.notation.specs.Text.{decimal, spell_step, joined, spell_lists, spell_shard, spell_replica, spell_offsets};
-ghost use Rattle.notation.specs.Writing.{step_for, steps_for, offsets_from, no_marks, lists_for, text_of, written_answer, bytes_after, write_numbers};
+ghost use Rattle.notation.specs.Writing.{step_for, steps_for, offsets_from, no_marks, lists_for, text_of, written_answer, bytes_after};
 ghost use Rattle.writing_words.specs.Out.{wrote, Free, no_text, joint};
 
-use answers::{Numbers, Refusal};
-use card::{Admission, Card, Iters};
-use notation::Written;
+use answers::Refusal;
+use card::{Card, Iters};
 use writing_words::Out;
 
 // A comma before all but the first.
@@ -35,11 +34,9 @@ fn put_extents(out: Out, iters: Iters) -> Out
     let mut written = out;
     let count = iters.count as usize;
     let at = iters.at;
-    let mut k: usize = 0;
-    while k < count {
+    for k in 0..count {
         let iter = at[k];
         written = writing_words::put_decimal(put_joint(written, k), iter.extent);
-        k += 1;
     }
     written
 }
@@ -52,11 +49,9 @@ fn put_strides(out: Out, iters: Iters, marks: [bool; 8]) -> Out
     let mut written = out;
     let count = iters.count as usize;
     let at = iters.at;
-    let mut k: usize = 0;
-    while k < count {
+    for k in 0..count {
         let iter = at[k];
         written = writing_words::put_step(put_joint(written, k), iter.stride, marks[k], iter.axis);
-        k += 1;
     }
     written
 }
@@ -126,17 +121,15 @@ fn put_offsets(out: Out, offset: [i64; 8]) -> Out
     ensures { (result ≡ wrote out (spell_offsets (offsets_from 0 offset))) × (result.length ≤ out.length + 120) }
 {
     let mut written = out;
-    let mut axis: usize = 0;
-    while axis < 8 {
-        written = put_offset(written, axis as u64, offset[axis]);
-        axis += 1;
+    for (axis, z) in offset.iter().enumerate() {
+        written = put_offset(written, axis as u64, *z);
     }
     written
 }
 
 // The text of a card that passes checks 1 to 3.
 fn spelled(card: Card) -> Out
-    requires { field_checks card Admitted ≡ Admitted }
+    requires { field_checks card no_refusal ≡ no_refusal }
     ensures { (result ≡ wrote no_text (text_of card)) × (result.length ≤ 344) }
 {
     let empty = Out {
@@ -157,41 +150,24 @@ fn copy(text: Out, bytes: &mut [u8])
 {
     let from = text.bytes;
     let length = text.length;
-    let mut k: usize = 0;
-    while k < length {
-        bytes[k] = from[k];
-        k += 1;
-    }
+    bytes[..length].copy_from_slice(&from[..length]);
 }
 
 // Writes a card into lent bytes: the length of its text, or why not.
-pub fn write(card: Card, bytes: &mut [u8]) -> Written
+pub fn write(card: Card, bytes: &mut [u8]) -> Result<u64, Refusal>
     ensures { (result ≡ written_answer card (length bytes.old)) × (bytes.new ≡ bytes_after result card bytes.old) }
 {
     let packed = card_packed::pack(card);
     let numbers = packed.numbers;
     let strides = packed.strides;
-    let fields = admission::check_fields(&numbers, &strides);
-    if let Admission::Refused(refusal) = fields {
-        return Written::Refused(refusal);
-    }
+    admission::check_fields(&numbers, &strides)?;
     let text = spelled(card);
     let needed = text.length;
     if bytes.len() < needed {
-        return Written::Refused(Refusal::TooShort {
+        return Err(Refusal::TooShort {
             needed: needed as u64,
         });
     }
     copy(text, &mut *bytes);
-    Written::Length(needed as u64)
-}
-
-// The plain numbers of a writing.
-pub fn write_numbers(written: Written) -> Numbers
-    ensures { result ≡ write_numbers written }
-{
-    match written {
-        Written::Length(length) => answers::answer(0, length, 0, 0),
-        Written::Refused(refusal) => answers::refusal_numbers(refusal),
-    }
+    Ok(needed as u64)
 }

@@ -13,7 +13,7 @@ use lib.ListN.{length, get_or, set, take, drop, length-append}
 use lib.Seq.{take-suc, slice, slice_empty, length-take-le}
 use Rattle.notation.specs.Text.{digits}
 use Rattle.notation.specs.Writing.{is_below}
-use Rattle.writing_words.specs.Out.{overlay, wrote, words}
+use Rattle.writing_words.specs.Out.{overlay, wrote}
 use Rattle.writing_words.specs.declared.Out.{Out}
 
 overlay_more : (l : List ℕ) (k : ℕ) (s t : List ℕ) → overlay (overlay l k s) (k + length s) t ≡ overlay l k (s ++ t)
@@ -81,13 +81,11 @@ drop_front zero a b h = refl
 drop_front (suc n) [] b h = absurd (omega arith)
 drop_front (suc n) (x ∷ a) b h = drop_front n a b (omega arith)
 
-pub word_next : (l : List ℕ) (from k : ℕ) → from + k < length l → slice from (from + k) l ++ (get_or l (from + k) 0 ∷ []) ≡ slice from (from + (k + 1)) l
-word_next l from k h =
-    let one : from + (k + 1) ≡ suc (from + k) = omega arith in
-    sym (ap (λ (n : ℕ). slice from n l) one ∙ ap (λ (m : List ℕ). drop from m) (take-suc l (from + k) 0 h)
-    ∙ drop_front from (take (from + k) l) (get_or l (from + k) 0 ∷ []) (omega (arith, length-take-le (from + k) l (omega arith))))
+pub word_next : (l : List ℕ) (from k : ℕ) → from ≤ k → k < length l → slice from k l ++ (get_or l k 0 ∷ []) ≡ slice from (k + 1) l
+word_next l from k begun h =
+    let one : k + 1 ≡ suc k = omega arith in
+    sym (ap (λ (n : ℕ). slice from n l) one ∙ ap (λ (m : List ℕ). drop from m) (take-suc l k 0 h)
+    ∙ drop_front from (take k l) (get_or l k 0 ∷ []) (omega (arith, length-take-le k l (omega arith))))
 
-pub word_none : (l : List ℕ) (from : ℕ) → [] ≡ slice from (from + 0) l
-word_none l from =
-    let none : from + 0 ≡ from = omega arith in
-    sym (ap (λ (n : ℕ). slice from n l) none ∙ slice_empty from l)
+pub word_none : (l : List ℕ) (from : ℕ) → [] ≡ slice from from l
+word_none l from = sym (slice_empty from l)

@@ -37,10 +37,8 @@ pub fn put_word(out: Out, from: usize, count: usize) -> Out
     ensures { (result ≡ wrote out (slice from (from + count) words)) × (result.length ≤ out.length + count) }
 {
     let mut written = out;
-    let mut k: usize = 0;
-    while k < count {
-        written = put(written, WORDS[from + k]);
-        k += 1;
+    for k in from..from + count {
+        written = put(written, WORDS[k]);
     }
     written
 }

@@ -1,6 +1,5 @@
 -- `card_packed::last_column` has the counts, M, B, S and the sizes: each product is capped.
 use mathlib.Core.Path.{◌≡◌, ap, ◌∙◌}
-use mathlib.Core.List.{List}
 use Prim.Native.Nat.{min}
 use borrow.Author.Rules.{rules}
 use lib.ListN.{take}

@@ -4,11 +4,11 @@ use borrow.Author.Rules.{rules}
 use Rattle.dealing.proofs.deal.Statement.{statement}
 use Rattle.dealing.proofs.deal.Tie as tie
 
-filled : tie.Need-returns-in-Done
-filled c = rw (sym c.judge_dealing.ensures ∙ c.in-Done.is) c.dealt_lanes.ensures
+filled : tie.Need-returns-in-Ok
+filled c = rw (sym c.judge_dealing.ensures ∙ c.in-Ok.is) c.dealt_lanes.ensures
 
-as_given : tie.Need-returns-in-Refused
-as_given c = rw (sym c.judge_dealing.ensures ∙ c.in-Refused.is)
+as_given : tie.Need-returns-in-Err
+as_given c = rw (sym c.judge_dealing.ensures ∙ c.in-Err.is)
 
 pub deal_spec : {M : Type 1} → statement M
 deal_spec = tie.close (tie.spec (λ c κs. search rules) (λ c. search rules) (λ c κs. search rules) (λ c. search rules) filled as_given)

@@ -1,9 +1,9 @@
 -- `dealing_holdings::judge_collecting` is the definition: the branch taken is the one that kind and computation pick.
+use Rattle.std.specs.Prelude.{Err}
 use mathlib.Core.Path.{◌≡◌, sym, ap, ◌∙◌}
 use mathlib.Core.Bool.{Bool, ◌&&◌}
 use borrow.Author.Rules.{rules}
 use lib.Dec.{ltb}
-use Rattle.values.specs.declared.Moved.TheVariants.{Refused}
 use Rattle.values.specs.Registers.{is_matrix}
 use Rattle.dealing_holdings.proofs.judge_collecting.Statement.{statement}
 use Rattle.dealing_holdings.proofs.judge_collecting.Tie as tie
@@ -16,4 +16,4 @@ pub judge_collecting_spec : {M : Type 1} → statement M
 judge_collecting_spec =
     tie.close
     (tie.spec (λ c κs. search rules) (λ c κs. search rules) (λ c. rw (tested c.before ∙ c.if-kind-is_matrix.true))
-    (λ c. rw (tested c.before.before ∙ c.if-kind-is_matrix.false) (ap Refused c.outside.ensures)))
+    (λ c. rw (tested c.before.before ∙ c.if-kind-is_matrix.false) (ap Err c.outside.ensures)))

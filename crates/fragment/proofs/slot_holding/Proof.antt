@@ -1,4 +1,5 @@
 -- `fragment::slot_holding` leads back: in each arm the kind is a number, at which the formulas that lead back compute to the arm's own.
+use Rattle.std.specs.Prelude.{Ok}
 use mathlib.Core.Path.{◌≡◌, sym}
 use Prim.Native.Nat.{ℕ, ◌≤◌}
 use native.Mathlib.Omega.{arith}
@@ -6,7 +7,6 @@ use lib.Bits.{and_le_r}
 use Rattle.laws.proofs.Below.{none_below}
 use Rattle.fragment.specs.declared.Place.{Place}
 use Rattle.fragment.specs.declared.Slot.{Slot}
-use Rattle.fragment.specs.declared.Holder.TheVariants.{Slot as HeldBy}
 use Rattle.fragment.specs.Kinds.{◌&◌, at}
 use Rattle.fragment.specs.Fragment.{HolderAnswer}
 use Rattle.fragment.proofs.Inside.{OfPlace, place_numbers}
@@ -29,7 +29,7 @@ bounds : (c : tie.Start) → OfPlace c.args.kind (asked c) × Bits c.args.row ×
 bounds c = (place_numbers c.args.kind (asked c) c.requires, bits c.args.row, bits c.args.column)
 
 -- in the arm of kind n the register is the one that the formulas of kind n lead to
-arm : (c : tie.Start) (n : ℕ) (s : Slot) → c.args.kind ≡ n → s ≡ back n (asked c) → HolderAnswer c.args.kind (asked c) (HeldBy s)
+arm : (c : tie.Start) (n : ℕ) (s : Slot) → c.args.kind ≡ n → s ≡ back n (asked c) → HolderAnswer c.args.kind (asked c) (Ok s)
 arm c n s e found = rw (found, sym e) (back_answers c.args.kind (asked c) c.requires)
 
 -- the last arm is that of kind 8

@@ -11,5 +11,5 @@ returns c one two e f =
       promised =
           judge_kept one two _ _ c.judge_lines-verdict.result 4096 (omega arith)
           (rw (c.kept-lengths.ensures, c.kept-text.ensures, ← e, ← f) at c.judge_lines-verdict.ensures);
-      numbered = c.verdict_numbers.ensures;
+      numbered = c.in_numbers.ensures;
     }

@@ -2,8 +2,8 @@
 use borrow.Author.Rules.{rules}
 use mathlib.Core.Path.{ap₂, ◌∙◌}
 use lib.ListN.{length}
+use Rattle.mask.specs.Mask.{mask_with}
 use Rattle.mask_pattern.specs.Pattern.{column}
-use Rattle.mask.specs.declared.Generated.TheVariants.{Mask}
 use Rattle.mask_pattern.proofs.Counted.{words_bytes}
 use Rattle.mask.proofs.fill_mask.Statement.{statement}
 use Rattle.mask.proofs.fill_mask.Tie as tie
@@ -12,7 +12,7 @@ returns : tie.Need-returns
 returns c =
     let a = c.args in
     let words = c.words_of-words in (
-      ap₂ Mask words.ensures.0 words.ensures.1,
+      ap₂ mask_with words.ensures.0 words.ensures.1,
       c.write_bytes.ensures ∙ words_bytes (column a.size a.fields) words.result.at (length a.mask.now) words.ensures.2,
     )
 

@@ -30,11 +30,11 @@ more : (c : tie.After-piece invariant_loop decreases_loop)
     → let a = c.args in
     let now = c.loop-k in
     let set = side a.skip a.used a.size a.counts.now a.spans.now in
-    Holds set a.p (now.k + c.lesser-step.result) (now.word + c.piece.result * 2 ^ now.k % 2 ^ 64)
+    Holds set a.p (now.k + c.min-step.result) (now.word + c.piece.result * 2 ^ now.k % 2 ^ 64)
 more c =
     let a = c.args in
     let now = c.loop-k in
-    let step = c.lesser-step.result in
+    let step = c.min-step.result in
     joined (side a.skip a.used a.size a.counts.now a.spans.now) a.p now.k (a.p + now.k) step (now.k + step) now.word c.piece.result
     (omega arith)
     (omega arith)

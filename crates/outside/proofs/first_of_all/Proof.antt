@@ -54,7 +54,7 @@ returns c =
     let f = c in
     let w = strayed f.before.before.before.before.before in
     let s = start w in
-    rw c.smaller.ensures
+    rw c.min.ensures
     (word_more (card s) w.first_on_axes-word.result f.first_astray-from.result.0 last_axis (omega arith) w.first_on_axes-word.ensures
     (leaves_on_m s.requires.0 f.first_astray-from.result.0 w.whole_blocks-whole.result w.whole_blocks-whole.ensures c.if-whole-numbers.true f.first_astray-from.ensures))
 
@@ -77,7 +77,7 @@ returns_2 : tie.Need-returns
 returns_2 c =
     let f = c in
     let w = strayed f.before.before.before.before.before.before in
-    rw c.smaller-2.ensures
+    rw c.min-2.ensures
     (word_m (card (start w)) w.first_on_axes-word.result f.first_leaving-flat.result.0 w.first_on_axes-word.ensures f.first_leaving-flat.ensures)
 
 pub first_of_all_spec : {M : Type 1} → statement M

@@ -65,7 +65,7 @@ returns : tie.Need-returns
 returns c =
     let s = c in
     let a = s.args in
-    rw c.smaller.ensures
+    rw c.min.ensures
     (first_astray (card s.before.before.before) s.requires.admits.admitted a.axis a.bound c.first_over-above.result.0 c.first_over-below.result.0
     c.first_over-above.ensures c.first_over-below.ensures)
 

@@ -44,19 +44,19 @@ some s =
     (runs_of (listed k.shard) (fitting k.shard (numbered k (checked k s.requires.0.admits.admitted).numbers).shard).extents).some
 
 -- how many a turn looks at: up to the end of the run, or to the limit
-counted : (c : tie.After-smaller-count invariant_loop decreases_loop)
+counted : (c : tie.After-min-count invariant_loop decreases_loop)
     → let s = start c.before in
     let flat = c.loop-flat.flat in
-    c.smaller-count.result ≡ min (length s - flat % length s) (s.args.limit.0 - flat)
+    c.min-count.result ≡ min (length s - flat % length s) (s.args.limit.0 - flat)
 counted c =
     let s = start c.before in
     let flat = c.loop-flat.flat in
-    c.smaller-count.ensures ∙ ap (λ (n : ℕ). min (n - flat % n) (s.args.limit.0 - flat)) (c.run_length-run.ensures s.args.strides.now)
+    c.min-count.ensures ∙ ap (λ (n : ℕ). min (n - flat % n) (s.args.limit.0 - flat)) (c.run_length-run.ensures s.args.strides.now)
 
-several : (c : tie.After-smaller-count invariant_loop decreases_loop) → 1 ≤ c.smaller-count.result
+several : (c : tie.After-min-count invariant_loop decreases_loop) → 1 ≤ c.min-count.result
 several c = let t = c in omega (arith, counted c, t.loop-flat-test.true, mod-lt t.loop-flat.flat (some (start t.before)))
 
-few : (c : tie.After-smaller-count invariant_loop decreases_loop) → c.loop-flat.flat + c.smaller-count.result ≤ (start c.before).args.limit.0
+few : (c : tie.After-min-count invariant_loop decreases_loop) → c.loop-flat.flat + c.min-count.result ≤ (start c.before).args.limit.0
 few c = omega (arith, counted c, c.loop-flat-test.true)
 
 -- m where it starts, and its step
@@ -84,19 +84,19 @@ first_of_run_requires c κs =
 -- what a turn finds, among the elements of the card
 found : (c : tie.After-first_of_run-found invariant_loop decreases_loop)
     → let t = c in
-    Sought (λ x. Leaves (card (start t.before.before.before)) (t.loop-flat.flat + x) last_axis) c.smaller-count.result c.first_of_run-found.result
+    Sought (λ x. Leaves (card (start t.before.before.before)) (t.loop-flat.flat + x) last_axis) c.min-count.result c.first_of_run-found.result
 found c =
     let t = c in
     let s = start t.before.before.before in
     run_leaves s.args.numbers.now s.args.strides.now s.requires.0.admits s.args.adds.now s.requires.0.adds_there t.loop-flat.flat
-    c.smaller-count.result c.first_of_run-found.result (some s) (omega (arith, counted c.before.before))
+    c.min-count.result c.first_of_run-found.result (some s) (omega (arith, counted c.before.before))
     (rw (base_is c.before, step_is t.before.before.before.before.before) at c.first_of_run-found.ensures)
 
 returns : tie.Need-returns-then-found-count invariant_loop decreases_loop
 returns c =
     let f = c in
     let t = f in
-    part_found t.loop-flat.flat f.smaller-count.result f.first_of_run-found.result t.loop-flat.invariant.1 (found f.before) (start t.before.before.before.before).args.limit.0
+    part_found t.loop-flat.flat f.min-count.result f.first_of_run-found.result t.loop-flat.invariant.1 (found f.before) (start t.before.before.before.before).args.limit.0
     (few f.before.before.before) c.if-found-count.true
 
 loop_again : tie.Need-loop-flat-preserved invariant_loop decreases_loop
@@ -104,7 +104,7 @@ loop_again c =
     let f = c in
     let t = f in (
       omega (arith, few f.before.before.before, (found f.before).most),
-      part_passed t.loop-flat.flat f.smaller-count.result f.first_of_run-found.result t.loop-flat.invariant.1 (found f.before),
+      part_passed t.loop-flat.flat f.min-count.result f.first_of_run-found.result t.loop-flat.invariant.1 (found f.before),
     )
 
 returns_2 : tie.Need-returns invariant_loop decreases_loop

@@ -1,9 +1,8 @@
 -- `plans_passes::put_plan` is the three passes, and those write the planner's plan.
-use mathlib.Core.Path.{◌≡◌, ap, ◌∙◌}
+use mathlib.Core.Path.{ap, ◌∙◌}
 use mathlib.Core.List.{List}
 use Prim.Native.Nat.{ℕ}
 use native.Mathlib.Omega.{arith}
-use lib.ListN.{length}
 use Rattle.plans.specs.Passes.{sourced_from, aimed_from, Fits}
 use Rattle.plans.proofs.Passes.{first_fits, second_fits, written_is_plan}
 use borrow.Author.Rules.{rules}

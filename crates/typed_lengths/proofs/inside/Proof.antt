@@ -38,7 +38,7 @@ returns_2 c =
 returns_3 : tie.Need-returns
 returns_3 c =
     let d = c in
-    rw (c.halt.ensures, c.if-b-count.false, rw d.digit-d.ensures at (sym c.goes_on.ensures ∙ c.if-goes_on.false))
+    rw (c.empty.ensures, c.if-b-count.false, rw d.digit-d.ensures at (sym c.goes_on.ensures ∙ c.if-goes_on.false))
 
 pub inside_spec : {M : Type 1} → statement M
 inside_spec =

@@ -11,7 +11,7 @@ returns c =
     record {
       admission = a.admit_packed-admission.result;
       allowed = rw (sym a.pack.ensures.same_card) ((admission_exactly _ _).1 a.admit_packed-admission.ensures);
-      numbers = rw (c.four.ensures, c.admission_numbers-told.ensures);
+      numbers = rw (c.four.ensures, c.in_numbers-told.ensures);
     }
 
 pub urszovely_admit_spec : {M : Type 1} → statement M

@@ -19,7 +19,7 @@ returns c =
       written = w.write_block-written.result;
       allowed = w.write_block-written.ensures.0 ∙ ap (λ (card : Card). write_answer card (length note) (length bytes)) k.card.ensures;
       of_bytes = w.write_block-written.ensures.1 ∙ ap (λ (card : Card). lent_after w.write_block-written.result card note bytes) k.card.ensures;
-      numbers = rw (c.four.ensures, n.answer_numbers-numbers.ensures);
+      numbers = rw (c.four.ensures, n.in_numbers-numbers.ensures);
     }
 
 pub urszovely_block_spec : {M : Type 1} → statement M

@@ -14,7 +14,7 @@ returns c =
     let w = n in
     let b = w in (
       w.card_numbers.ensures ∙ ap (λ (r : Built). card_numbers r.card) b.build-built.ensures,
-      c.four.ensures ∙ ap four (n.admission_numbers-numbers.ensures ∙ ap (λ (r : Built). admission_numbers r.answer) b.build-built.ensures),
+      c.four.ensures ∙ ap four (n.in_numbers-numbers.ensures ∙ ap (λ (r : Built). admission_numbers r.answer) b.build-built.ensures),
     )
 
 pub urszovely_canonical_card_spec : {M : Type 1} → statement M

@@ -14,7 +14,7 @@ returns c =
     record {
       checked = q.check_plan-checked.result;
       allowed = check_between _ _ _ _ plan _ _ _ _ q.check_plan-checked.result one.card-one.ensures two.card-two.ensures q.check_plan-checked.ensures;
-      numbers = rw (c.four.ensures, n.checked_numbers-numbers.ensures);
+      numbers = rw (c.four.ensures, n.in_numbers-numbers.ensures);
     }
 
 pub urszovely_carry_spec : {M : Type 1} → statement M

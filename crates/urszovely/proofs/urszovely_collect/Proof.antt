@@ -21,7 +21,7 @@ returns c =
     let j = m in
     let a = j.args in
     let told = j.judge_collecting-told.ensures in (
-      f.four.ensures ∙ ap four (m.moved_numbers-numbers.ensures ∙ ap moved_numbers told),
+      f.four.ensures ∙ ap four (m.in_numbers-numbers.ensures ∙ ap moved_numbers told),
       untouched 8 a.sorts.now a.singles.now a.doubles.now _ _ _ (sym told ∙ c.in_default.is),
     )
 
@@ -34,10 +34,10 @@ returns_2 c =
     let a = j.args in
     let lanes : List (List Bits) = rows_from 32 a.lane_sorts.now a.lane_singles.now a.lane_doubles.now in
     let told = j.judge_collecting-told.ensures in (
-      f.four.ensures ∙ ap four (m.moved_numbers-numbers.ensures ∙ ap moved_numbers told),
+      f.four.ensures ∙ ap four (m.in_numbers-numbers.ensures ∙ ap moved_numbers told),
       stored 8 a.sorts.now a.singles.now a.doubles.now (omega (arith, c.collect-arg-4-1.given)) (omega (arith, c.collect-arg-5-1.given)) (omega (arith, c.collect-arg-6-1.given)) _ (collected Empty a.kind a.computation lanes (empties 8)) _ refl
           (collected_into_empties a.kind a.computation a.sorts.now a.singles.now a.doubles.now (collect_answer a.kind a.computation (registers_held lanes)) lanes
-          (sym told ∙ e.in-Done.is)) _ _ _ c.collect.ensures,
+          (sym told ∙ e.in-Ok.is)) _ _ _ c.collect.ensures,
     )
 
 pub urszovely_collect_spec : {M : Type 1} → statement M

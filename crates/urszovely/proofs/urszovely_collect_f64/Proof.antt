@@ -1,11 +1,12 @@
 -- `urszovely::urszovely_collect_f64` answers what the library's question answers, over the values that the arrays hold; refused it stores nothing.
+use Rattle.std.specs.Prelude.{Ok}
 use mathlib.Core.Path.{◌≡◌, refl, sym, ap, ◌∙◌}
 use mathlib.Core.List.{List}
 use native.Mathlib.Omega.{arith}
 use borrow.Author.Rules.{rules}
+use Rattle.answers.specs.Refusals.{no_refusal}
 use Rattle.c_bits.specs.declared.Bits.{Bits}
 use Rattle.c_bits.specs.declared.Bits.TheVariants.{Empty}
-use Rattle.values.specs.declared.Moved.TheVariants.{Done}
 use Rattle.values.specs.Values.{collected}
 use Rattle.values.specs.Registers.{moved_numbers}
 use Rattle.values.specs.Holdings.{collect_holdings_answer}
@@ -23,7 +24,7 @@ returns c =
     let j = m in
     let a = j.args in
     let told = j.judge_collecting-told.ensures in (
-      f.four.ensures ∙ ap four (m.moved_numbers-numbers.ensures ∙ ap moved_numbers told),
+      f.four.ensures ∙ ap four (m.in_numbers-numbers.ensures ∙ ap moved_numbers told),
       untouched 8 a.sorts.now a.singles.now a.doubles.now _ _ _ (sym told ∙ c.in_default.is),
     )
 
@@ -35,8 +36,8 @@ returns_2 c =
     let j = m in
     let a = j.args in
     let lanes : List (List Bits) = lanes_from a.kind a.holdings.now in
-    let done : collect_holdings_answer a.kind a.computation ≡ Done = sym j.judge_collecting-told.ensures ∙ e.in-Done.is in (
-      f.four.ensures ∙ ap four (m.moved_numbers-numbers.ensures ∙ ap moved_numbers j.judge_collecting-told.ensures),
+    let done : collect_holdings_answer a.kind a.computation ≡ no_refusal = sym j.judge_collecting-told.ensures ∙ e.in-Ok.is in (
+      f.four.ensures ∙ ap four (m.in_numbers-numbers.ensures ∙ ap moved_numbers j.judge_collecting-told.ensures),
       stored 8 a.sorts.now a.singles.now a.doubles.now (omega (arith, c.collect_holdings-arg-2-1.given)) (omega (arith, c.collect_holdings-arg-3-1.given)) (omega (arith, c.collect_holdings-arg-4-1.given)) _ (collected Empty a.kind a.computation lanes (empties 8)) _ refl
           (collected_into_empties a.kind a.computation a.sorts.now a.singles.now a.doubles.now (collect_holdings_answer a.kind a.computation) lanes done)
           _ _ _ c.collect_holdings.ensures,

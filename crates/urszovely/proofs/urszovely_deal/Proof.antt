@@ -22,7 +22,7 @@ returns c =
     let j = m in
     let a = j.args in
     let told = j.judge_dealing-told.ensures in (
-      f.four.ensures ∙ ap four (m.moved_numbers-numbers.ensures ∙ ap moved_numbers told),
+      f.four.ensures ∙ ap four (m.in_numbers-numbers.ensures ∙ ap moved_numbers told),
       untouched 32 a.sorts.now a.singles.now a.doubles.now _ _ _ (sym told ∙ c.in_default.is),
     )
 
@@ -32,7 +32,7 @@ deal_requires c κs =
     let j = e in
     let a = j.args in
     let tile : List (List Bits) = rows_from 8 a.tile_sorts.now a.tile_singles.now a.tile_doubles.now in
-    (dealt_kind a.kind a.computation (registers_held tile) (sym j.judge_dealing-told.ensures ∙ e.in-Done.is), (search rules, search rules))
+    (dealt_kind a.kind a.computation (registers_held tile) (sym j.judge_dealing-told.ensures ∙ e.in-Ok.is), (search rules, search rules))
 
 returns_2 : tie.Need-returns
 returns_2 c =
@@ -43,9 +43,9 @@ returns_2 c =
     let a = j.args in
     let tile : List (List Bits) = rows_from 8 a.tile_sorts.now a.tile_singles.now a.tile_doubles.now in
     let told = j.judge_dealing-told.ensures in (
-      f.four.ensures ∙ ap four (m.moved_numbers-numbers.ensures ∙ ap moved_numbers told),
+      f.four.ensures ∙ ap four (m.in_numbers-numbers.ensures ∙ ap moved_numbers told),
       stored 32 a.sorts.now a.singles.now a.doubles.now (omega (arith, c.deal-arg-4-1.given)) (omega (arith, c.deal-arg-5-1.given)) (omega (arith, c.deal-arg-6-1.given)) _ (dealt Empty a.kind a.computation tile (empties 32)) _ refl
-          (dealt_to_empties a.kind a.computation a.sorts.now a.singles.now a.doubles.now tile (sym told ∙ e.in-Done.is)) _ _ _ c.deal.ensures,
+          (dealt_to_empties a.kind a.computation a.sorts.now a.singles.now a.doubles.now tile (sym told ∙ e.in-Ok.is)) _ _ _ c.deal.ensures,
     )
 
 pub urszovely_deal_spec : {M : Type 1} → statement M

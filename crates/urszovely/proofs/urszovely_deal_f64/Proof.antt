@@ -17,7 +17,7 @@ returns c =
     let m = f in
     let j = m in
     let told = j.judge_dealing_holdings-told.ensures in (
-      f.four.ensures ∙ ap four (m.moved_numbers-numbers.ensures ∙ ap moved_numbers told),
+      f.four.ensures ∙ ap four (m.in_numbers-numbers.ensures ∙ ap moved_numbers told),
       rw (sym told ∙ c.in_default.is),
     )
 
@@ -28,7 +28,7 @@ deal_requires c κs =
     let l = j in
     let a = l.args in
     let tile : List (List Bits) = rows_from 8 a.tile_sorts.now a.tile_singles.now a.tile_doubles.now in (
-      (dealt_holdings_kind a.kind a.computation (registers_held tile) (sym j.judge_dealing_holdings-told.ensures ∙ e.in-Done.is), omega (arith, l.fields-1.given)),
+      (dealt_holdings_kind a.kind a.computation (registers_held tile) (sym j.judge_dealing_holdings-told.ensures ∙ e.in-Ok.is), omega (arith, l.fields-1.given)),
       search rules,
     )
 
@@ -39,8 +39,8 @@ returns_2 c =
     let m = f in
     let j = m in
     let told = j.judge_dealing_holdings-told.ensures in (
-      f.four.ensures ∙ ap four (m.moved_numbers-numbers.ensures ∙ ap moved_numbers told),
-      rw (sym told ∙ e.in-Done.is) c.deal_holdings.ensures,
+      f.four.ensures ∙ ap four (m.in_numbers-numbers.ensures ∙ ap moved_numbers told),
+      rw (sym told ∙ e.in-Ok.is) c.deal_holdings.ensures,
     )
 
 pub urszovely_deal_f64_spec : {M : Type 1} → statement M

@@ -4,7 +4,7 @@ use Rattle.urszovely.proofs.urszovely_descriptor.Statement.{statement}
 use Rattle.urszovely.proofs.urszovely_descriptor.Tie as tie
 
 returns : tie.Need-returns
-returns c = rw (c.four.ensures, c.write_numbers-numbers.ensures, c.write_descriptor-written.ensures, c.fields.ensures)
+returns c = rw (c.four.ensures, c.in_numbers-numbers.ensures, c.write_descriptor-written.ensures, c.fields.ensures)
 
 pub urszovely_descriptor_spec : {M : Type 1} → statement M
 urszovely_descriptor_spec = tie.close (tie.spec (λ c κs. search rules) (λ c κs. search rules) (λ c κs. search rules) (λ c κs. search rules) returns)

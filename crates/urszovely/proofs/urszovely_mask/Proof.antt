@@ -8,7 +8,7 @@ returns : tie.Need-returns
 returns c =
     let n = c in
     let g = n in
-    (rw (c.four.ensures, n.mask_numbers-numbers.ensures, g.generate_mask-generated.ensures.0), rw (sym g.generate_mask-generated.ensures.0) g.generate_mask-generated.ensures.1)
+    (rw (c.four.ensures, n.in_numbers-numbers.ensures, g.generate_mask-generated.ensures.0), rw (sym g.generate_mask-generated.ensures.0) g.generate_mask-generated.ensures.1)
 
 pub urszovely_mask_spec : {M : Type 1} → statement M
 urszovely_mask_spec = tie.close (tie.spec (λ c κs. search rules) (λ c κs. search rules) (λ c κs. search rules) (λ c. search rules) returns)

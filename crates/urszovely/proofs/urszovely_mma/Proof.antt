@@ -4,7 +4,7 @@ use Rattle.urszovely.proofs.urszovely_mma.Statement.{statement}
 use Rattle.urszovely.proofs.urszovely_mma.Tie as tie
 
 returns : tie.Need-returns
-returns c = rw (c.four.ensures, c.held_numbers-numbers.ensures, c.held_by-held.ensures)
+returns c = rw (c.four.ensures, c.in_numbers-numbers.ensures, c.held_by-held.ensures)
 
 pub urszovely_mma_spec : {M : Type 1} → statement M
 urszovely_mma_spec = tie.close (tie.spec (λ c κs. search rules) (λ c κs. search rules) (λ c κs. search rules) returns)

@@ -14,7 +14,7 @@ returns c =
     let w = n in
     let b = w in (
       w.card_numbers.ensures ∙ ap (λ (r : MmaLayout). card_numbers r.card) b.layout_of-layout.ensures,
-      c.four.ensures ∙ ap four (n.admission_numbers-numbers.ensures ∙ ap (λ (r : MmaLayout). admission_numbers r.answer) b.layout_of-layout.ensures),
+      c.four.ensures ∙ ap four (n.in_numbers-numbers.ensures ∙ ap (λ (r : MmaLayout). admission_numbers r.answer) b.layout_of-layout.ensures),
     )
 
 pub urszovely_mma_layout_spec : {M : Type 1} → statement M

@@ -4,7 +4,7 @@ use Rattle.urszovely.proofs.urszovely_mode.Statement.{statement}
 use Rattle.urszovely.proofs.urszovely_mode.Tie as tie
 
 returns : tie.Need-returns
-returns c = rw (c.four.ensures, c.mode_numbers-numbers.ensures, c.swizzle_of_mode-chosen.ensures)
+returns c = rw (c.four.ensures, c.in_numbers-numbers.ensures, c.swizzle_of_mode-chosen.ensures)
 
 pub urszovely_mode_spec : {M : Type 1} → statement M
 urszovely_mode_spec = tie.close (tie.spec (λ c κs. search rules) (λ c κs. search rules) (λ c κs. search rules) returns)

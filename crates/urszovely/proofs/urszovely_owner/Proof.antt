@@ -12,7 +12,7 @@ returns c =
     record {
       owner = j.owner_of-owner.result;
       allowed = owner_between _ _ _ _ _ j.owner_of-owner.result k.card.ensures j.owner_of-owner.ensures;
-      numbers = rw (c.four.ensures, n.owner_numbers-numbers.ensures);
+      numbers = rw (c.four.ensures, n.in_numbers-numbers.ensures);
     }
 
 pub urszovely_owner_spec : {M : Type 1} → statement M

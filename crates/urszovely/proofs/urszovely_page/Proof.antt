@@ -27,7 +27,7 @@ returns c =
       of_card = w.card_numbers.ensures ∙ ap (λ (q : Page). card_numbers q.card) r.read_block-page.ensures;
       of_marks = ap (λ (k : ℕ). k ∷ []) (b.mark_bits.ensures ∙ ap (λ (q : Page). mark_bits q.card.marks) r.read_block-page.ensures);
       of_note = p.note_place.ensures ∙ ap (λ (q : Page). note_place q.answer block) r.read_block-page.ensures;
-      numbers = c.four.ensures ∙ ap four (n.answer_numbers-numbers.ensures ∙ ap (λ (q : Page). answer_numbers q.answer) r.read_block-page.ensures);
+      numbers = c.four.ensures ∙ ap four (n.in_numbers-numbers.ensures ∙ ap (λ (q : Page). answer_numbers q.answer) r.read_block-page.ensures);
     }
 
 pub urszovely_page_spec : {M : Type 1} → statement M

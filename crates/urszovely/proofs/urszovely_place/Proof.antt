@@ -16,7 +16,7 @@ returns c =
       allowed =
           placed_between _ _ _ _ _ _ _ _ p.place_packed-placement.result k.pack.ensures.same_card one.tuple.ensures two.tuple-2.ensures
           p.place_packed-placement.ensures;
-      numbers = rw (c.four.ensures, n.placement_numbers-told.ensures);
+      numbers = rw (c.four.ensures, n.in_numbers-told.ensures);
     }
 
 pub urszovely_place_spec : {M : Type 1} → statement M

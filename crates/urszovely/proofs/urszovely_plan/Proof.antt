@@ -13,7 +13,7 @@ returns c =
     record {
       written = q.write_plan-written.result;
       allowed = rw (sym one.card-one.ensures, sym two.card-two.ensures) q.write_plan-written.ensures;
-      numbers = rw (c.four.ensures, n.planning_numbers-numbers.ensures);
+      numbers = rw (c.four.ensures, n.in_numbers-numbers.ensures);
     }
 
 pub urszovely_plan_spec : {M : Type 1} → statement M

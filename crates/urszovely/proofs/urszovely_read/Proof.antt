@@ -15,7 +15,7 @@ returns c =
       allowed = r.read-reading.ensures;
       of_card = w.put_layout.ensures;
       of_marks = rw b.mark_bits.ensures;
-      numbers = rw (c.four.ensures, n.read_numbers-numbers.ensures);
+      numbers = rw (c.four.ensures, n.in_numbers-numbers.ensures);
     }
 
 pub urszovely_read_spec : {M : Type 1} → statement M

@@ -4,7 +4,7 @@ use Rattle.urszovely.proofs.urszovely_stretch.Statement.{statement}
 use Rattle.urszovely.proofs.urszovely_stretch.Tie as tie
 
 returns : tie.Need-returns
-returns c = rw (c.four.ensures, c.stretch_numbers-numbers.ensures, c.locate_stretch-located.ensures)
+returns c = rw (c.four.ensures, c.in_numbers-numbers.ensures, c.locate_stretch-located.ensures)
 
 pub urszovely_stretch_spec : {M : Type 1} → statement M
 urszovely_stretch_spec = tie.close (tie.spec (λ c κs. search rules) (λ c κs. search rules) (λ c κs. search rules) returns)

@@ -4,7 +4,7 @@ use Rattle.urszovely.proofs.urszovely_swizzle.Statement.{statement}
 use Rattle.urszovely.proofs.urszovely_swizzle.Tie as tie
 
 returns : tie.Need-returns
-returns c = rw (c.four.ensures, c.swizzle_numbers-numbers.ensures, c.swizzle_address-swizzled.ensures)
+returns c = rw (c.four.ensures, c.in_numbers-numbers.ensures, c.swizzle_address-swizzled.ensures)
 
 pub urszovely_swizzle_spec : {M : Type 1} → statement M
 urszovely_swizzle_spec = tie.close (tie.spec (λ c κs. search rules) (λ c κs. search rules) (λ c κs. search rules) returns)

@@ -13,7 +13,7 @@ returns c =
     record {
       verdict = j.judge_packed-verdict.result;
       allowed = rw (sym k.pack.ensures.same_card) ((verdict_exactly _ _ _ _).1 j.judge_packed-verdict.ensures);
-      numbers = rw (c.four.ensures, n.verdict_numbers-told.ensures);
+      numbers = rw (c.four.ensures, n.in_numbers-told.ensures);
     }
 
 pub urszovely_verdict_spec : {M : Type 1} → statement M

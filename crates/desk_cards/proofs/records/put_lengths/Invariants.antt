@@ -1,6 +1,0 @@
--- `desk_cards::records::put_lengths` is safe and ends: the lengths left fall by one a turn.
-use Rattle.std.proofs.Common.{◌-◌}
-use Rattle.desk_cards.proofs.records.put_lengths.Given as goal
-
-abbrev pub decreases-loop-k : goal.decreases-loop-k
-decreases-loop-k l = 8 - l.k

@@ -1,6 +1,0 @@
--- `desk_lines_reply::reply::bytes` is safe and ends: the bytes left fall by one a turn.
-use Rattle.std.proofs.Common.{◌-◌}
-use Rattle.desk_lines_reply.proofs.reply.bytes.Given as goal
-
-abbrev pub decreases-loop-i : goal.decreases-loop-i
-decreases-loop-i l = 64 - l.i
