@@ -74,7 +74,7 @@ fn put(register: Bits, sorts: &mut [u8], singles: &mut [u32], doubles: &mut [u64
     }
 }
 
-// Entries written, each with the register that is told for it.
+// Entries written, each with the register that is told for it. Public, with a requires, for the crate above, which writes holdings by it.
 pub fn write<F: Fn(usize) -> Bits>(
     sorts: &mut [u8],
     singles: &mut [u32],
