@@ -5,11 +5,29 @@ use Prim.Native.Nat.{ℕ, ◌+◌, ◌*◌, ◌≤◌, ◌<◌}
 use native.Mathlib.Decide.{ℕ_discrete}
 use native.Mathlib.Nat.{not-suc-le-zero}
 use native.Mathlib.Omega.{arith}
-use lib.ListN.{length, get_or}
+use lib.ListN.{length, get_or, set, length-set}
+use lib.Seq.{get_or-set_same, get_or-set_other}
 use Rattle.laws.proofs.Columns.{Filled}
 use Rattle.card.specs.Lists.{slots}
 use Rattle.card.proofs.ReadBack.{eight_at}
 use Rattle.c_packed.specs.Clauses.{Put}
+
+-- one column, entry by entry
+module _ {A : Type 0} (other : A) (column : ℕ) (value : ℕ → A) where
+  pub put_none : (l : List A) → Put other column 0 value l l
+  put_none l = record { whole = refl; there = λ j h. absurd (not-suc-le-zero h); others = λ c j h apart. refl }
+
+  pub put_more : (k : ℕ) {before l : List A} → k < 8 → 8 * column + k < length l → Put other column k value before l
+      → Put other column (k + 1) value before (set l (8 * column + k) (value k))
+  put_more k {before} {l} small room p = record {
+    whole = length-set l (8 * column + k) (value k) ∙ p.whole;
+    there = λ j h.
+        elim (ℕ_discrete j k) [
+          | yes same ↦ rw same (get_or-set_same l (8 * column + k) (value k) other room)
+          | no apart ↦ get_or-set_other l (8 * column + k) (8 * column + j) (value k) other (λ e. apart (omega arith)) ∙ p.there j (omega arith)
+        ];
+    others = λ c j h apart. get_or-set_other l (8 * column + k) (8 * c + j) (value k) other (λ e. apart (omega arith)) ∙ p.others c j h apart;
+  }
 
 -- n columns, of which those before one were put
 module _ {A : Type 0} (other : A) (value : ℕ → ℕ → A) (n : ℕ) (first : List A) where

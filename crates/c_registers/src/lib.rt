@@ -11,7 +11,7 @@ ghost use Rattle.c_bits.specs.Bits.{register_at, rows_from, empties, sort_after,
 use c_bits::Bits;
 
 // The register that an entry of three arrays is.
-fn register_at(sorts: &[u8], singles: &[u32], doubles: &[u64], j: usize) -> Bits
+pub fn register_at(sorts: &[u8], singles: &[u32], doubles: &[u64], j: usize) -> Bits
     requires { (j < length sorts.now) × (j < length singles.now) × (j < length doubles.now) }
     ensures { result ≡ register_at sorts.now singles.now doubles.now j }
 {
@@ -55,7 +55,7 @@ pub fn dealt_at(
 }
 
 // A register written to an entry of three arrays: its sort and what that names, and nothing where it is empty.
-fn put(register: Bits, sorts: &mut [u8], singles: &mut [u32], doubles: &mut [u64], j: usize)
+pub fn put(register: Bits, sorts: &mut [u8], singles: &mut [u32], doubles: &mut [u64], j: usize)
     requires { (j < length sorts.old) × (j < length singles.old) × (j < length doubles.old) }
     ensures sorts_after { sorts.new ≡ set sorts.old j (sort_after register (get_or sorts.old j 0)) }
     ensures singles_after { singles.new ≡ set singles.old j (single_after register (get_or singles.old j 0)) }

@@ -61,6 +61,10 @@ pub fn judge_by<F: Fn(usize, usize) -> bool>(
 pub fn judge_dealing(kind: u64, computation: u64, tile: [[Register; 8]; 8]) -> Result<(), Refusal>
     ensures { result ≡ deal_answer kind computation tile }
 {
+    // asked before anything is dealt, so that a refusal costs no dealing
+    if !is_matrix(kind, computation) {
+        return Err(fragment::outside());
+    }
     let none = [[Register::Empty; 8]; 32];
     let lanes = dealing_moves::dealt_lanes(kind, computation, tile, none);
     judge_collecting(kind, computation, lanes)

@@ -98,8 +98,9 @@ pub fn page(digits: &[u8]) -> LineReply {
     if 1024 < length {
         return reply::unknown();
     }
-    match pairs::bytes(digits) {
-        Some(block) => read_page(&block[0..length]),
-        None => reply::unknown(),
+    if !pairs::are_pairs(digits) {
+        return reply::unknown();
     }
+    let block = pairs::bytes(digits);
+    read_page(&block[0..length])
 }

@@ -12,21 +12,26 @@ fn value_of(b: u8) -> Option<u8>
     }
 }
 
-// The byte that a pair is.
-fn pair(high: u8, low: u8) -> Option<u8> {
-    Some(value_of(high)? * 16 + value_of(low)?)
+// Whether a text is pairs of digits.
+pub fn are_pairs(text: &[u8]) -> bool {
+    for b in text {
+        if value_of(*b).is_none() {
+            return false;
+        }
+    }
+    text.len() % 2 == 0
+}
+
+// The byte that a pair is; what is no digit counts as 0.
+fn pair(high: u8, low: u8) -> u8 {
+    value_of(high).unwrap_or(0) * 16 + value_of(low).unwrap_or(0)
 }
 
 // The bytes that a text of pairs is, at most as many as a line may have; those past the pairs are zero.
-pub fn bytes(text: &[u8]) -> Option<[u8; 1024]> {
-    if text.len() % 2 != 0 {
-        return None;
-    }
+pub fn bytes(text: &[u8]) -> [u8; 1024] {
     let mut all = [0u8; 1024];
-    for i in 0..1024 {
-        if 2 * i + 1 < text.len() {
-            all[i] = pair(text[2 * i], text[2 * i + 1])?;
-        }
+    for i in 0..(text.len() / 2).min(1024) {
+        all[i] = pair(text[2 * i], text[2 * i + 1]);
     }
-    Some(all)
+    all
 }

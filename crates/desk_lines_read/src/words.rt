@@ -136,16 +136,18 @@ fn asked_with_marks(word: Word, line: &[u8], from: usize, numbers: &mut Kept) ->
     asked(word, line, reached.end, numbers)
 }
 
-// The most bytes of a text, and the most digits of a block.
+// How long a word is that a text follows, with its space; the most bytes of a text, and the most digits of a block.
+pub const SPACED: usize = 5;
+
 const MOST_TEXT: usize = 1024;
 
 const MOST_DIGITS: usize = 2048;
 
 // What follows a word and one space, if a line begins with these and it is at most so many bytes.
-fn text_after<'a>(line: &'a [u8], word: &[u8], most: usize) -> Option<&'a [u8]>
+fn text_after<'a>(line: &'a [u8], word: &[u8; SPACED], most: usize) -> Option<&'a [u8]>
     ensures { IfSome result (λ text. length text.now ≤ most) }
 {
-    let text = line.strip_prefix(word)?;
+    let text = line.strip_prefix(&word[..])?;
     if most < text.len() {
         return None;
     }

@@ -1,2 +1,3 @@
 pub mod Elements
 pub mod Placings
+pub mod Rows
