@@ -25,12 +25,13 @@ pub fn register_at(sorts: &[u8], singles: &[u32], doubles: &[u64], j: usize) -> 
     Bits::Empty
 }
 
-// The register that stands where a number says: empty where that is past the entries.
-fn register_from(sorts: &[u8], singles: &[u32], doubles: &[u64], s: usize) -> Bits
-    requires { (length singles.now ≡ length sorts.now) × (length doubles.now ≡ length sorts.now) }
+// The register that stands where a number says, of so many entries: empty where it is past them. How many there are is a constant, so that the
+// compiler makes one test of this one and of what finds the number.
+fn register_from<const N: usize>(sorts: &[u8], singles: &[u32], doubles: &[u64], s: usize) -> Bits
+    requires { (length sorts.now ≡ N) × (length singles.now ≡ length sorts.now) × (length doubles.now ≡ length sorts.now) }
     ensures { (rows : ℕ) → length sorts.now ≡ 8 * rows → result ≡ from_rows Bits.Empty rows (rows_from rows sorts.now singles.now doubles.now) Bits.Empty s }
 {
-    if s < sorts.len() {
+    if s < N {
         register_at(sorts, singles, doubles, s)
     } else {
         Bits::Empty
@@ -51,7 +52,7 @@ pub fn dealt_at(
     ensures { result ≡ entry Bits.Empty (dealt Bits.Empty kind computation (rows_from 8 sorts.now singles.now doubles.now) (empties 32)) (n / 8) (n % 8) }
 {
     let p = dealing_moves::matrix_source(kind, computation, n as u64 / 8, n as u64 % 8) as usize;
-    register_from(sorts, singles, doubles, p)
+    register_from::<64>(sorts, singles, doubles, p)
 }
 
 // A register written to an entry of three arrays: its sort and what that names, and nothing where it is empty.
@@ -127,7 +128,7 @@ fn collected_at(
     ensures { result ≡ entry Bits.Empty (collected Bits.Empty kind computation (rows_from 32 sorts.now singles.now doubles.now) (empties 8)) (j / 8) (j % 8) }
 {
     let s = dealing_moves::holder(kind, computation, j as u64 / 8, j as u64 % 8) as usize;
-    register_from(sorts, singles, doubles, s)
+    register_from::<256>(sorts, singles, doubles, s)
 }
 
 // An empty tile collected from the lanes, and it written.
